@@ -14,9 +14,13 @@ impl Dci {
 
 // The xHCI default speed ids (xHCI 1.2, 7.2.2.1.1).
 pub const FULL: u8 = 1;
+
 pub const LOW: u8 = 2;
+
 pub const HIGH: u8 = 3;
+
 pub const SUPER: u8 = 4;
+
 pub const SUPER_PLUS: u8 = 5;
 
 pub fn speed_known(speed: u8) -> bool

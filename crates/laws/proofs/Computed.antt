@@ -1,6 +1,6 @@
 -- A rule that holds at each number below a bound, from a test that antt computes.
 use Prim.Native.Nat.{ℕ, zero, suc, _<_}
-use mathlib.Core.Path.{_≡_, refl}
+use mathlib.Core.Path.{_≡_}
 use mathlib.Core.Bool.{Bool, true, _&&_}
 use native.Mathlib.Omega.{arith}
 use native.Mathlib.Decide.{decLt}

@@ -1,7 +1,7 @@
 -- What a conjunction or a disjunction of tests tells.
 use Prim.Native.Nat.{ℕ}
-use mathlib.Core.Path.{_≡_, refl, sym}
-use mathlib.Core.Bool.{Bool, true, false, _&&_, _||_}
+use mathlib.Core.Path.{_≡_, refl}
+use mathlib.Core.Bool.{Bool, true, false, _&&_}
 use native.Mathlib.Omega.{arith}
 
 pub and-left : (a b : Bool) → (a && b) ≡ true → a ≡ true

@@ -1,18 +1,12 @@
-use mathlib.Core.Path.{refl, sym}
-use borrow.Author.Tests.{eq-eqb, ne-eqb, lt-leb, le-leb}
-use native.Mathlib.Omega.{arith}
+use borrow.Author.Tests.{eq-eqb, ne-eqb}
 use Rattle.def.specs.Speed.{headerPacketSize}
 use Rattle.def.proofs.header_packet_size.Statement.{statement}
 use Rattle.def.proofs.header_packet_size.Tie as tie
-use Rattle.def.proofs.header_packet_size.Reads as reads
-use Rattle.def.proofs.header_packet_size.Lts as lts
 
--- src/lib.rt:49:9
 returns : tie.Need-returns
 unfolding headerPacketSize
 returns c = rw (eq-eqb (c .before .args .byte) 0 (c .if1 .taken))
 
--- src/lib.rt:45:1
 returns-2 : tie.Need-returns-2
 unfolding headerPacketSize
 returns-2 c = rw (ne-eqb (c .before .args .byte) 0 (c .if1 .left))

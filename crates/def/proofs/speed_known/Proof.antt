@@ -1,18 +1,13 @@
-use mathlib.Core.Path.{refl, sym}
 use borrow.Author.Tests.{lt-leb, le-leb}
 use native.Mathlib.Omega.{arith}
 use Rattle.def.specs.Speed.{speedKnown}
 use Rattle.def.proofs.speed_known.Statement.{statement}
 use Rattle.def.proofs.speed_known.Tie as tie
-use Rattle.def.proofs.speed_known.Reads as reads
-use Rattle.def.proofs.speed_known.Lts as lts
 
--- src/lib.rt:26:9
 returns : tie.Need-returns
 unfolding speedKnown
 returns c = rw (lt-leb 1 (c .before .args .speed) (omega arith))
 
--- src/lib.rt:22:1
 returns-2 : tie.Need-returns-2
 unfolding speedKnown
 returns-2 c = rw (le-leb 1 (c .before .args .speed) (omega arith))
