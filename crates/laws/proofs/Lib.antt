@@ -1,2 +1,4 @@
+pub mod Cases
 pub mod Computed
+pub mod Distinct
 pub mod Tests

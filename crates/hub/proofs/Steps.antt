@@ -1,0 +1,89 @@
+-- What each exit of a walk says of its definition, and the table of nibble weights.
+use Prim.Native.Nat.{ℕ, zero, suc, _+_, _*_, _-_, _<_, _≤_, _^_}
+use mathlib.Core.Path.{_≡_, refl, sym, _∙_}
+use mathlib.Core.Bool.{Bool, true, false, not, cond, _&&_, and-true}
+use mathlib.Core.List.{List, [], _∷_}
+use native.Mathlib.Omega.{arith}
+use native.Mathlib.Nat.{mul-le-mul, pow-le-pow-right}
+use borrow.Author.Tests.{lt-ltb, le-ltb, eqb-true, eq-eqb, ne-eqb, not-true, not-false}
+use lib.Dec.{eqb, ltb, eqb·suc-zero}
+use lib.ListN.{length, getD}
+use Rattle.laws.proofs.Computed.{all-below}
+use Rattle.def.specs.Speed.{HIGH}
+use Rattle.hub.specs.declared.hub_word.HubInfo.{HubInfo}
+use Rattle.hub.specs.declared.translator.Translator.{Translator}
+use Rattle.hub.specs.HubWord.{hubAt}
+use Rattle.hub.specs.Chain.{hubFits, chainFrom}
+use Rattle.hub.specs.Route.{ports, clamp, routeOf}
+use Rattle.hub.specs.Translator.{nearestHigh}
+use Rattle.hub.proofs.Laws.{length-ports}
+
+less-one : (d : ℕ) → suc d - 1 ≡ d
+less-one d = omega arith
+
+chain-step : (hubs : List ℕ) (at d : ℕ) → chainFrom hubs at d ≡
+    ((ltb at (length hubs) && hubFits (hubAt hubs at) d)
+    && cond (eqb d 0) true ((hubAt hubs at) .«has_parent» && chainFrom hubs ((hubAt hubs at) .parent) (d - 1)))
+unfolding chainFrom
+chain-step hubs at zero = sym (and-true _)
+chain-step hubs at (suc d) = rw (eqb·suc-zero d, less-one d)
+
+pub chain-out : (hubs : List ℕ) (at d : ℕ) → length hubs ≤ at → false ≡ chainFrom hubs at d
+chain-out hubs at d l = rw (chain-step hubs at d, le-ltb at (length hubs) l)
+
+module _ (hubs : List ℕ) (at d : ℕ) (h : HubInfo) (fits : Bool) (l : at < length hubs) (is : h ≡ hubAt hubs at) (e : fits ≡ hubFits h d) where
+  chain-in : chainFrom hubs at d ≡ (fits && cond (eqb d 0) true (h .«has_parent» && chainFrom hubs (h .parent) (d - 1)))
+  chain-in = chain-step hubs at d ∙ rw (lt-ltb at (length hubs) l, ← is, ← e)
+
+  pub chain-unfit : not fits ≡ true → false ≡ chainFrom hubs at d
+  chain-unfit n = rw (chain-in, not-true fits n)
+
+  pub chain-root : not fits ≡ false → d ≡ 0 → true ≡ chainFrom hubs at d
+  chain-root y z = rw (chain-in, not-false fits y, eq-eqb d 0 z)
+
+  pub chain-alone : not fits ≡ false → (d ≡ 0 → ⊥) → not (h .«has_parent») ≡ true → false ≡ chainFrom hubs at d
+  chain-alone y z n = rw (chain-in, not-false fits y, ne-eqb d 0 z, not-true (h .«has_parent») n)
+
+  pub chain-up : (r : Bool) → not fits ≡ false → (d ≡ 0 → ⊥) → not (h .«has_parent») ≡ false
+      → r ≡ chainFrom hubs (h .parent) (d - 1) → r ≡ chainFrom hubs at d
+  chain-up r y z p u = u ∙ rw (chain-in, not-false fits y, ne-eqb d 0 z, not-false (h .«has_parent») p)
+
+pub route-up : (hubs : List ℕ) (at port d : ℕ) (h : HubInfo) (n r : ℕ) → (d ≡ 0 → ⊥) → h ≡ hubAt hubs at
+    → n ≡ clamp port * 16 ^ (d - 1) → r ≡ routeOf (ports hubs (h .parent) (h .«port_id») (d - 1))
+    → n + r ≡ routeOf (ports hubs at port d)
+unfolding ports routeOf
+route-up hubs at port zero h n r z is e u = absurd (z refl)
+route-up hubs at port (suc d) h n r z is e u =
+    rw (e, u, is, less-one d, length-ports hubs ((hubAt hubs at) .parent) ((hubAt hubs at) .«port_id») d)
+
+high-step : (hubs : List ℕ) (at port d : ℕ) → (d ≡ 0 → ⊥) → nearestHigh hubs at port d ≡
+    cond (eqb ((hubAt hubs at) .speed) HIGH)
+    (record { «slot_id» = (hubAt hubs at) .«slot_id»; multi = (hubAt hubs at) .multi; port = port })
+    (nearestHigh hubs ((hubAt hubs at) .parent) ((hubAt hubs at) .«port_id») (d - 1))
+unfolding nearestHigh
+high-step hubs at port zero z = absurd (z refl)
+high-step hubs at port (suc d) z = rw (less-one d)
+
+module _ (hubs : List ℕ) (at port d : ℕ) (h : HubInfo) (z : d ≡ 0 → ⊥) (is : h ≡ hubAt hubs at) where
+  pub high-here : h .speed ≡ HIGH
+      → record { «slot_id» = h .«slot_id»; multi = h .multi; port = port } ≡ nearestHigh hubs at port d
+  high-here e = rw (high-step hubs at port d z, ← is, eq-eqb (h .speed) HIGH e)
+
+  pub high-up : (t : Translator) → (h .speed ≡ HIGH → ⊥)
+      → t ≡ nearestHigh hubs (h .parent) (h .«port_id») (d - 1) → t ≡ nearestHigh hubs at port d
+  high-up t n u = u ∙ rw (high-step hubs at port d z, ← is, ne-eqb (h .speed) HIGH n)
+
+abbrev weights : List ℕ
+weights = 0x1 ∷ 0x10 ∷ 0x100 ∷ 0x1000 ∷ 0x1_0000 ∷ 0x10_0000 ∷ 0x100_0000 ∷ []
+
+abbrev right : ℕ → Bool
+right d = eqb (getD weights d 0) (16 ^ d)
+
+pub weight-right : (d : ℕ) → d < 7 → getD weights d 0 ≡ 16 ^ d
+weight-right d h = eqb-true (getD weights d 0) (16 ^ d) (all-below right 7 refl d h)
+
+-- A nibble at any of its places fits 28 bits.
+pub scaled-below : (d n : ℕ) → d < 7 → n ≤ 15 → n * getD weights d 0 < 0x1000_0000
+scaled-below d n h l =
+    let w : 16 ^ d ≤ 16 ^ 6 = pow-le-pow-right {n = 16} (omega arith) {i = d} {j = 6} (omega arith) in
+    rw (weight-right d h) (omega (arith, mul-le-mul l w))

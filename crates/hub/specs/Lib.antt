@@ -1,0 +1,6 @@
+pub mod Chain
+pub mod HubWord
+pub mod Route
+pub mod Sockets
+pub mod ThinkTime
+pub mod Translator
