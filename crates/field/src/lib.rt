@@ -1,0 +1,71 @@
+// Fields of a 32-byte block of little-endian doublewords (what the setters of the crate xhci do for the original).
+ghost use mathlib.Core.Path.{_≡_};
+ghost use Prim.Native.Nat.{_+_, _*_, _<_, _≤_, _^_};
+ghost use lib.ListN.{length};
+ghost use Rattle.field.specs.Field.{wordAt, putWord, withBits, writeField, InBlock};
+
+pub struct Field {
+    pub word: usize,
+    pub low: usize,
+    pub width: usize,
+}
+
+fn wide(x: u8) -> u64
+    ensures { λ r. ⌜ (r ≡ x) × (r < 256) ⌝ }
+{
+    x as u64
+}
+
+// The doubleword at an index.
+fn word_at(block: &[u8], word: usize) -> u64
+    requires { ⌜ 4 * word + 4 ≤ length (now block) ⌝ }
+    ensures { λ r. ⌜ (r ≡ wordAt (now (block .entry)) word) × (r < 2 ^ 32) ⌝ }
+{
+    let at = 4 * word;
+    wide(block[at])
+        + wide(block[at + 1]) * 256
+        + wide(block[at + 2]) * 65536
+        + wide(block[at + 3]) * 16777216
+}
+
+// Stores the low 32 bits of x as the doubleword at an index.
+fn put_word(block: &mut [u8], word: usize, x: u64)
+    requires { ⌜ 4 * word + 4 ≤ length (now block) ⌝ }
+    ensures { λ r. ⌜ now (block .exit) ≡ putWord (now (block .entry)) word x ⌝ }
+{
+    let at = 4 * word;
+    block[at] = (x % 256) as u8;
+    block[at + 1] = (x / 256 % 256) as u8;
+    block[at + 2] = (x / 65536 % 256) as u8;
+    block[at + 3] = (x / 16777216 % 256) as u8;
+}
+
+// 2 to the k.
+fn power(k: usize) -> u64
+    requires { ⌜ k ≤ 32 ⌝ }
+    ensures { λ r. ⌜ (r ≡ 2 ^ k) × (0 < r) × (r ≤ 2 ^ 32) ⌝ }
+{
+    1 << k
+}
+
+// A doubleword with some of its bits made those of a value.
+fn with_bits(d: u64, low: usize, width: usize, value: u64) -> u64
+    requires { ⌜ (d < 2 ^ 32) × (low + width ≤ 32) ⌝ }
+    ensures { λ r. ⌜ r ≡ withBits d low width value ⌝ }
+{
+    let end = power(low + width);
+    let scale = power(low);
+    let span = power(width);
+    d / end * end + value % span * scale + d % scale
+}
+
+// Makes a field the low bits of a value, as many as it has.
+pub fn put_field(block: &mut [u8], f: Field, value: u64)
+    requires { ⌜ (length (now block) ≡ 32) × InBlock f ⌝ }
+    ensures { λ r. ⌜ now (block .exit) ≡ writeField (now (block .entry)) f value ⌝ }
+{
+    let word = f.word;
+    let d = word_at(block, word);
+    let x = with_bits(d, f.low, f.width, value);
+    put_word(block, word, x);
+}
