@@ -12,11 +12,20 @@ use Rattle.hub.specs.HubWord.{hubInfo, hubAt}
 use Rattle.hub.specs.Chain.{hubFits, chainFrom, chainOk}
 use Rattle.hub.specs.Route.{ports, clamp, routeOf, routeString}
 use Rattle.hub.specs.ThinkTime.{thinkTime}
+use Rattle.descriptor.specs.Word.{directionIn, endpointNumber, typeNumber, transferType, endpointDescriptor}
+use Rattle.descriptor.specs.Endpoint.{dciOf, endpointType, periodicInterval, xhciInterval, isPeriodic, periodicBurst, esitPayload}
+use Rattle.field.specs.Field.{wordAt, putWord, readField, withBits, writeField}
+use Rattle.transfer.specs.Routes.{queues, ringFor}
+use Rattle.block.specs.Blocks.{changed, ringSettings, errorCount, periodicSettings, burstOf, basicSettings, endpointSettings, wordDci, dropFlags}
+use Rattle.context.specs.Place.{inBlock, onPart, writeAt, written, blockAt, readAt}
+use Rattle.context.specs.Steps.{addWrites, addAll, highestDci, wordDcis, contextEntries, configureWrites}
+use Rattle.cases.specs.Added.{endpointWord, addedHolds}
 
 -- One example: what is given, and what 01 expects.
 pub data Case : Type 0 where
   route : (hubs : List ℕ) (hasParent : Bool) (parent port expected : ℕ) → Case
   think : (ns expected : ℕ) → Case
+  added : (spacing speed word ring first second fifth entries : ℕ) → Case
 
 abbrev pub bit : Bool → ℕ
 bit b = cond b 1 0
@@ -91,8 +100,13 @@ innerHub =
 abbrev pub hubs : List ℕ
 hubs = hubWord rootHub ∷ hubWord outerHub ∷ hubWord innerHub ∷ []
 
-abbrev pub cases : List Case
-cases =
+-- 0x81, interrupt, size 64, packets 1, interval 4.
+abbrev pub interrupt81 : ℕ
+interrupt81 = endpointWord 1 1 3 64 1 4
+
+-- The ring of the added endpoint is any.
+abbrev pub cases : (ring : ℕ) → List Case
+cases ring =
     route hubs true outer 7 0x7
     ∷ route hubs true inner 2 0x24
     ∷ route hubs true outer 20 0xF
@@ -102,6 +116,8 @@ cases =
     ∷ think 1331 0
     ∷ think 1332 1
     ∷ think 3329 3
+    ∷ added 32 HIGH interrupt81 ring 0x00030000 0x0040003E 0x00400040 4
+    ∷ added 64 HIGH interrupt81 ring 0x00030000 0x0040003E 0x00400040 4
     ∷ []
 
 abbrev pub isValue : ℕ → ThinkTime → Bool
@@ -112,11 +128,13 @@ abbrev pub holds : Case → Bool
 holds (route hubs hasParent parent port expected) =
     chainOk hubs hasParent parent && eqb (routeString hubs hasParent parent port) expected
 holds (think ns expected) = isValue expected (thinkTime ns)
+holds (added spacing speed word ring first second fifth entries) =
+    addedHolds spacing speed word ring first second fifth entries
 
 abbrev pub allHold : List Case → Bool
 allHold [] = true
 allHold (c ∷ cs) = holds c && allHold cs
 
-pub all-hold : allHold cases ≡ true
-unfolding speedKnown hubInfo hubAt hubFits chainFrom chainOk ports clamp routeOf routeString thinkTime
-all-hold = refl
+pub all-hold : (ring : ℕ) → allHold (cases ring) ≡ true
+unfolding speedKnown hubInfo hubAt hubFits chainFrom chainOk ports clamp routeOf routeString thinkTime directionIn endpointNumber typeNumber transferType endpointDescriptor dciOf endpointType periodicInterval xhciInterval isPeriodic periodicBurst esitPayload wordAt putWord readField withBits writeField queues ringFor changed ringSettings errorCount periodicSettings burstOf basicSettings endpointSettings wordDci dropFlags inBlock onPart writeAt written blockAt readAt addWrites addAll highestDci wordDcis contextEntries configureWrites
+all-hold ring = refl

@@ -35,3 +35,9 @@ or-cases false b e = inr e
 pub or-none : (a b : Bool) → (a || b) ≡ false → (a ≡ false) × (b ≡ false)
 or-none true b e = not-both true refl e
 or-none false b e = (refl, e)
+
+pub or-left-false : (a b : Bool) → (a || b) ≡ false → a ≡ false
+or-left-false a b e = or-none a b e .0
+
+pub or-right-false : (a b : Bool) → (a || b) ≡ false → b ≡ false
+or-right-false a b e = or-none a b e .1

@@ -1,0 +1,6 @@
+pub mod Added
+pub mod Control
+pub mod Laws
+pub mod Parts
+pub mod Promises
+pub mod Steps
