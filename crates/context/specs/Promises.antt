@@ -35,7 +35,7 @@ pub record ControlReads (block was : List ℕ) (drop add : ℕ → Bool) (listed
       apartFromAll g (DROP-FLAGS ∷ ADD-FLAGS ∷ fieldsOf listed) ≡ true →
       readField block g ≡ readField was g
 
--- `address_context`: what is not named is 0.
+-- `address_context`: block 2 is the control endpoint's, and what is not named is 0.
 abbrev pub blank : Field → ℕ
 blank g = 0
 
@@ -107,7 +107,7 @@ HubPromise =
     think < 2 ^ 2 →
     HubReads s speed ports multi think ctx (written s (hubWrites speed ports multi think) ctx)
 
--- `prepare_configure_context`, of words whose Dcis are 2 or more.
+-- Words whose Dcis are 2 or more, as those of a valid list are.
 abbrev pub Endpoints : List ℕ → Type 0
 Endpoints words = (d : ℕ) → someDci d words ≡ true → 2 ≤ d
 
@@ -136,6 +136,7 @@ module _ (s speed : ℕ) (added : List ℕ) (queues : List Queue) (was ctx : Lis
       (endpointReads (blockAt s before block) speed (endpointDescriptor w) (ringFor (wordDci w) queues 0))
       (readAt s before block)
 
+-- `prepare_configure_context`: `idle` is of the block of a Dci that no added word has, `rest` of a byte that is none of the blocks'.
 pub record ConfigureReads (s speed interface alternate : ℕ) (dropped added : List ℕ) (queues : List Queue) (dcis was ctx : List ℕ) : Type 0 where
   pub control :
       ControlReads (blockAt s ctx CONTROL) (blockAt s was CONTROL) (λ d. someDci d dropped) (λ d. eqb d 0 || someDci d added)
