@@ -13,7 +13,7 @@ pub fn address(ctx: &mut [u8], spacing: usize)
         multi: true,
         port: 20,
     };
-    context::address_context(ctx, spacing, def::FULL, 0xf4, t, 3, 0x1_2345_6780);
+    address_context::address_context(ctx, spacing, def::FULL, 0xf4, t, 3, 0x1_2345_6780);
     show::text(b"Address\n");
     show::block(b"control:", ctx, spacing, 0);
     show::block(b"slot:", ctx, spacing, 1);
@@ -24,7 +24,7 @@ pub fn address(ctx: &mut [u8], spacing: usize)
 pub fn header(ctx: &mut [u8], spacing: usize)
     requires { ⌜ Spaced spacing (length (now ctx)) ⌝ }
 {
-    context::setup_max_packet(ctx, spacing, 0);
+    address_context::setup_max_packet(ctx, spacing, 0);
     show::text(b"header byte 0\n");
     show::block(b"control:", ctx, spacing, 0);
     show::block(b"Dci 1:", ctx, spacing, 2);
@@ -44,7 +44,7 @@ const ISOCHRONOUS: u32 = 0xa6bf_fc04;
 pub fn claim_one(ctx: &mut [u8], spacing: usize)
     requires { ⌜ Spaced spacing (length (now ctx)) ⌝ }
 {
-    context::prepare_configure_context(
+    configure_context::prepare_configure_context(
         ctx,
         spacing,
         def::HIGH,
@@ -65,7 +65,7 @@ pub fn claim_one(ctx: &mut [u8], spacing: usize)
 pub fn claim_two(ctx: &mut [u8], spacing: usize)
     requires { ⌜ Spaced spacing (length (now ctx)) ⌝ }
 {
-    context::prepare_configure_context(
+    configure_context::prepare_configure_context(
         ctx,
         spacing,
         def::HIGH,
@@ -88,7 +88,7 @@ pub fn claim_two(ctx: &mut [u8], spacing: usize)
 pub fn configuration(ctx: &mut [u8], spacing: usize)
     requires { ⌜ Spaced spacing (length (now ctx)) ⌝ }
 {
-    context::configuration_context(ctx, 9);
+    change_context::configuration_context(ctx, 9);
     show::text(b"configuration 9\n");
     show::block(b"control:", ctx, spacing, 0);
 }
@@ -96,7 +96,7 @@ pub fn configuration(ctx: &mut [u8], spacing: usize)
 pub fn hub(ctx: &mut [u8], spacing: usize, speed: u8, think: u8)
     requires { ⌜ Spaced spacing (length (now ctx)) ⌝ }
 {
-    context::hub_context(ctx, spacing, speed, 4, false, think);
+    change_context::hub_context(ctx, spacing, speed, 4, false, think);
     show::text(b"hub of 4 ports, not multi\n");
     show::block(b"slot:", ctx, spacing, 1);
     show::block(b"Dci 31:", ctx, spacing, 32);

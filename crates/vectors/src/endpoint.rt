@@ -36,7 +36,7 @@ pub fn packet_sizes() {
 }
 
 fn interval(byte: u8, t: TransferType, speed: u8) {
-    out::number(descriptor::calculate_xhci_interval(byte, t, speed) as u64);
+    out::number(periodic::calculate_xhci_interval(byte, t, speed) as u64);
 }
 
 fn interval_line(t: TransferType, speed: u8) {
@@ -75,15 +75,15 @@ fn endpoint_line(w: u32, speed: u8) {
     let e = descriptor::endpoint_descriptor(w);
     let t = e.transfer_type;
     let dci = descriptor::endpoint_address_dci(e.address);
-    let burst = descriptor::periodic_burst_size(t, e.packets_per_microframe, speed);
+    let burst = periodic::periodic_burst_size(t, e.packets_per_microframe, speed);
     out::text(b"endpoint:");
     out::hex(e.address as u64);
     out::number(dci.0 as u64);
-    out::number(descriptor::endpoint_type(t, e.address) as u64);
-    out::number(descriptor::calculate_xhci_interval(e.interval, t, speed) as u64);
+    out::number(periodic::endpoint_type(t, e.address) as u64);
+    out::number(periodic::calculate_xhci_interval(e.interval, t, speed) as u64);
     out::number(e.max_packet_size as u64);
     out::number(burst as u64);
-    out::number(descriptor::max_esit_payload(e.max_packet_size, burst) as u64);
+    out::number(periodic::max_esit_payload(e.max_packet_size, burst) as u64);
     out::end();
 }
 

@@ -1,0 +1,70 @@
+use Rattle.command.proofs.Laws.{played-ends, played-sends}
+use Rattle.command.specs.Course.{onSent}
+use Rattle.claim.specs.Claim.{claimSwitchBack}
+use borrow.Author.Needs.{needs}
+use Rattle.claim.proofs.switch_back.Statement.{statement}
+use Rattle.claim.proofs.switch_back.Tie as tie
+
+send-requires : tie.Need-send-requires
+send-requires c κs = search needs
+
+add-count : tie.Need-add-count
+add-count c = search needs
+
+enum-told : tie.Need-enum-told
+enum-told c = search needs
+
+stays-requires : tie.Need-stays-requires
+stays-requires c κs = search needs
+
+enum-told-2 : tie.Need-enum-told-2
+enum-told-2 c = search needs
+
+stays-requires-2 : tie.Need-stays-requires-2
+stays-requires-2 c κs = search needs
+
+enum-told-3 : tie.Need-enum-told-3
+enum-told-3 c = search needs
+
+stays-requires-3 : tie.Need-stays-requires-3
+stays-requires-3 c κs = search needs
+
+same-length : tie.Need-same-length
+same-length c = search needs
+
+returns : tie.Need-returns
+unfolding claimSwitchBack onSent
+returns c = λ old new ctx routes. rw (played-sends, ← c .before .before .before .before .before .send .ensures .1, ← c .before .before .before .before .before .send .ensures .0, c .before .enum-told .given .1, played-ends, c .before .before .before .before .before .before .before .before .before .pre .0, c .stays .ensures)
+
+same-length-2 : tie.Need-same-length-2
+same-length-2 c = search needs
+
+returns-2 : tie.Need-returns-2
+unfolding claimSwitchBack onSent
+returns-2 c = λ old new ctx routes. rw (played-sends, ← c .before .before .before .before .before .send .ensures .1, ← c .before .before .before .before .before .send .ensures .0, c .before .enum-told2 .given .1, played-ends, c .stays2 .ensures)
+
+same-length-3 : tie.Need-same-length-3
+same-length-3 c = search needs
+
+returns-3 : tie.Need-returns-3
+unfolding claimSwitchBack onSent
+returns-3 c = λ old new ctx routes. rw (played-sends, ← c .before .before .before .before .before .send .ensures .1, ← c .before .before .before .before .before .send .ensures .0, c .before .enum-told3 .given .1, played-ends, c .stays3 .ensures)
+
+pub switch-back-spec : {M : Type 1} → statement M
+switch-back-spec =
+    tie.close
+    (tie.spec
+    send-requires
+    add-count
+    enum-told
+    stays-requires
+    enum-told-2
+    stays-requires-2
+    enum-told-3
+    stays-requires-3
+    same-length
+    returns
+    same-length-2
+    returns-2
+    same-length-3
+    returns-3)

@@ -1,0 +1,232 @@
+// The course of a claim: old endpoints stopped, the controller and the device switched, and the routes moved.
+use answer::Answer;
+use command::Command;
+use command::Sent;
+use def::SlotId;
+use endpoint::Queues;
+use phase::Ended;
+use transfer::Replaced;
+ghost use mathlib.Core.Path.{_≡_};
+ghost use mathlib.Core.Bool.{cond};
+ghost use mathlib.Core.List.{List};
+ghost use Prim.Native.Nat.{ℕ, _+_, _≤_};
+ghost use lib.ListN.{length};
+ghost use Rattle.command.specs.Course.{played};
+ghost use Rattle.phase.specs.Lent.{leaves, queuesIn, Room};
+ghost use Rattle.claim.specs.Claim.{claimOf, claimContext, undoContext, claimPublish, claimSwitchBack, claimUndone, claimUndo, claimSwitch, claimResume, claimConfigure, claimCourse};
+
+// The interface's old setting, if it holds one, with its endpoints; the setting to be held, with its rings; and all endpoints of the record.
+pub struct ClaimArgs {
+    pub slot: SlotId,
+    pub spacing: usize,
+    pub speed: u8,
+    pub interface: u8,
+    pub alternate: u8,
+    pub held: bool,
+    pub old_alternate: u8,
+    pub old: Queues,
+    pub pending: Queues,
+    pub all: Queues,
+}
+
+fn publish(routes: &mut [u64], n: usize, a: ClaimArgs) -> Ended
+    requires { ⌜ (a .old .count ≤ 30) × (a .pending .count ≤ 30) ⌝ }
+    ensures { λ r. ⌜ ((old new o ctx log : List ℕ) → leaves r ctx (now (routes .exit)) log ≡ played o n (claimPublish (claimOf a old new) ctx (now (routes .entry))) log) ⌝ }
+{
+    let r = phase::publish_endpoint_routes(routes, a.slot, a.old, a.pending);
+    match r {
+        Replaced::Done => phase::moves(Answer::Accepted, n),
+        Replaced::InvalidEndpoint => phase::stays(Answer::InterfaceBroken, n, 0),
+        Replaced::QueueFull => phase::stays(Answer::InterfaceBroken, n, 0),
+    }
+}
+
+// The device back at its old setting, after the controller is.
+fn switch_back(log: &mut [u32], outcomes: &[u8], n: usize, a: ClaimArgs, code: u8) -> Ended
+    requires { ⌜ (length (queuesIn (a .old)) ≡ a .old .count) × (n + 1 ≤ length (now log)) ⌝ }
+    ensures { λ r. ⌜ ((old new ctx routes : List ℕ) → leaves r ctx routes (now (log .exit)) ≡ played (now (outcomes .entry)) n (claimSwitchBack (claimOf a old new) code ctx routes) (now (log .entry))) ⌝ }
+{
+    let s = command::send(
+        log,
+        outcomes,
+        n,
+        Command::SetInterface(a.interface, a.old_alternate),
+    );
+    let count = n + 1;
+    match s {
+        Sent::Done => phase::stays(Answer::Failed(code), count, a.old.count),
+        Sent::Failed(_) => phase::stays(Answer::InterfaceBroken, count, 0),
+        Sent::Cut => phase::stays(Answer::Cut, count, 0),
+    }
+}
+
+fn undone(log: &mut [u32], outcomes: &[u8], n: usize, a: ClaimArgs, code: u8) -> Ended
+    requires { ⌜ (length (queuesIn (a .old)) ≡ a .old .count) × (n + 1 ≤ length (now log)) ⌝ }
+    ensures { λ r. ⌜ ((old new ctx routes : List ℕ) → leaves r ctx routes (now (log .exit)) ≡ played (now (outcomes .entry)) n (claimUndone (claimOf a old new) code ctx routes) (now (log .entry))) ⌝ }
+{
+    if a.held {
+        return switch_back(log, outcomes, n, a, code);
+    }
+    phase::stays(Answer::Failed(code), n, a.old.count)
+}
+
+fn rollback_alternate(held: bool, old_alternate: u8) -> u8
+    ensures { λ r. ⌜ r ≡ cond held «old_alternate» 0 ⌝ }
+{
+    if held {
+        return old_alternate;
+    }
+    0
+}
+
+fn prepare_undo(ctx: &mut [u8], a: ClaimArgs, old_words: &[u32], new_words: &[u32])
+    requires { ⌜ Room (a .spacing) (length (now ctx)) (a .old) (a .all) ⌝ }
+    ensures { λ r. ⌜ now (ctx .exit) ≡ undoContext (claimOf a (now («old_words» .entry)) (now («new_words» .entry))) (now (ctx .entry)) ⌝ }
+{
+    let alternate = rollback_alternate(a.held, a.old_alternate);
+    phase::prepare_configure(
+        ctx,
+        a.spacing,
+        a.speed,
+        a.interface,
+        alternate,
+        new_words,
+        old_words,
+        a.old,
+        a.all,
+    );
+}
+
+// After a failed SetInterface: new endpoints dropped, old ones added again.
+fn undo(
+    ctx: &mut [u8],
+    log: &mut [u32],
+    outcomes: &[u8],
+    n: usize,
+    a: ClaimArgs,
+    old_words: &[u32],
+    new_words: &[u32],
+    code: u8,
+) -> Ended
+    requires { ⌜ Room (a .spacing) (length (now ctx)) (a .old) (a .all) ⌝ }
+    requires { ⌜ n + 2 ≤ length (now log) ⌝ }
+    ensures { λ r. ⌜ ((routes : List ℕ) → leaves r (now (ctx .exit)) routes (now (log .exit)) ≡ played (now (outcomes .entry)) n (claimUndo (claimOf a (now («old_words» .entry)) (now («new_words» .entry))) code (now (ctx .entry)) routes) (now (log .entry))) ⌝ }
+{
+    prepare_undo(ctx, a, old_words, new_words);
+    let s = command::send(log, outcomes, n, Command::Configure);
+    let next = n + 1;
+    match s {
+        Sent::Done => undone(log, outcomes, next, a, code),
+        Sent::Failed(_) => phase::stays(Answer::InterfaceBroken, next, 0),
+        Sent::Cut => phase::stays(Answer::Cut, next, 0),
+    }
+}
+
+fn switch(
+    ctx: &mut [u8],
+    routes: &mut [u64],
+    log: &mut [u32],
+    outcomes: &[u8],
+    n: usize,
+    a: ClaimArgs,
+    old_words: &[u32],
+    new_words: &[u32],
+) -> Ended
+    requires { ⌜ Room (a .spacing) (length (now ctx)) (a .old) (a .all) ⌝ }
+    requires { ⌜ a .pending .count ≤ 30 ⌝ }
+    requires { ⌜ n + 3 ≤ length (now log) ⌝ }
+    ensures { λ r. ⌜ leaves r (now (ctx .exit)) (now (routes .exit)) (now (log .exit)) ≡ played (now (outcomes .entry)) n (claimSwitch (claimOf a (now («old_words» .entry)) (now («new_words» .entry))) (now (ctx .entry)) (now (routes .entry))) (now (log .entry)) ⌝ }
+{
+    let s = command::send(
+        log,
+        outcomes,
+        n,
+        Command::SetInterface(a.interface, a.alternate),
+    );
+    let next = n + 1;
+    match s {
+        Sent::Done => publish(routes, next, a),
+        Sent::Failed(code) => undo(ctx, log, outcomes, next, a, old_words, new_words, code),
+        Sent::Cut => phase::stays(Answer::Cut, next, 0),
+    }
+}
+
+// After a failed Configure: a failed resume's code is the answer.
+fn resume(log: &mut [u32], outcomes: &[u8], n: usize, a: ClaimArgs, code: u8) -> Ended
+    requires { ⌜ (a .old .count ≤ 30) × (n + a .old .count ≤ length (now log)) ⌝ }
+    ensures { λ r. ⌜ ((old new ctx routes : List ℕ) → leaves r ctx routes (now (log .exit)) ≡ played (now (outcomes .entry)) n (claimResume (claimOf a old new) code ctx routes) (now (log .entry))) ⌝ }
+{
+    let back = phase::resume_queues(log, outcomes, n, a.old);
+    let b = back.sent;
+    let s = command::or_code(code, b);
+    let answer = phase::answer_of(s);
+    phase::stays(answer, back.count, back.active)
+}
+
+fn prepare_claim(ctx: &mut [u8], a: ClaimArgs, old_words: &[u32], new_words: &[u32])
+    requires { ⌜ Room (a .spacing) (length (now ctx)) (a .old) (a .all) ⌝ }
+    requires { ⌜ a .pending .count ≤ 30 ⌝ }
+    ensures { λ r. ⌜ now (ctx .exit) ≡ claimContext (claimOf a (now («old_words» .entry)) (now («new_words» .entry))) (now (ctx .entry)) ⌝ }
+{
+    phase::prepare_configure(
+        ctx,
+        a.spacing,
+        a.speed,
+        a.interface,
+        a.alternate,
+        old_words,
+        new_words,
+        a.pending,
+        a.all,
+    );
+}
+
+fn configure(
+    ctx: &mut [u8],
+    routes: &mut [u64],
+    log: &mut [u32],
+    outcomes: &[u8],
+    n: usize,
+    a: ClaimArgs,
+    old_words: &[u32],
+    new_words: &[u32],
+) -> Ended
+    requires { ⌜ Room (a .spacing) (length (now ctx)) (a .old) (a .all) ⌝ }
+    requires { ⌜ a .pending .count ≤ 30 ⌝ }
+    requires { ⌜ n + a .old .count + 4 ≤ length (now log) ⌝ }
+    ensures { λ r. ⌜ leaves r (now (ctx .exit)) (now (routes .exit)) (now (log .exit)) ≡ played (now (outcomes .entry)) n (claimConfigure (claimOf a (now («old_words» .entry)) (now («new_words» .entry))) (now (ctx .entry)) (now (routes .entry))) (now (log .entry)) ⌝ }
+{
+    prepare_claim(ctx, a, old_words, new_words);
+    let s = command::send(log, outcomes, n, Command::Configure);
+    let next = n + 1;
+    match s {
+        Sent::Done => switch(ctx, routes, log, outcomes, next, a, old_words, new_words),
+        Sent::Failed(code) => resume(log, outcomes, next, a, code),
+        Sent::Cut => phase::stays(Answer::Cut, next, 0),
+    }
+}
+
+// Claims an interface after the checks.
+pub fn run_claim(
+    ctx: &mut [u8],
+    routes: &mut [u64],
+    log: &mut [u32],
+    outcomes: &[u8],
+    a: ClaimArgs,
+    old_words: &[u32],
+    new_words: &[u32],
+) -> Ended
+    requires { ⌜ Room (a .spacing) (length (now ctx)) (a .old) (a .all) ⌝ }
+    requires { ⌜ a .pending .count ≤ 30 ⌝ }
+    requires { ⌜ 64 ≤ length (now log) ⌝ }
+    ensures { λ r. ⌜ leaves r (now (ctx .exit)) (now (routes .exit)) (now (log .exit)) ≡ played (now (outcomes .entry)) 0 (claimCourse (claimOf a (now («old_words» .entry)) (now («new_words» .entry))) (now (ctx .entry)) (now (routes .entry))) (now (log .entry)) ⌝ }
+{
+    let stop = phase::stop_queues(log, outcomes, 0, a.old);
+    let s = stop.sent;
+    let n = stop.count;
+    match s {
+        Sent::Done => configure(ctx, routes, log, outcomes, n, a, old_words, new_words),
+        Sent::Failed(code) => phase::stays(Answer::Failed(code), n, a.old.count),
+        Sent::Cut => phase::stays(Answer::Cut, n, stop.active),
+    }
+}

@@ -1,0 +1,328 @@
+-- What a sweep over endpoints sends and how it ends.
+use Prim.Native.Nat.{ℕ, zero, suc, _+_, _*_, _<_, _≤_}
+use mathlib.Core.Path.{_≡_, refl, sym, ap, _∙_}
+use mathlib.Core.List.{List, [], _∷_, _++_, append-nil}
+use native.Mathlib.Numerals.{add-one}
+use native.Mathlib.Omega.{arith}
+use native.Mathlib.Decide.{decLt}
+use lib.ListN.{length, getD, drop, take, set, length-append, drop-of-length-le, List·getD-eq-default}
+use lib.Seq.{drop-cons, take-suc}
+use Rattle.command.specs.declared.Command.{Command}
+use Rattle.command.specs.declared.Command.the-variants as command
+use Rattle.command.specs.declared.Sent.{Sent}
+use Rattle.command.specs.declared.Sent.the-variants.{Done, Failed, Cut}
+use Rattle.command.specs.declared.Swept.{Swept}
+use Rattle.command.specs.Command.{commandWord, outcomeAt}
+use Rattle.command.specs.Course.{Course, ends, onSent, then, words, result, played, Ended, CutsTo, CutEnds, Uncut}
+use Rattle.command.specs.Sweep.{Sweep, swept, resumeFrom, resumeAll, orCode, undoStops, stopFrom, stopAll, SweptAs}
+use Rattle.command.proofs.Laws.{played-ends, played-sends, words-then, result-then}
+use Rattle.command.proofs.Cuts.{done-cut, failed-cut, failed-done, on-sent, cuts-then, uncut-then, uncut-result, cut-last}
+use Rattle.command.proofs.Operations.{EachCommand, each-then}
+
+module _ (o ds log log′ : List ℕ) (n i : ℕ) (s : Sent) (h : i < length ds) (es : s ≡ outcomeAt o n) where
+  -- one turn of the resuming loop
+  pub resume-next : log′ ≡ set log n (commandWord (command.Resume (getD ds i 0))) → (ctx : List ℕ) →
+      played o n (resumeFrom ctx i (drop i ds)) log ≡
+      played o (n + 1)
+      (onSent s (resumeFrom ctx (i + 1) (drop (i + 1) ds)) (λ code. ends (swept (Failed code) i)) (ends (swept Cut i)))
+      log′
+  unfolding resumeFrom
+  resume-next el ctx =
+      let e : drop i ds ≡ getD ds i 0 ∷ drop (i + 1) ds = rw (add-one i) (drop-cons ds i 0 h) in
+      rw (e, el, es) (played-sends _ _ _ _ _ _)
+
+  -- one turn of the stopping loop
+  pub stop-next : log′ ≡ set log n (commandWord (command.Stop (getD ds i 0))) → (ctx : List ℕ) →
+      played o n (stopFrom ctx (take i ds) (drop i ds)) log ≡
+      played o (n + 1)
+      (onSent s (stopFrom ctx (take (i + 1) ds) (drop (i + 1) ds)) (undoStops ctx (take i ds)) (ends (swept Cut 0)))
+      log′
+  unfolding stopFrom
+  stop-next el ctx = rw (add-one i, drop-cons ds i 0, take-suc ds i 0, el, es) (played-sends _ _ _ _ _ _)
+
+module _ (o ds log : List ℕ) (n i : ℕ) (h : length ds ≤ i) where
+  -- the resuming loop's end
+  pub resume-end : (ctx : List ℕ) → played o n (resumeFrom ctx i (drop i ds)) log ≡ record { end = swept Done i; count = n; log = log }
+  unfolding resumeFrom
+  resume-end ctx = rw (drop-of-length-le ds h) (played-ends _ _ _ _)
+
+  -- the stopping loop's end
+  pub stop-end : (ctx stopped : List ℕ) →
+      played o n (stopFrom ctx stopped (drop i ds)) log ≡ record { end = swept Done 0; count = n; log = log }
+  unfolding stopFrom
+  stop-end ctx stopped = rw (drop-of-length-le ds h) (played-ends _ _ _ _)
+
+-- Resuming m endpoints where a are active already.
+record Resumed (a m : ℕ) (ws : List ℕ) (r : Sweep) : Type 0 where
+  pub short : length ws ≤ m
+  pub some : r .active ≤ a + m
+  pub all : r .sent ≡ Done → (length ws ≡ m) × (r .active ≡ a + m)
+
+resumed-from : (o ctx ds : List ℕ) (n a : ℕ) →
+    Resumed a (length ds) (words o n (resumeFrom ctx a ds)) (result o n (resumeFrom ctx a ds))
+unfolding resumeFrom words result onSent
+resumed-from o ctx [] n a = record { short = omega arith; some = omega arith; all = λ e. (refl, omega arith) }
+resumed-from o ctx (d ∷ ds) n a = go (outcomeAt o n) (resumed-from o ctx ds (n + 1) (a + 1))
+  where
+    rest : Sent → Course Sweep
+    rest s = onSent s (resumeFrom ctx (a + 1) ds) (λ code. ends (swept (Failed code) a)) (ends (swept Cut a))
+
+    go : (s : Sent) →
+        Resumed (a + 1) (length ds) (words o (n + 1) (resumeFrom ctx (a + 1) ds)) (result o (n + 1) (resumeFrom ctx (a + 1) ds)) →
+        Resumed a (suc (length ds)) (commandWord (command.Resume d) ∷ words o (n + 1) (rest s)) (result o (n + 1) (rest s))
+    go Done f =
+        record {
+          short = omega (arith, f .short);
+          some = omega (arith, f .some);
+          all = λ e. (ap suc (f .all e .0), omega (arith, f .all e .1));
+        }
+    go (Failed code) f =
+        record { short = omega arith; some = omega arith; all = λ e. failed-done e }
+    go Cut f =
+        record { short = omega arith; some = omega arith; all = λ e. done-cut (sym e) }
+
+module _ (o ctx ds : List ℕ) (n : ℕ) where
+  -- resuming sends at most one word for each endpoint
+  pub words-length-resume : length (words o n (resumeAll ctx ds)) ≤ length ds
+  unfolding resumeAll
+  words-length-resume = resumed-from o ctx ds n 0 .short
+
+  -- and makes no more of them active than there are
+  pub active-resume : (result o n (resumeAll ctx ds)) .active ≤ length ds
+  unfolding resumeAll
+  active-resume = omega (arith, resumed-from o ctx ds n 0 .some)
+
+  -- where it ends done, it has sent a word for each, and each is active
+  pub resume-done : (result o n (resumeAll ctx ds)) .sent ≡ Done →
+      (length (words o n (resumeAll ctx ds)) ≡ length ds) × ((result o n (resumeAll ctx ds)) .active ≡ length ds)
+  unfolding resumeAll
+  resume-done e = let f = resumed-from o ctx ds n 0 .all e in (f .0, omega (arith, f .1))
+
+-- a failed stop never ends done
+never-done : (code : ℕ) (s : Sent) → orCode code s ≡ Done → ⊥
+unfolding orCode
+never-done code Done e = failed-done e
+never-done code (Failed later) e = failed-done e
+never-done code Cut e = done-cut (sym e)
+
+-- nor cut, unless the resuming was
+code-cut : (code : ℕ) (s : Sent) → orCode code s ≡ Cut → s ≡ Cut
+unfolding orCode
+code-cut code Done e = failed-cut e
+code-cut code (Failed later) e = failed-cut e
+code-cut code Cut e = refl
+
+-- undoing stops sends what resuming sends
+pub undo-words : (o ctx ds : List ℕ) (n code : ℕ) → words o n (undoStops ctx ds code) ≡ words o n (resumeAll ctx ds)
+unfolding undoStops words
+undo-words o ctx ds n code = rw (words-then, append-nil)
+
+-- and ends as that does, a code for done
+pub undo-result : (o ctx ds : List ℕ) (n code : ℕ) →
+    result o n (undoStops ctx ds code) ≡
+    swept (orCode code ((result o n (resumeAll ctx ds)) .sent)) ((result o n (resumeAll ctx ds)) .active)
+unfolding undoStops result
+undo-result o ctx ds n code = rw result-then
+
+-- Stopping m endpoints where k are stopped already.
+record Stopped (k m : ℕ) (ws : List ℕ) (r : Sweep) : Type 0 where
+  pub short : length ws ≤ k + 2 * m
+  pub some : r .active ≤ k + m
+  pub all : r .sent ≡ Done → length ws ≡ m
+
+stopped-from : (o ctx stopped ds : List ℕ) (n : ℕ) →
+    Stopped (length stopped) (length ds) (words o n (stopFrom ctx stopped ds)) (result o n (stopFrom ctx stopped ds))
+unfolding stopFrom words result onSent
+stopped-from o ctx stopped [] n = record { short = omega arith; some = omega arith; all = λ e. refl }
+stopped-from o ctx stopped (d ∷ ds) n = go (outcomeAt o n) (stopped-from o ctx next ds (n + 1))
+  where
+    next : List ℕ
+    next = stopped ++ (d ∷ [])
+
+    rest : Sent → Course Sweep
+    rest s = onSent s (stopFrom ctx next ds) (undoStops ctx stopped) (ends (swept Cut 0))
+
+    go : (s : Sent) →
+        Stopped (length next) (length ds) (words o (n + 1) (stopFrom ctx next ds)) (result o (n + 1) (stopFrom ctx next ds)) →
+        Stopped (length stopped) (suc (length ds)) (commandWord (command.Stop d) ∷ words o (n + 1) (rest s)) (result o (n + 1) (rest s))
+    go Done f =
+        let l : length next ≡ length stopped + 1 = simp length-append in
+        record {
+          short = omega (arith, f .short);
+          some = omega (arith, f .some);
+          all = λ e. ap suc (f .all e);
+        }
+    go (Failed code) f =
+        rw (undo-words, undo-result)
+        (record {
+          short = omega (arith, words-length-resume o ctx stopped (n + 1));
+          some = omega (arith, active-resume o ctx stopped (n + 1));
+          all = λ e. absurd (never-done code _ e);
+        })
+    go Cut f =
+        record { short = omega arith; some = omega arith; all = λ e. done-cut (sym e) }
+
+module _ (o ctx ds : List ℕ) (n : ℕ) where
+  -- stopping sends at most two words for each endpoint
+  pub words-length-stop : length (words o n (stopAll ctx ds)) ≤ 2 * length ds
+  unfolding stopAll
+  words-length-stop = omega (arith, stopped-from o ctx [] ds n .short)
+
+  -- and makes no more of them active than there are
+  pub active-stop : (result o n (stopAll ctx ds)) .active ≤ length ds
+  unfolding stopAll
+  active-stop = omega (arith, stopped-from o ctx [] ds n .some)
+
+  -- where it ends done, it has sent a word for each
+  pub stop-done : (result o n (stopAll ctx ds)) .sent ≡ Done → length (words o n (stopAll ctx ds)) ≡ length ds
+  unfolding stopAll
+  stop-done e = stopped-from o ctx [] ds n .all e
+
+module _ (o ctx ds log left : List ℕ) (n : ℕ) (r : Swept) where
+  -- the count that resuming leaves
+  pub resume-count : SweptAs r left (played o n (resumeAll ctx ds) log) → r .count ≤ n + length ds
+  unfolding played
+  resume-count a = omega (arith, a .count, words-length-resume o ctx ds n)
+
+  -- the count that stopping leaves
+  pub stop-count : SweptAs r left (played o n (stopAll ctx ds) log) → r .count ≤ n + 2 * length ds
+  unfolding played
+  stop-count a = omega (arith, a .count, words-length-stop o ctx ds n)
+
+  -- and that it leaves where it ends done
+  pub stop-done-count : SweptAs r left (played o n (stopAll ctx ds) log) → r .sent ≡ Done → r .count ≡ n + length ds
+  unfolding played
+  stop-done-count a e = omega (arith, a .count, stop-done o ctx ds n (sym (a .sent) ∙ e))
+
+-- A sweep over this context that was cut.
+abbrev pub CutSweep : List ℕ → List ℕ → Sweep → Type 0
+CutSweep ctx at r = (ctx ≡ at) × (r .sent ≡ Cut)
+
+-- One that was not.
+abbrev pub UncutSweep : Sweep → Type 0
+UncutSweep r = r .sent ≡ Cut → ⊥
+
+resume-cuts-from : (ctx ds : List ℕ) (a : ℕ) → CutsTo (CutSweep ctx) (resumeFrom ctx a ds)
+unfolding CutsTo Ended resumeFrom onSent
+resume-cuts-from ctx [] a = tt
+resume-cuts-from ctx (d ∷ ds) a = (
+  (refl, refl),
+  λ s. on-sent (CutsTo (CutSweep ctx)) s _ _ _ (λ e. resume-cuts-from ctx ds (a + 1)) (λ code e. tt) (λ e. tt),
+)
+
+resume-uncut-from : (ctx ds : List ℕ) (a : ℕ) → Uncut UncutSweep (resumeFrom ctx a ds)
+unfolding Uncut resumeFrom
+resume-uncut-from ctx [] a = done-cut
+resume-uncut-from ctx (d ∷ ds) a = λ s u.
+    on-sent (Uncut UncutSweep) s _ _ _ (λ e. resume-uncut-from ctx ds (a + 1)) (λ code e. failed-cut) (λ e. absurd (u e))
+
+-- resuming passes a cut on
+pub resume-cuts : (ctx ds : List ℕ) → CutsTo (CutSweep ctx) (resumeAll ctx ds)
+unfolding resumeAll
+resume-cuts ctx ds = resume-cuts-from ctx ds 0
+
+-- and reports no other
+pub resume-uncut : (ctx ds : List ℕ) → Uncut UncutSweep (resumeAll ctx ds)
+unfolding resumeAll
+resume-uncut ctx ds = resume-uncut-from ctx ds 0
+
+undo-cuts : (ctx ds : List ℕ) (code : ℕ) → CutsTo (CutSweep ctx) (undoStops ctx ds code)
+unfolding CutsTo Ended undoStops orCode
+undo-cuts ctx ds code =
+    cuts-then (CutSweep ctx) (CutSweep ctx) (resumeAll ctx ds) _ (resume-cuts ctx ds) (λ at r p. (p .0, rw (p .1))) (λ r. tt)
+
+undo-uncut : (ctx ds : List ℕ) (code : ℕ) → Uncut UncutSweep (undoStops ctx ds code)
+unfolding Uncut undoStops
+undo-uncut ctx ds code =
+    uncut-then UncutSweep UncutSweep (resumeAll ctx ds) _ (resume-uncut ctx ds) (λ r u e. u (code-cut code (r .sent) e))
+
+stop-cuts-from : (ctx stopped ds : List ℕ) → CutsTo (CutSweep ctx) (stopFrom ctx stopped ds)
+unfolding CutsTo Ended stopFrom onSent
+stop-cuts-from ctx stopped [] = tt
+stop-cuts-from ctx stopped (d ∷ ds) = (
+  (refl, refl),
+  λ s.
+      on-sent (CutsTo (CutSweep ctx)) s _ _ _ (λ e. stop-cuts-from ctx (stopped ++ (d ∷ [])) ds)
+      (λ code e. undo-cuts ctx stopped code)
+      (λ e. tt),
+)
+
+stop-uncut-from : (ctx stopped ds : List ℕ) → Uncut UncutSweep (stopFrom ctx stopped ds)
+unfolding Uncut stopFrom
+stop-uncut-from ctx stopped [] = done-cut
+stop-uncut-from ctx stopped (d ∷ ds) = λ s u.
+    on-sent (Uncut UncutSweep) s _ _ _ (λ e. stop-uncut-from ctx (stopped ++ (d ∷ [])) ds)
+    (λ code e. undo-uncut ctx stopped code)
+    (λ e. absurd (u e))
+
+-- stopping passes a cut on
+pub stop-cuts : (ctx ds : List ℕ) → CutsTo (CutSweep ctx) (stopAll ctx ds)
+unfolding stopAll
+stop-cuts ctx ds = stop-cuts-from ctx [] ds
+
+-- and reports no other
+pub stop-uncut : (ctx ds : List ℕ) → Uncut UncutSweep (stopAll ctx ds)
+unfolding stopAll
+stop-uncut ctx ds = stop-uncut-from ctx [] ds
+
+-- a sweep that passes cuts on, and then a course that ends with the sweep's context if it was cut
+pub sweep-cut-ends : {A : Type 0} (contextOf : A → List ℕ) (ctx : List ℕ) (c : Course Sweep) (f : Sweep → Course A) →
+    CutsTo (CutSweep ctx) c → ((r : Sweep) → r .sent ≡ Cut → Ended (λ a. contextOf a ≡ ctx) (f r)) →
+    ((r : Sweep) → CutEnds contextOf (f r)) → CutEnds contextOf (then c f)
+sweep-cut-ends contextOf ctx c f t h r =
+    cuts-then (CutSweep ctx) (λ at a. contextOf a ≡ at) c f t (λ at b p. rw (p .0) at (h b (p .1))) r
+
+module _ (ctx o : List ℕ) (n : ℕ) (c : Course Sweep) where
+  -- it ends by a cut if it wants an outcome more than there are
+  pub sweep-cut : CutsTo (CutSweep ctx) c → n ≤ length o → length o < n + length (words o n c) → (result o n c) .sent ≡ Cut
+  sweep-cut t h l = cut-last (CutSweep ctx) o n c t h l .1
+
+  -- and only then
+  pub sweep-uncut : Uncut UncutSweep c → (result o n c) .sent ≡ Cut → length o < n + length (words o n c)
+  sweep-uncut u e = go (decLt (length o) (n + length (words o n c)))
+    where
+      go : Dec (length o < n + length (words o n c)) → length o < n + length (words o n c)
+      go (yes h) = h
+      go (no h) = absurd (uncut-result UncutSweep o n c u (omega arith) e)
+
+-- a rule that holds of each number of a list, and of one more
+one-more : (Q : ℕ → Type 0) (l : List ℕ) (d : ℕ) → ((k : ℕ) → Q (getD l k 0)) → Q d → (k : ℕ) → Q (getD (l ++ (d ∷ [])) k 0)
+one-more Q [] d h q zero = q
+one-more Q [] d h q (suc k) = h zero
+one-more Q (x ∷ l) d h q zero = h zero
+one-more Q (x ∷ l) d h q (suc k) = one-more Q l d (λ j. h (suc j)) q k
+
+module _ (P : Command → Type 0) (ctx : List ℕ) where
+  resume-each-from : (ds : List ℕ) (a : ℕ) → ((k : ℕ) → P (command.Resume (getD ds k 0))) → EachCommand P (resumeFrom ctx a ds)
+  unfolding EachCommand resumeFrom
+  resume-each-from [] a h = tt
+  resume-each-from (d ∷ ds) a h = (
+    h zero,
+    λ s. on-sent (EachCommand P) s _ _ _ (λ e. resume-each-from ds (a + 1) (λ k. h (suc k))) (λ code e. tt) (λ e. tt),
+  )
+
+  -- resuming sends resumes
+  pub resume-each : (ds : List ℕ) → ((k : ℕ) → P (command.Resume (getD ds k 0))) → EachCommand P (resumeAll ctx ds)
+  unfolding resumeAll
+  resume-each ds h = resume-each-from ds 0 h
+
+  stop-each-from : (stopped ds : List ℕ) → ((k : ℕ) → P (command.Resume (getD stopped k 0))) →
+      ((k : ℕ) → P (command.Stop (getD ds k 0)) × P (command.Resume (getD ds k 0))) → EachCommand P (stopFrom ctx stopped ds)
+  unfolding EachCommand stopFrom undoStops
+  stop-each-from stopped [] b h = tt
+  stop-each-from stopped (d ∷ ds) b h = (
+    h zero .0,
+    λ s.
+        on-sent (EachCommand P) s _ _ _
+        (λ e. stop-each-from (stopped ++ (d ∷ [])) ds (one-more (λ x. P (command.Resume x)) stopped d b (h zero .1)) (λ k. h (suc k)))
+        (λ code e. each-then P (resumeAll ctx stopped) _ (resume-each stopped b) (λ r. tt))
+        (λ e. tt),
+  )
+
+  -- stopping sends stops and resumes
+  pub stop-each : (ds : List ℕ) → ((k : ℕ) → P (command.Stop (getD ds k 0)) × P (command.Resume (getD ds k 0))) →
+      EachCommand P (stopAll ctx ds)
+  unfolding stopAll
+  stop-each ds h =
+      let e : getD ds (length ds) 0 ≡ 0 = List·getD-eq-default ds 0 (omega arith) in
+      stop-each-from [] ds (λ k. rw e at (h (length ds) .1)) h

@@ -1,0 +1,3 @@
+pub mod Command
+pub mod Course
+pub mod Sweep

@@ -1,0 +1,38 @@
+use Rattle.context.proofs.Steps.{configure-steps}
+use mathlib.Core.Path.{_∙_}
+use borrow.Author.Needs.{needs}
+use Rattle.configure_context.proofs.prepare_configure_context.Statement.{statement}
+use Rattle.configure_context.proofs.prepare_configure_context.Tie as tie
+
+begin-configure-requires : tie.Need-begin-configure-requires
+begin-configure-requires c κs = search needs
+
+drop-endpoints-requires : tie.Need-drop-endpoints-requires
+drop-endpoints-requires c κs = search needs
+
+add-endpoints-requires : tie.Need-add-endpoints-requires
+add-endpoints-requires c κs = search needs
+
+context-entries-requires : tie.Need-context-entries-requires
+context-entries-requires c κs = search needs
+
+finish-configure-requires : tie.Need-finish-configure-requires
+finish-configure-requires c κs = search needs
+
+same-length : tie.Need-same-length
+same-length c = search needs
+
+returns : tie.Need-returns
+returns c = c .before .before .finish-configure .ensures ∙ rw (configure-steps, c .before .before .before .before .context-entries .ensures, c .before .before .before .before .before .before .before .add-endpoints .ensures, c .before .before .before .before .before .before .before .before .before .before .before .drop-endpoints .ensures (c .before .before .before .before .before .before .before .before .before .before .before .before .before .before .before .before .before .before .before .before .before .before .before .args .spacing), c .before .before .before .before .before .before .before .before .before .before .before .before .before .before .before .begin-configure .ensures (c .before .before .before .before .before .before .before .before .before .before .before .before .before .before .before .before .before .before .before .before .before .before .before .args .spacing))
+
+pub prepare-configure-context-spec : {M : Type 1} → statement M
+prepare-configure-context-spec =
+    tie.close
+    (tie.spec
+    begin-configure-requires
+    drop-endpoints-requires
+    add-endpoints-requires
+    context-entries-requires
+    finish-configure-requires
+    same-length
+    returns)

@@ -1,0 +1,61 @@
+-- What a call makes of the record's mark.
+use Prim.Native.Nat.{ℕ}
+use mathlib.Core.Path.{_≡_, refl}
+use mathlib.Core.Logic.{_⊎_, inl, inr}
+use mathlib.Core.Bool.{Bool}
+use mathlib.Core.List.{List}
+use lib.ListN.{length}
+use Rattle.answer.specs.declared.Answer.{Answer}
+use Rattle.answer.specs.declared.Answer.the-variants as answer
+use Rattle.device.specs.declared.check.Check.{Check}
+use Rattle.device.specs.declared.check.Check.the-variants.{Pass, Refuse}
+use Rattle.device.specs.declared.record.Device.{Device}
+use Rattle.device.specs.Device.{unusable}
+use Rattle.device.specs.Left.{Left, refused, marked}
+use Rattle.device.specs.Check.{recordCheck, hubCheck}
+use Rattle.device.specs.Calls.{onCheck, hubLeft, hubUpdate}
+
+-- A record, or the same marked unusable.
+abbrev pub SameOr : Device → Device → Type 0
+SameOr d r = (r ≡ d) ⊎ (r ≡ unusable d)
+
+-- an answer leaves the record, or marks it
+pub marked-one : (a : Answer) (d : Device) → SameOr d (marked a d)
+unfolding marked
+marked-one answer.InterfaceBroken d = inr refl
+marked-one answer.Cut d = inr refl
+marked-one answer.Accepted d = inl refl
+marked-one (answer.Failed code) d = inl refl
+marked-one answer.ContextLength d = inl refl
+marked-one answer.RoutesLength d = inl refl
+marked-one answer.LogTooShort d = inl refl
+marked-one answer.DescriptorList d = inl refl
+marked-one answer.HubChain d = inl refl
+marked-one answer.Speed d = inl refl
+marked-one answer.ThinkTime d = inl refl
+marked-one answer.NotFound d = inl refl
+marked-one answer.InvalidParameter d = inl refl
+marked-one answer.Rings d = inl refl
+marked-one answer.SlotLimitReached d = inl refl
+marked-one answer.Unusable d = inl refl
+marked-one answer.ShortHeader d = inl refl
+marked-one answer.QueueFull d = inl refl
+marked-one answer.InvalidEndpoint d = inl refl
+
+-- what holds of a call that runs and of each refusal holds of the call
+pub on-check : (P : Left → Type 0) (k : Check) (run : Left) (refuse : Answer → Left) → P run → ((a : Answer) → P (refuse a)) →
+    P (onCheck k run refuse)
+unfolding onCheck
+on-check P Pass run refuse p q = p
+on-check P (Refuse a) run refuse p q = q a
+
+-- a hub update returns the record as it came, or marked unusable
+pub hub-update-sound : (d : Device) (ctx routes log outcomes : List ℕ) (ports : ℕ) (multi : Bool) (ns : ℕ) →
+    SameOr d ((hubUpdate d ctx routes log outcomes ports multi ns) .device)
+unfolding hubUpdate hubLeft refused
+hub-update-sound d ctx routes log outcomes ports multi ns =
+    on-check (λ l. SameOr d (l .device))
+    (recordCheck d (length ctx) (length routes) (length log) (hubCheck d ns))
+    _ (λ a. refused d a ctx routes log)
+    (marked-one _ d)
+    (λ a. inl refl)

@@ -1,0 +1,15 @@
+use Prim.Native.Nat.{_-_}
+use Rattle.device.specs.Device.{cellsIn}
+use Rattle.device.proofs.Facts.{count-facts}
+use Rattle.device.proofs.record.Device.cells.Statement.{statement}
+use Rattle.device.proofs.record.Device.cells.Tie as tie
+
+cells-of-requires : tie.Need-cells-of-requires
+cells-of-requires c κs = count-facts _ (c .before .before .pre) .endpoints
+
+returns : tie.Need-returns
+unfolding cellsIn
+returns c = c .cells-of .ensures
+
+pub cells-spec : {M : Type 1} → statement M
+cells-spec = tie.close (tie.spec cells-of-requires returns)

@@ -1,0 +1,54 @@
+-- The calls on a record. Each refuses, or runs its course and returns the record that the end of the course makes.
+use Prim.Native.Nat.{ℕ}
+use mathlib.Core.Bool.{Bool}
+use mathlib.Core.List.{List}
+use lib.ListN.{length}
+use Rattle.answer.specs.declared.Answer.{Answer}
+use Rattle.command.specs.declared.Command.the-variants as command
+use Rattle.command.specs.declared.Sent.{Sent}
+use Rattle.command.specs.declared.Sent.the-variants as sent
+use Rattle.command.specs.Course.{Course, ends, sends, Played, played}
+use Rattle.hub.specs.declared.think.ThinkTime.{ThinkTime}
+use Rattle.hub.specs.declared.think.ThinkTime.the-variants as think
+use Rattle.hub.specs.ThinkTime.{thinkTime}
+use Rattle.context.specs.Place.{written}
+use Rattle.context.specs.Steps.{hubWrites}
+use Rattle.answer.specs.declared.Answer.the-variants as answer
+use Rattle.device.specs.declared.check.Check.{Check}
+use Rattle.device.specs.declared.check.Check.the-variants.{Pass, Refuse}
+use Rattle.device.specs.declared.record.Device.{Device}
+use Rattle.device.specs.Left.{Left, refused, marked}
+use Rattle.device.specs.Check.{recordCheck, hubCheck}
+
+unfoldable pub onCheck : Check → Left → (Answer → Left) → Left
+onCheck Pass next refuse = next
+onCheck (Refuse a) next refuse = refuse a
+
+-- The answer of a call that is one command.
+unfoldable pub answerOf : Sent → Answer
+answerOf sent.Done = answer.Accepted
+answerOf (sent.Failed code) = answer.Failed code
+answerOf sent.Cut = answer.Cut
+
+-- The value of a think time; 0 where it is refused, which is not written then.
+unfoldable pub thinkValue : ThinkTime → ℕ
+thinkValue (think.Value v) = v
+thinkValue think.Refused = 0
+
+-- Hub update: one Evaluate with the hub's slot fields.
+unfoldable pub hubContext : Device → ℕ → Bool → ℕ → List ℕ → List ℕ
+hubContext d ports multi ns ctx =
+    written (d .spacing) (hubWrites (d .«port_speed») ports multi (thinkValue (thinkTime ns))) ctx
+
+unfoldable pub hubCourse : List ℕ → Course Answer
+hubCourse ctx = sends command.Evaluate ctx (λ s. ends (answerOf s))
+
+unfoldable pub hubLeft : Device → List ℕ → List ℕ → Played Answer → Left
+hubLeft d ctx routes p =
+    record { device = marked (p .end) d; answer = p .end; count = p .count; ctx = ctx; routes = routes; log = p .log }
+
+unfoldable pub hubUpdate : Device → List ℕ → List ℕ → List ℕ → List ℕ → ℕ → Bool → ℕ → Left
+hubUpdate d ctx routes log outcomes ports multi ns =
+    onCheck (recordCheck d (length ctx) (length routes) (length log) (hubCheck d ns))
+    (hubLeft d (hubContext d ports multi ns ctx) routes (played outcomes 0 (hubCourse (hubContext d ports multi ns ctx)) log))
+    (λ a. refused d a ctx routes log)

@@ -1,0 +1,5 @@
+pub mod Calls
+pub mod Check
+pub mod Device
+pub mod Left
+pub mod Sound

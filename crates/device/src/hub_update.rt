@@ -1,0 +1,99 @@
+// The hub update.
+use super::check::Check;
+use super::record::Called;
+use super::record::Device;
+use answer::Answer;
+use command::Command;
+use command::Sent;
+use hub::ThinkTime;
+ghost use mathlib.Core.Path.{_≡_};
+ghost use mathlib.Core.List.{List};
+ghost use Prim.Native.Nat.{ℕ, _<_};
+ghost use lib.ListN.{length};
+ghost use Rattle.command.specs.Course.{played};
+ghost use Rattle.hub.specs.ThinkTime.{thinkTime};
+ghost use Rattle.context.specs.Place.{Spaced};
+ghost use Rattle.device.specs.Left.{leaves, marked};
+ghost use Rattle.device.specs.Calls.{answerOf, thinkValue, hubContext, hubCourse, hubLeft, hubUpdate};
+
+// The field of a think time; 0 where it is refused, which is not written then.
+fn think_value(ns: u32) -> u8
+    ensures { λ r. ⌜ r ≡ thinkValue (thinkTime ns) ⌝ }
+{
+    let t = hub::think_time(ns);
+    match t {
+        ThinkTime::Value(v) => v,
+        ThinkTime::Refused => 0,
+    }
+}
+
+impl Device {
+    // The end of a call that is one command, by its outcome.
+    fn hub_end(mut self, s: Sent, count: usize) -> Called
+        ensures { λ r. ⌜ r ≡ record { device = marked (answerOf s) self; answer = answerOf s; count = count } ⌝ }
+    {
+        match s {
+            Sent::Done => Called {
+                device: self,
+                answer: Answer::Accepted,
+                count: count,
+            },
+            Sent::Failed(code) => Called {
+                device: self,
+                answer: Answer::Failed(code),
+                count: count,
+            },
+            Sent::Cut => {
+                self.usable = false;
+                Called {
+                    device: self,
+                    answer: Answer::Cut,
+                    count: count,
+                }
+            }
+        }
+    }
+
+    // What is done where the checks have passed.
+    fn hub_run(
+        self,
+        ctx: &mut [u8],
+        log: &mut [u32],
+        outcomes: &[u8],
+        ports: u8,
+        multi: bool,
+        ns: u32,
+    ) -> Called
+        requires { ⌜ Spaced (self .spacing) (length (now ctx)) × (0 < length (now log)) ⌝ }
+        ensures { λ r. ⌜ ((routes : List ℕ) → leaves r (now (ctx .exit)) routes (now (log .exit)) ≡ hubLeft self (hubContext self ports multi ns (now (ctx .entry))) routes (played (now (outcomes .entry)) 0 (hubCourse (hubContext self ports multi ns (now (ctx .entry)))) (now (log .entry)))) ⌝ }
+    {
+        let think = think_value(ns);
+        change_context::hub_context(ctx, self.spacing, self.port_speed, ports, multi, think);
+        let s = command::send(log, outcomes, 0, Command::Evaluate);
+        self.hub_end(s, 1)
+    }
+
+    // One Evaluate with the hub's slot fields.
+    pub fn hub_update(
+        mut self,
+        ctx: &mut [u8],
+        routes: &mut [u64],
+        log: &mut [u32],
+        outcomes: &[u8],
+        ports: u8,
+        multi: bool,
+        ns: u32,
+    ) -> Called
+        ensures { λ r. ⌜ leaves r (now (ctx .exit)) (now (routes .exit)) (now (log .exit)) ≡ hubUpdate self (now (ctx .entry)) (now (routes .entry)) (now (log .entry)) (now (outcomes .entry)) ports multi ns ⌝ }
+    {
+        let check = self.hub_check(ctx.len(), routes.len(), log.len(), ns);
+        match check {
+            Check::Refuse(a) => Called {
+                device: self,
+                answer: a,
+                count: 0,
+            },
+            Check::Pass => self.hub_run(ctx, log, outcomes, ports, multi, ns),
+        }
+    }
+}

@@ -1,0 +1,9 @@
+// The record of a device and the calls on it (device.rs of the original, and the lifecycle of src/device.rs above it).
+mod check;
+mod hub_update;
+mod record;
+mod sound;
+
+pub use check::Check;
+pub use record::Called;
+pub use record::Device;

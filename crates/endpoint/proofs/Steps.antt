@@ -1,0 +1,329 @@
+-- One turn of each loop.
+use Prim.Native.Nat.{ℕ, zero, suc, _+_, _-_, _≤_, _<_}
+use mathlib.Core.Path.{_≡_, refl, sym, ap, _∙_}
+use mathlib.Core.Bool.{Bool, true, false, not, cond, _&&_, _||_}
+use mathlib.Core.List.{List, [], _∷_, _++_, append-assoc, append-nil}
+use native.Mathlib.Numerals.{add-one}
+use native.Mathlib.Nat.{add-zero, zero-add, sub-zero}
+use native.Mathlib.Omega.{arith}
+use mathlib.Core.Logic.{inl, inr}
+use borrow.Author.Tests.{eq-eqb, ne-eqb, eqb-true, eqb-false}
+use lib.Dec.{eqb, ltb}
+use lib.ListN.{length, getD, set, take, drop, replicate, length-append, length-set, length-replicate, drop-of-length-le}
+use lib.Seq.{getD-set-same, getD-set-other, take-suc-set, take-all, take-append-seam, set-append-seam, drop-cons, drop-drop, getD-drop, getD-take, length-take-le}
+use Rattle.laws.proofs.Cases.{Decided, decided}
+use Rattle.laws.proofs.Distinct.{elem}
+use Rattle.descriptor.specs.Word.{endpointDescriptor}
+use Rattle.transfer.specs.Routes.{Queue}
+use Rattle.endpoint.specs.Order.{placeOf, dciAt}
+use Rattle.endpoint.specs.Endpoint.{blank, addresses, addressesFit, padded}
+use Rattle.endpoint.specs.Cells.{Whole, noCells, withCell, isActive, cellsFrom, gathered, isOwned, tabulated, activeFrom, pendingFrom, queueDcis, queueRings}
+use Rattle.endpoint.specs.declared.entry.Endpoint.{Endpoint}
+use Rattle.endpoint.specs.declared.cells.Cells.{Cells}
+use Rattle.endpoint.specs.declared.cells.Owner.{Owner}
+
+-- What stands at a place after one was written.
+pub getD-set :
+    {A : Type 0} (l : List A) (i p : ℕ) (v d : A) → p < length l → getD (set l i v) p d ≡ cond (eqb i p) v (getD l p d)
+getD-set l i p v d h = go (decided (eqb i p))
+  where
+    go : Decided (eqb i p) → getD (set l i v) p d ≡ cond (eqb i p) v (getD l p d)
+    go (inl e) = let s : i ≡ p = eqb-true i p e in rw (e, s) (getD-set-same l p v d h)
+    go (inr e) = rw e (getD-set-other l i p v d (λ s. eqb-false i p e (sym s)))
+
+-- An array written place by place.
+tabulated-snoc : {A : Type 0} (f : ℕ → A) (k a : ℕ) → tabulated f (suc k) a ≡ tabulated f k a ++ (f (a + k) ∷ [])
+unfolding tabulated
+tabulated-snoc f zero a = rw add-zero
+tabulated-snoc f (suc k) a =
+    let e : a + 1 + k ≡ a + suc k = omega arith in rw (tabulated-snoc f k (a + 1), e)
+
+-- An array of m places, of which the first p are written.
+pub record Written {A : Type 0} (m : ℕ) (f : ℕ → A) (p : ℕ) (l : List A) : Type 0 where
+  pub written : take p l ≡ tabulated f p 0
+  pub room : length l ≡ m
+
+pub write-none : {A : Type 0} (m : ℕ) (f : ℕ → A) (l : List A) → length l ≡ m → Written m f 0 l
+unfolding tabulated
+write-none m f l e = record { written = refl; room = e }
+
+pub write-next :
+    {A : Type 0} {m : ℕ} {f : ℕ → A} {p : ℕ} {l : List A} (v : A) → Written m f p l → p < m → v ≡ f p →
+    Written m f (p + 1) (set l p v)
+write-next {m = m} {f} {p} {l} v w h q =
+    record {
+      written = rw (add-one p, take-suc-set l p v (rw (w .room) h), tabulated-snoc f p 0, w .written, q, zero-add);
+      room = length-set l p v ∙ w .room;
+    }
+
+pub write-done :
+    {A : Type 0} {m : ℕ} {f : ℕ → A} {p : ℕ} {l : List A} → Written m f p l → m ≤ p → p ≤ m → l ≡ tabulated f m 0
+write-done {m = m} {f} {p} {l} w g h =
+    let r : length l ≡ m = w .room in
+    let same : p ≡ m = omega arith in
+    sym (take-all p l (omega arith)) ∙ w .written ∙ ap (λ (k : ℕ). tabulated f k 0) same
+
+-- An array filled from its front, blanks after it.
+module _ {A : Type 0} (n : ℕ) (b : A) where
+  padded-put : (l : List A) (a : A) → length l < n → set (padded n b l) (length l) a ≡ padded n b (l ++ (a ∷ []))
+  unfolding padded
+  padded-put l a h =
+      let m : n - length l ≡ suc (n - (length l + 1)) = omega arith in
+      let m′ : n - length (l ++ (a ∷ [])) ≡ n - (length l + 1) = simp length-append in
+      rw (m, m′, set-append-seam, append-assoc) refl
+
+  take-padded : (l : List A) → take (length l) (padded n b l) ≡ l
+  unfolding padded
+  take-padded l = take-append-seam l (replicate (n - length l) b)
+
+  pub take-filled : (out : List A) (k : ℕ) (l : List A) → out ≡ padded n b l → k ≡ length l → take k out ≡ l
+  take-filled out k l e q = rw (e, q) (take-padded l)
+
+module _ {A : Type 0} (f : ℕ → A) (rings : List ℕ) where
+  gathered-snoc :
+      (k a : ℕ) →
+      gathered f rings (suc k) a ≡ gathered f rings k a ++ cond (eqb (getD rings (a + k) 0) 0) [] (f (a + k) ∷ [])
+  unfolding gathered
+  gathered-snoc zero a = rw add-zero
+  gathered-snoc (suc k) a =
+      let e : a + 1 + k ≡ a + suc k = omega arith in
+      rw (gathered-snoc k (a + 1), e) (go (eqb (getD rings a 0) 0) _ _)
+    where
+      go : (t : Bool) (l m : List A) → cond t (l ++ m) (f a ∷ l ++ m) ≡ cond t l (f a ∷ l) ++ m
+      go true l m = refl
+      go false l m = refl
+
+  gathered-out : (p : ℕ) → getD rings p 0 ≡ 0 → gathered f rings (p + 1) 0 ≡ gathered f rings p 0
+  gathered-out p h = rw (add-one p, gathered-snoc p 0, zero-add, eq-eqb (getD rings p 0) 0 h, append-nil)
+
+  gathered-in :
+      (p : ℕ) → (getD rings p 0 ≡ 0 → ⊥) → gathered f rings (p + 1) 0 ≡ gathered f rings p 0 ++ (f p ∷ [])
+  gathered-in p h = rw (add-one p, gathered-snoc p 0, zero-add, ne-eqb (getD rings p 0) 0 h)
+
+  pub gathered-le : (k a : ℕ) → length (gathered f rings k a) ≤ k
+  unfolding gathered
+  gathered-le zero a = omega arith
+  gathered-le (suc k) a = go (eqb (getD rings a 0) 0) (gathered f rings k (a + 1)) (gathered-le k (a + 1))
+    where
+      go : (t : Bool) (l : List A) → length l ≤ k → length (cond t l (f a ∷ l)) ≤ suc k
+      go true l h = omega arith
+      go false l h = omega arith
+
+-- An array of m places that begins with what is gathered of the first p, n in all.
+pub record Filled {A : Type 0} (m : ℕ) (b : A) (f : ℕ → A) (rings : List ℕ) (p : ℕ) (out : List A) (n : ℕ) : Type 0 where
+  pub listed : out ≡ padded m b (gathered f rings p 0)
+  pub count : n ≡ length (gathered f rings p 0)
+  pub room : length out ≡ m
+
+pub fill-none : {A : Type 0} (m : ℕ) (b : A) (f : ℕ → A) (rings : List ℕ) → Filled m b f rings 0 (replicate m b) 0
+unfolding padded gathered
+fill-none m b f rings = record { listed = rw sub-zero; count = refl; room = length-replicate m b }
+
+-- one turn that puts a value after those that are there
+pub fill-next :
+    {A : Type 0} {m : ℕ} {b : A} {f : ℕ → A} {rings : List ℕ} {p : ℕ} {out : List A} {n : ℕ} (v : A) →
+    Filled m b f rings p out n → p < m → (getD rings p 0 ≡ 0 → ⊥) → v ≡ f p →
+    Filled m b f rings (p + 1) (set out n v) (n + 1)
+fill-next {m = m} {b} {f} {rings} {p} {out} {n} v w h z q =
+    let room : length (gathered f rings p 0) < m = omega (arith, gathered-le f rings p 0) in
+    let more : gathered f rings (p + 1) 0 ≡ gathered f rings p 0 ++ (f p ∷ []) = gathered-in f rings p z in
+    record {
+      listed = rw (more, w .listed, w .count, q) (padded-put m b (gathered f rings p 0) (f p) room);
+      count = rw (more, w .count, length-append) (omega arith);
+      room = length-set out n v ∙ w .room;
+    }
+
+-- and one that puts none
+pub fill-skip :
+    {A : Type 0} {m : ℕ} {b : A} {f : ℕ → A} {rings : List ℕ} {p : ℕ} {out : List A} {n : ℕ} →
+    Filled m b f rings p out n → getD rings p 0 ≡ 0 → Filled m b f rings (p + 1) out n
+fill-skip {f = f} {rings} {p} w z =
+    let same : gathered f rings (p + 1) 0 ≡ gathered f rings p 0 = gathered-out f rings p z in
+    record { listed = rw same (w .listed); count = rw same (w .count); room = w .room }
+
+-- how many there are does not depend on what is said of them
+pub gathered-length :
+    {A B : Type 0} (f : ℕ → A) (g : ℕ → B) (rings : List ℕ) (k a : ℕ) →
+    length (gathered f rings k a) ≡ length (gathered g rings k a)
+unfolding gathered
+gathered-length f g rings zero a = refl
+gathered-length {A = A} {B = B} f g rings (suc k) a = go (eqb (getD rings a 0) 0) _ _ (gathered-length f g rings k (a + 1))
+  where
+    go : (t : Bool) (l : List A) (m : List B) → length l ≡ length m → length (cond t l (f a ∷ l)) ≡ length (cond t m (g a ∷ m))
+    go true l m e = e
+    go false l m e = ap suc e
+
+-- `with_active`
+pub active-next :
+    (who : Owner) (c : Cells) (m : ℕ) (l : List Bool) (p n n′ : ℕ) (v : Bool) →
+    p < m → p < length l →
+    v ≡ cond (isOwned who c p) (ltb 0 n) (getD (c .active) p false) →
+    n′ ≡ cond (isOwned who c p) (n - 1) n →
+    take p l ++ activeFrom (m - p) p who n c
+    ≡ take (p + 1) (set l p v) ++ activeFrom (m - (p + 1)) (p + 1) who n′ c
+unfolding activeFrom
+active-next who c m l p n n′ v h g ev en =
+    let e : m - p ≡ suc (m - (p + 1)) = omega arith in
+    let t : take (p + 1) (set l p v) ≡ take p l ++ (v ∷ []) = rw add-one (take-suc-set l p v g) in
+    rw (e, t, append-assoc, ev, en) (go (isOwned who c p))
+  where
+    go :
+        (b : Bool) →
+        take p l ++ cond b (ltb 0 n ∷ activeFrom (m - (p + 1)) (p + 1) who (n - 1) c) (getD (c .active) p false ∷ activeFrom (m - (p + 1)) (p + 1) who n c)
+        ≡ take p l ++ (cond b (ltb 0 n) (getD (c .active) p false) ∷ activeFrom (m - (p + 1)) (p + 1) who (cond b (n - 1) n) c)
+    go true = refl
+    go false = refl
+
+pub active-done :
+    (who : Owner) (c : Cells) (m : ℕ) (l : List Bool) (p n : ℕ) →
+    m ≤ p → length l ≤ p → take p l ++ activeFrom (m - p) p who n c ≡ l
+unfolding activeFrom
+active-done who c m l p n h g = let e : m - p ≡ zero = omega arith in rw (e, take-all p l g, append-nil)
+
+-- the first of those from the i-th on
+first-drop : {A : Type 0} (i : ℕ) (l : List A) (d : A) → getD (drop i l) 0 d ≡ getD l i d
+first-drop i l d = getD-drop i l 0 d ∙ rw (add-zero i)
+
+-- `cells_of`
+cells-step :
+    (m : ℕ) (eps eps′ : List Endpoint) (owners owners′ : List ℕ) (c : Cells) (e : Endpoint) (o : ℕ) →
+    drop 1 eps ≡ eps′ → drop 1 owners ≡ owners′ → getD eps 0 blank ≡ e → getD owners 0 0 ≡ o →
+    cellsFrom (suc m) eps owners c ≡ cellsFrom m eps′ owners′ (withCell c (placeOf (e .address)) (e .ring) o (isActive (e .handle)))
+unfolding cellsFrom
+cells-step m eps eps′ owners owners′ c e o p q r s = rw (← p, ← q, ← r, ← s)
+
+pub cells-next :
+    (eps : List Endpoint) (owners : List ℕ) (n i : ℕ) (c : Cells) →
+    i < n →
+    cellsFrom (n - i) (drop i eps) (drop i owners) c
+    ≡ cellsFrom (n - (i + 1)) (drop (i + 1) eps) (drop (i + 1) owners)
+    (withCell c (placeOf (getD eps i blank .address)) (getD eps i blank .ring) (getD owners i 0) (isActive (getD eps i blank .handle)))
+cells-next eps owners n i c h =
+    let e : n - i ≡ suc (n - (i + 1)) = omega arith in
+    rw e
+    (cells-step (n - (i + 1)) (drop i eps) (drop (i + 1) eps) (drop i owners) (drop (i + 1) owners) c (getD eps i blank) (getD owners i 0)
+    (drop-drop 1 i eps) (drop-drop 1 i owners) (first-drop i eps blank) (first-drop i owners 0))
+
+pub cells-done :
+    (eps : List Endpoint) (owners : List ℕ) (n i : ℕ) (c : Cells) → n ≤ i → cellsFrom (n - i) eps owners c ≡ c
+unfolding cellsFrom
+cells-done eps owners n i c h = let e : n - i ≡ zero = omega arith in rw e
+
+pub whole-none : Whole noCells
+unfolding noCells
+whole-none = record { rings = refl; owners = refl; active = refl }
+
+pub whole-cell :
+    (c : Cells) (place ring owner : ℕ) (on : Bool) → Whole c → Whole (withCell c place ring owner on)
+unfolding withCell
+whole-cell c place ring owner on w =
+    record {
+      rings = length-set (c .rings) place ring ∙ w .rings;
+      owners = length-set (c .owners) place owner ∙ w .owners;
+      active = length-set (c .active) place on ∙ w .active;
+    }
+
+-- `claimed_cells`
+pub cells-tabulated :
+    (out : Cells) (f g : ℕ → ℕ) (h : ℕ → Bool) (n : ℕ) →
+    out .rings ≡ tabulated f n 0 → out .owners ≡ tabulated g n 0 → out .active ≡ tabulated h n 0 →
+    out ≡ record { rings = tabulated f n 0; owners = tabulated g n 0; active = tabulated h n 0 }
+cells-tabulated out f g h n p q r = rw (← p, ← q, ← r)
+
+-- `address_again` and `addresses_fit`
+pub addresses-length : (eps : List Endpoint) → length (addresses eps) ≡ length eps
+unfolding addresses
+addresses-length [] = refl
+addresses-length (e ∷ eps) = ap suc (addresses-length eps)
+
+pub addresses-at : (eps : List Endpoint) (i : ℕ) → getD (addresses eps) i 0 ≡ getD eps i blank .address
+unfolding addresses
+addresses-at [] i = refl
+addresses-at (e ∷ eps) zero = refl
+addresses-at (e ∷ eps) (suc i) = addresses-at eps i
+
+module _ (eps : List Endpoint) (n i : ℕ) (room : n ≤ length eps) where
+  listed : length (addresses (take n eps)) ≡ n
+  listed = addresses-length (take n eps) ∙ length-take-le n eps room
+
+  next : i < n → drop i (addresses (take n eps)) ≡ (getD eps i blank .address) ∷ drop (i + 1) (addresses (take n eps))
+  next h =
+      let l = addresses (take n eps) in
+      let a : getD l i 0 ≡ getD eps i blank .address = addresses-at (take n eps) i ∙ rw (getD-take n eps i blank h) in
+      rw (← a, add-one i) (drop-cons l i 0 (rw listed h))
+
+  none : n ≤ i → drop i (addresses (take n eps)) ≡ []
+  none h = let g : length (addresses (take n eps)) ≤ i = rw listed h in drop-of-length-le (addresses (take n eps)) g
+
+  pub again-next :
+      (x : ℕ) → i < n →
+      elem x (drop i (addresses (take n eps))) ≡ eqb x (getD eps i blank .address) || elem x (drop (i + 1) (addresses (take n eps)))
+  unfolding elem
+  again-next x h = rw (next h)
+
+  pub again-none : (x : ℕ) → n ≤ i → elem x (drop i (addresses (take n eps))) ≡ false
+  unfolding elem
+  again-none x h = rw (none h)
+
+  pub fit-next :
+      i < n →
+      addressesFit (drop i (addresses (take n eps)))
+      ≡ (ltb (placeOf (getD eps i blank .address)) 30 && not (elem (getD eps i blank .address) (drop (i + 1) (addresses (take n eps)))))
+      && addressesFit (drop (i + 1) (addresses (take n eps)))
+  unfolding addressesFit
+  fit-next h = rw (next h)
+
+  pub fit-none : n ≤ i → addressesFit (drop i (addresses (take n eps))) ≡ true
+  unfolding addressesFit
+  fit-none h = rw (none h)
+
+-- `pending_rings`
+pending-step :
+    (w : ℕ) (ws rings rings′ by : List ℕ) (r : ℕ) →
+    drop 1 rings ≡ rings′ → getD rings 0 0 ≡ r →
+    pendingFrom (w ∷ ws) rings by ≡ pendingFrom ws rings′ (set by (placeOf ((endpointDescriptor w) .address)) r)
+unfolding pendingFrom
+pending-step w ws rings rings′ by r p q = rw (← p, ← q)
+
+pub pending-next :
+    (words rings by : List ℕ) (i : ℕ) →
+    i < length words →
+    pendingFrom (drop i words) (drop i rings) by
+    ≡ pendingFrom (drop (i + 1) words) (drop (i + 1) rings) (set by (placeOf ((endpointDescriptor (getD words i 0)) .address)) (getD rings i 0))
+pending-next words rings by i h =
+    let e : drop i words ≡ getD words i 0 ∷ drop (i + 1) words = rw (add-one i) (drop-cons words i 0 h) in
+    rw e
+    (pending-step (getD words i 0) (drop (i + 1) words) (drop i rings) (drop (i + 1) rings) by (getD rings i 0)
+    (drop-drop 1 i rings) (first-drop i rings 0))
+
+pub pending-none : (words rings by : List ℕ) (i : ℕ) → length words ≤ i → pendingFrom (drop i words) rings by ≡ by
+unfolding pendingFrom
+pending-none words rings by i h = rw (drop-of-length-le words h)
+
+-- the arrays of `queues_of` are of its queues
+pub queues-dcis :
+    (by rings : List ℕ) (k a : ℕ) →
+    queueDcis (gathered (λ p. record { dci = dciAt p; ring = getD by p 0 }) rings k a) ≡ gathered dciAt rings k a
+unfolding gathered queueDcis
+queues-dcis by rings zero a = refl
+queues-dcis by rings (suc k) a = go (eqb (getD rings a 0) 0) _ _ (queues-dcis by rings k (a + 1))
+  where
+    go :
+        (t : Bool) (l : List Queue) (m : List ℕ) → queueDcis l ≡ m →
+        queueDcis (cond t l (record { dci = dciAt a; ring = getD by a 0 } ∷ l)) ≡ cond t m (dciAt a ∷ m)
+    go true l m e = e
+    go false l m e = ap (λ (r : List ℕ). dciAt a ∷ r) e
+
+pub queues-rings :
+    (by rings : List ℕ) (k a : ℕ) →
+    queueRings (gathered (λ p. record { dci = dciAt p; ring = getD by p 0 }) rings k a)
+    ≡ gathered (λ p. getD by p 0) rings k a
+unfolding gathered queueRings
+queues-rings by rings zero a = refl
+queues-rings by rings (suc k) a = go (eqb (getD rings a 0) 0) _ _ (queues-rings by rings k (a + 1))
+  where
+    go :
+        (t : Bool) (l : List Queue) (m : List ℕ) → queueRings l ≡ m →
+        queueRings (cond t l (record { dci = dciAt a; ring = getD by a 0 } ∷ l)) ≡ cond t m (getD by a 0 ∷ m)
+    go true l m e = e
+    go false l m e = ap (λ (r : List ℕ). getD by a 0 ∷ r) e

@@ -1,0 +1,69 @@
+use mathlib.Core.Path.{refl}
+use Prim.Native.Nat.{_≤_, _-_}
+use mathlib.Core.Bool.{cond}
+use lib.ListN.{getD}
+use Rattle.endpoint.specs.Cells.{isOwned, ownedRings}
+use Rattle.endpoint.proofs.Steps.{Written, write-none, write-next, write-done}
+use borrow.Author.Needs.{needs}
+use Rattle.endpoint.proofs.cells.owned_rings.Statement.{statement}
+use Rattle.endpoint.proofs.cells.owned_rings.Tie as tie
+
+abbrev Inv-loop : tie.InvT-loop
+Inv-loop who c rings₀ p₀ rings p =
+    (p ≤ 30) × Written 30 (λ q. cond (isOwned who c q) (getD (c .rings) q 0) 0) p rings
+
+abbrev μ-loop : tie.MeasureT-loop
+μ-loop who c rings₀ p₀ rings p = 30 - p
+
+loop-holds : tie.Need-loop-holds Inv-loop μ-loop
+loop-holds c = (search needs, write-none _ _ _ refl)
+
+mul-owned-ring : tie.Need-mul-owned-ring Inv-loop μ-loop
+mul-owned-ring c = search needs
+
+element-copy-out-owned-ring : tie.Need-element-copy-out-owned-ring Inv-loop μ-loop
+element-copy-out-owned-ring c = search needs
+
+element-copy-out-owned-ring-2 : tie.Need-element-copy-out-owned-ring-2 Inv-loop μ-loop
+element-copy-out-owned-ring-2 c = search needs
+
+owned-ring-requires : tie.Need-owned-ring-requires Inv-loop μ-loop
+owned-ring-requires c κs = search needs
+
+mul-rings : tie.Need-mul-rings Inv-loop μ-loop
+mul-rings c = search needs
+
+array-write-rings : tie.Need-array-write-rings Inv-loop μ-loop
+array-write-rings c = search needs
+
+add-p : tie.Need-add-p Inv-loop μ-loop
+add-p c = search needs
+
+loop-less : tie.Need-loop-less Inv-loop μ-loop
+loop-less c = search needs
+
+loop-again : tie.Need-loop-again Inv-loop μ-loop
+unfolding isOwned
+loop-again c = (search needs, write-next _ (c .before .before .before .before .loop .inv .1) (c .before .before .before .loop-test .taken) (c .owned-ring .ensures))
+
+returns : tie.Need-returns Inv-loop μ-loop
+unfolding ownedRings
+returns c = write-done (c .before .loop .inv .1) (c .loop-test .left) (c .before .loop .inv .0)
+
+pub owned-rings-spec : {M : Type 1} → statement M
+owned-rings-spec =
+    tie.close
+    (tie.spec
+    Inv-loop
+    μ-loop
+    loop-holds
+    mul-owned-ring
+    element-copy-out-owned-ring
+    element-copy-out-owned-ring-2
+    owned-ring-requires
+    mul-rings
+    array-write-rings
+    add-p
+    loop-less
+    loop-again
+    returns)

@@ -1,0 +1,92 @@
+use mathlib.Core.Path.{_≡_, sym, _∙_}
+use borrow.Author.Tests.{lt-ltb, le-ltb}
+use Prim.Native.Nat.{_≤_, _-_}
+use native.Mathlib.Omega.{arith}
+use lib.ListN.{length, take, drop}
+use Rattle.endpoint.specs.Endpoint.{addresses, addressesFit}
+use Rattle.endpoint.proofs.Steps.{fit-next, fit-none}
+use borrow.Author.Needs.{needs}
+use Rattle.endpoint.proofs.entry.addresses_fit.Statement.{statement}
+use Rattle.endpoint.proofs.entry.addresses_fit.Tie as tie
+
+abbrev Inv-loop : tie.InvT-loop
+Inv-loop n eps i₀ i =
+    (i ≤ n)
+    × (length eps ≡ 30)
+    × (addressesFit (addresses (take n eps)) ≡ addressesFit (drop i (addresses (take n eps))))
+
+abbrev μ-loop : tie.MeasureT-loop
+μ-loop n eps i₀ i = n - i
+
+loop-holds : tie.Need-loop-holds Inv-loop μ-loop
+loop-holds c = search needs
+
+mul-e : tie.Need-mul-e Inv-loop μ-loop
+mul-e c = search needs
+
+array-copy-out-e : tie.Need-array-copy-out-e Inv-loop μ-loop
+array-copy-out-e c = search needs
+
+add-i : tie.Need-add-i Inv-loop μ-loop
+add-i c = search needs
+
+place-of-requires : tie.Need-place-of-requires Inv-loop μ-loop
+place-of-requires c κs = search needs
+
+returns : tie.Need-returns Inv-loop μ-loop
+returns c =
+    let l = c .before .before .before .before .loop in
+    let a = c .before .place-of in
+    sym
+    (l .inv .2
+    ∙ fit-next _ _ _ (omega (arith, l .inv .1)) (c .before .before .before .loop-test .taken)
+    ∙ rw (← a .ensures .0, le-ltb (a .result) 30 (omega arith)))
+
+address-again-requires : tie.Need-address-again-requires Inv-loop μ-loop
+address-again-requires c κs = search needs
+
+returns-2 : tie.Need-returns-2 Inv-loop μ-loop
+returns-2 c =
+    let l = c .before .before .before .before .before .before .loop in
+    let a = c .before .before .before .place-of in
+    sym
+    (l .inv .2
+    ∙ fit-next _ _ _ (omega (arith, l .inv .1)) (c .before .before .before .before .before .loop-test .taken)
+    ∙ rw (← a .ensures .0, lt-ltb (a .result) 30 (omega (arith, a .ensures .1)), ← c .before .address-again .ensures, c .if2 .taken))
+
+loop-less : tie.Need-loop-less Inv-loop μ-loop
+loop-less c = search needs
+
+loop-again : tie.Need-loop-again Inv-loop μ-loop
+loop-again c =
+    let l = c .before .before .before .before .before .before .loop in
+    let a = c .before .before .before .place-of in (
+      search needs,
+      search needs,
+      l .inv .2
+          ∙ fit-next _ _ _ (omega (arith, l .inv .1)) (c .before .before .before .before .before .loop-test .taken)
+          ∙ rw (← a .ensures .0, lt-ltb (a .result) 30 (omega (arith, a .ensures .1)), ← c .before .address-again .ensures, c .if2 .left),
+    )
+
+returns-3 : tie.Need-returns-3 Inv-loop μ-loop
+returns-3 c =
+    let l = c .before .loop in
+    sym (l .inv .2 ∙ fit-none _ _ _ (omega (arith, l .inv .1)) (c .loop-test .left))
+
+pub addresses-fit-spec : {M : Type 1} → statement M
+addresses-fit-spec =
+    tie.close
+    (tie.spec
+    Inv-loop
+    μ-loop
+    loop-holds
+    mul-e
+    array-copy-out-e
+    add-i
+    place-of-requires
+    returns
+    address-again-requires
+    returns-2
+    loop-less
+    loop-again
+    returns-3)

@@ -1,0 +1,142 @@
+// The endpoints of a record by place: what the arrays say, whatever their order.
+use super::entry::Endpoint;
+use super::entry::Handle;
+use super::order;
+ghost use mathlib.Core.Path.{_≡_};
+ghost use mathlib.Core.Bool.{not, cond, _&&_};
+ghost use Prim.Native.Nat.{_≤_, _-_};
+ghost use lib.Dec.{eqb, ltb};
+ghost use Rattle.endpoint.specs.Cells.{Whole, noCells, withCell, isActive, cellsOf, owns, ownedRings, withActive};
+
+// Ring 0: no endpoint at that place.
+pub struct Cells {
+    pub rings: [u64; 30],
+    pub owners: [u8; 30],
+    pub active: [bool; 30],
+}
+
+// The endpoints of every interface, or of one.
+pub enum Owner {
+    Any,
+    Interface(u8),
+}
+
+pub fn no_cells() -> Cells
+    ensures { λ r. ⌜ r ≡ noCells ⌝ }
+{
+    Cells {
+        rings: [0; 30],
+        owners: [0; 30],
+        active: [false; 30],
+    }
+}
+
+fn is_active(h: Handle) -> bool
+    ensures { λ r. ⌜ r ≡ isActive h ⌝ }
+{
+    match h {
+        Handle::Active => true,
+        Handle::Revoked => false,
+    }
+}
+
+// A place past the end is none.
+fn with_cell(mut c: Cells, place: usize, ring: u64, owner: u8, on: bool) -> Cells
+    requires { ⌜ Whole c ⌝ }
+    ensures { λ r. ⌜ r ≡ withCell c place ring owner on ⌝ }
+{
+    if place < 30 {
+        c.rings[place] = ring;
+        c.owners[place] = owner;
+        c.active[place] = on;
+    }
+    c
+}
+
+// The cells of the first n endpoints of the arrays.
+pub fn cells_of(eps: [Endpoint; 30], owners: [u8; 30], n: usize) -> Cells
+    requires { ⌜ n ≤ 30 ⌝ }
+    ensures { λ r. ⌜ r ≡ cellsOf n eps owners ⌝ }
+{
+    let mut c = no_cells();
+    let mut i = 0;
+    while i < n {
+        let e = eps[i];
+        let h = e.handle;
+        let on = is_active(h);
+        let place = order::place_of(e.address);
+        c = with_cell(c, place, e.ring, owners[i], on);
+        i += 1;
+    }
+    c
+}
+
+fn owns(who: Owner, owner: u8) -> bool
+    ensures { λ r. ⌜ r ≡ owns who owner ⌝ }
+{
+    match who {
+        Owner::Any => true,
+        Owner::Interface(i) => owner == i,
+    }
+}
+
+pub fn is_owned(who: Owner, ring: u64, owner: u8) -> bool
+    ensures { λ r. ⌜ r ≡ not (eqb ring 0) && owns who owner ⌝ }
+{
+    if ring == 0 {
+        return false;
+    }
+    owns(who, owner)
+}
+
+fn owned_ring(who: Owner, ring: u64, owner: u8) -> u64
+    ensures { λ r. ⌜ r ≡ cond (not (eqb ring 0) && owns who owner) ring 0 ⌝ }
+{
+    if is_owned(who, ring, owner) { ring } else { 0 }
+}
+
+// The rings of an owner's endpoints by place, 0 elsewhere.
+pub fn owned_rings(who: Owner, c: Cells) -> [u64; 30]
+    ensures { λ r. ⌜ r ≡ ownedRings who c ⌝ }
+{
+    let mut rings = [0u64; 30];
+    let mut p = 0;
+    while p < 30 {
+        rings[p] = owned_ring(who, c.rings[p], c.owners[p]);
+        p += 1;
+    }
+    rings
+}
+
+// Whether an endpoint is active: one that is owned, while some are left to be.
+fn active_after(owned: bool, left: usize, on: bool) -> bool
+    ensures { λ r. ⌜ r ≡ cond owned (ltb 0 left) on ⌝ }
+{
+    if owned { 0 < left } else { on }
+}
+
+fn left_after(owned: bool, left: usize) -> usize
+    ensures { λ r. ⌜ r ≡ cond owned (left - 1) left ⌝ }
+{
+    if owned {
+        return if left == 0 { 0 } else { left - 1 };
+    }
+    left
+}
+
+// Of an owner's endpoints, by rising address, the first n active and the others revoked.
+pub fn with_active(who: Owner, n: usize, mut c: Cells) -> Cells
+    ensures { λ r. ⌜ r ≡ withActive who n c ⌝ }
+{
+    let mut active = [false; 30];
+    let mut left = n;
+    let mut p = 0;
+    while p < 30 {
+        let owned = is_owned(who, c.rings[p], c.owners[p]);
+        active[p] = active_after(owned, left, c.active[p]);
+        left = left_after(owned, left);
+        p += 1;
+    }
+    c.active = active;
+    c
+}

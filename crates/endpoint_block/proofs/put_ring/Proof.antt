@@ -1,0 +1,26 @@
+use Rattle.block.specs.Setting.{settled}
+use Rattle.block.specs.Blocks.{ringSettings}
+use borrow.Author.Needs.{needs}
+use Rattle.endpoint_block.proofs.put_ring.Statement.{statement}
+use Rattle.endpoint_block.proofs.put_ring.Tie as tie
+
+put-field-requires : tie.Need-put-field-requires
+put-field-requires c κs = search needs
+
+put-field-requires-2 : tie.Need-put-field-requires-2
+put-field-requires-2 c κs = search needs
+
+put-field-requires-3 : tie.Need-put-field-requires-3
+put-field-requires-3 c κs = search needs
+
+same-length : tie.Need-same-length
+same-length c = search needs
+
+returns : tie.Need-returns
+unfolding settled ringSettings
+returns c = rw (c .before .before .put-field3 .ensures, c .before .before .before .before .before .before .put-field2 .ensures, c .before .before .before .before .before .before .before .before .before .before .put-field .ensures)
+
+pub put-ring-spec : {M : Type 1} → statement M
+put-ring-spec =
+    tie.close
+    (tie.spec put-field-requires put-field-requires-2 put-field-requires-3 same-length returns)

@@ -1,0 +1,156 @@
+// The Endpoint Context: what each step makes of its block (context.rs and device.rs of the original).
+use descriptor::EndpointDescriptor;
+use descriptor::TransferType;
+use field::Field;
+ghost use mathlib.Core.Path.{_≡_};
+ghost use mathlib.Core.List.{[], _∷_};
+ghost use lib.ListN.{length};
+ghost use Rattle.block.specs.Fields.{MAX-PACKET-SIZE};
+ghost use Rattle.block.specs.Setting.{_:=_, settled};
+ghost use Rattle.block.specs.Blocks.{errorCount, ringSettings, addressEndpoint, periodicSettings, basicSettings, endpointSettings};
+
+// Fields by the names of xHCI 1.2, section 6.2: crates/block/specs/Fields.antt.
+const MULT: Field = Field {
+    word: 0,
+    low: 8,
+    width: 2,
+};
+
+const INTERVAL: Field = Field {
+    word: 0,
+    low: 16,
+    width: 8,
+};
+
+const CERR: Field = Field {
+    word: 1,
+    low: 1,
+    width: 2,
+};
+
+const EP_TYPE: Field = Field {
+    word: 1,
+    low: 3,
+    width: 3,
+};
+
+const MAX_BURST_SIZE: Field = Field {
+    word: 1,
+    low: 8,
+    width: 8,
+};
+
+const MAX_PACKET_SIZE: Field = Field {
+    word: 1,
+    low: 16,
+    width: 16,
+};
+
+const DCS: Field = Field {
+    word: 2,
+    low: 0,
+    width: 1,
+};
+
+const TR_DEQUEUE_POINTER_LO: Field = Field {
+    word: 2,
+    low: 4,
+    width: 28,
+};
+
+const TR_DEQUEUE_POINTER_HI: Field = Field {
+    word: 3,
+    low: 0,
+    width: 32,
+};
+
+const AVERAGE_TRB_LENGTH: Field = Field {
+    word: 4,
+    low: 0,
+    width: 16,
+};
+
+const MAX_ESIT_PAYLOAD_LO: Field = Field {
+    word: 4,
+    low: 16,
+    width: 16,
+};
+
+fn error_count(t: TransferType) -> u64
+    ensures { λ r. ⌜ r ≡ errorCount t ⌝ }
+{
+    match t {
+        TransferType::Control => 3,
+        TransferType::Isochronous => 0,
+        TransferType::Bulk => 3,
+        TransferType::Interrupt => 3,
+    }
+}
+
+fn put_ring(block: &mut [u8], ring: u64)
+    requires { ⌜ length (now block) ≡ 32 ⌝ }
+    ensures { λ r. ⌜ now (block .exit) ≡ settled (ringSettings ring) (now (block .entry)) ⌝ }
+{
+    field::put_field(block, TR_DEQUEUE_POINTER_LO, ring / 0x10);
+    field::put_field(block, TR_DEQUEUE_POINTER_HI, ring / 0x1_0000_0000);
+    field::put_field(block, DCS, 1);
+}
+
+pub fn put_max_packet_size(block: &mut [u8], size: u16)
+    requires { ⌜ length (now block) ≡ 32 ⌝ }
+    ensures { λ r. ⌜ now (block .exit) ≡ settled ((MAX-PACKET-SIZE := size) ∷ []) (now (block .entry)) ⌝ }
+{
+    field::put_field(block, MAX_PACKET_SIZE, size as u64);
+}
+
+// The control endpoint that Address is given, over a block that is all 0.
+pub fn address_endpoint(block: &mut [u8], speed: u8, ring: u64)
+    requires { ⌜ length (now block) ≡ 32 ⌝ }
+    ensures { λ r. ⌜ now (block .exit) ≡ settled (addressEndpoint speed ring) (now (block .entry)) ⌝ }
+{
+    let first_size = def::parse_default_max_packet_size_from_port_speed(speed);
+    field::put_field(block, CERR, 3);
+    field::put_field(block, EP_TYPE, 4);
+    field::put_field(block, MAX_PACKET_SIZE, first_size as u64);
+    field::put_field(block, AVERAGE_TRB_LENGTH, 8);
+    put_ring(block, ring);
+}
+
+fn put_periodic(block: &mut [u8], burst: u8, payload: u16)
+    requires { ⌜ length (now block) ≡ 32 ⌝ }
+    ensures { λ r. ⌜ now (block .exit) ≡ settled (periodicSettings burst payload) (now (block .entry)) ⌝ }
+{
+    field::put_field(block, MAX_BURST_SIZE, burst as u64);
+    field::put_field(block, MULT, 0);
+    field::put_field(block, AVERAGE_TRB_LENGTH, payload as u64);
+    field::put_field(block, MAX_ESIT_PAYLOAD_LO, payload as u64);
+}
+
+fn put_basic(block: &mut [u8], e: EndpointDescriptor, speed: u8)
+    requires { ⌜ length (now block) ≡ 32 ⌝ }
+    ensures { λ r. ⌜ now (block .exit) ≡ settled (basicSettings speed e) (now (block .entry)) ⌝ }
+{
+    let t = e.transfer_type;
+    let interval = periodic::calculate_xhci_interval(e.interval, t, speed);
+    let kind = periodic::endpoint_type(t, e.address);
+    let count = error_count(t);
+    field::put_field(block, INTERVAL, interval as u64);
+    field::put_field(block, CERR, count);
+    field::put_field(block, EP_TYPE, kind as u64);
+    field::put_field(block, MAX_PACKET_SIZE, e.max_packet_size as u64);
+}
+
+// An endpoint's block, from its descriptor and its ring. Other fields keep what they hold.
+pub fn put_endpoint(block: &mut [u8], e: EndpointDescriptor, speed: u8, ring: u64)
+    requires { ⌜ length (now block) ≡ 32 ⌝ }
+    ensures { λ r. ⌜ now (block .exit) ≡ settled (endpointSettings speed e ring) (now (block .entry)) ⌝ }
+{
+    let t = e.transfer_type;
+    put_basic(block, e, speed);
+    put_ring(block, ring);
+    if periodic::is_periodic(t) {
+        let burst = periodic::periodic_burst_size(t, e.packets_per_microframe, speed);
+        let payload = periodic::max_esit_payload(e.max_packet_size, burst);
+        put_periodic(block, burst, payload);
+    }
+}

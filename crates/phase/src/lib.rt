@@ -1,0 +1,230 @@
+// What the courses of claim, release and set configuration share: parts of arrays lent on, and how a course ends.
+use answer::Answer;
+use command::Sent;
+use command::Swept;
+use def::SlotId;
+use endpoint::Queues;
+use transfer::Replaced;
+ghost use mathlib.Core.Path.{_≡_};
+ghost use mathlib.Core.List.{List, []};
+ghost use mathlib.Core.Bool.{true, false};
+ghost use Prim.Native.Nat.{ℕ, _+_, _*_, _<_, _≤_};
+ghost use lib.ListN.{length, take};
+ghost use Rattle.command.specs.Course.{played};
+ghost use Rattle.command.specs.Sweep.{stopAll, resumeAll, SweptAs};
+ghost use Rattle.context.specs.Place.{written, Spaced};
+ghost use Rattle.context.specs.Steps.{configureWrites, highestDci};
+ghost use Rattle.transfer.specs.Routes.{queues, replaced, withReplaced};
+ghost use Rattle.phase.specs.End.{answerOf, configureFailed};
+ghost use Rattle.phase.specs.Lent.{dcisIn, queuesIn};
+
+// How a course ended: of the old endpoints, by rising address, how many are active, and whether they are gone.
+pub struct Ended {
+    pub answer: Answer,
+    pub count: usize,
+    pub active: usize,
+    pub moved: bool,
+}
+
+fn stop_first(log: &mut [u32], outcomes: &[u8], n: usize, dcis: [u8; 30], count: usize) -> Swept
+    requires { ⌜ (count ≤ 30) × (n + 2 * count ≤ length (now log)) ⌝ }
+    ensures { λ r. ⌜ ((ctx : List ℕ) → SweptAs r (now (log .exit)) (played (now (outcomes .entry)) n (stopAll ctx (take count dcis)) (now (log .entry)))) ⌝ }
+{
+    command::stop_all(log, outcomes, n, &dcis[0..count])
+}
+
+// Stops the endpoints of some queues.
+pub fn stop_queues(log: &mut [u32], outcomes: &[u8], n: usize, q: Queues) -> Swept
+    requires { ⌜ (q .count ≤ 30) × (n + 2 * q .count ≤ length (now log)) ⌝ }
+    ensures { λ r. ⌜ ((ctx : List ℕ) → SweptAs r (now (log .exit)) (played (now (outcomes .entry)) n (stopAll ctx (dcisIn q)) (now (log .entry)))) ⌝ }
+{
+    let dcis = q.dcis;
+    stop_first(log, outcomes, n, dcis, q.count)
+}
+
+fn resume_first(log: &mut [u32], outcomes: &[u8], n: usize, dcis: [u8; 30], count: usize) -> Swept
+    requires { ⌜ (count ≤ 30) × (n + count ≤ length (now log)) ⌝ }
+    ensures { λ r. ⌜ ((ctx : List ℕ) → SweptAs r (now (log .exit)) (played (now (outcomes .entry)) n (resumeAll ctx (take count dcis)) (now (log .entry)))) ⌝ }
+{
+    command::resume_all(log, outcomes, n, &dcis[0..count])
+}
+
+// Resumes the endpoints of some queues.
+pub fn resume_queues(log: &mut [u32], outcomes: &[u8], n: usize, q: Queues) -> Swept
+    requires { ⌜ (q .count ≤ 30) × (n + q .count ≤ length (now log)) ⌝ }
+    ensures { λ r. ⌜ ((ctx : List ℕ) → SweptAs r (now (log .exit)) (played (now (outcomes .entry)) n (resumeAll ctx (dcisIn q)) (now (log .entry)))) ⌝ }
+{
+    let dcis = q.dcis;
+    resume_first(log, outcomes, n, dcis, q.count)
+}
+
+fn replace_first(
+    routes: &mut [u64],
+    slot: SlotId,
+    old_dcis: [u8; 30],
+    old_rings: [u64; 30],
+    old_count: usize,
+    new_dcis: [u8; 30],
+    new_rings: [u64; 30],
+    new_count: usize,
+) -> Replaced
+    requires { ⌜ («old_count» ≤ 30) × («new_count» ≤ 30) ⌝ }
+    ensures { λ r. ⌜ (r ≡ replaced (now (routes .entry)) (slot .0) (queues (take «old_count» «old_dcis») (take «old_count» «old_rings»)) (queues (take «new_count» «new_dcis») (take «new_count» «new_rings»))) × (now (routes .exit) ≡ withReplaced (now (routes .entry)) (slot .0) (queues (take «old_count» «old_dcis») (take «old_count» «old_rings»)) (queues (take «new_count» «new_dcis») (take «new_count» «new_rings»))) ⌝ }
+{
+    transfer::replace_queues(
+        routes,
+        slot,
+        &old_dcis[0..old_count],
+        &old_rings[0..old_count],
+        &new_dcis[0..new_count],
+        &new_rings[0..new_count],
+    )
+}
+
+// Takes the routes of some queues out and puts those of others in.
+pub fn publish_endpoint_routes(
+    routes: &mut [u64],
+    slot: SlotId,
+    old: Queues,
+    new: Queues,
+) -> Replaced
+    requires { ⌜ (old .count ≤ 30) × (new .count ≤ 30) ⌝ }
+    ensures { λ r. ⌜ (r ≡ replaced (now (routes .entry)) (slot .0) (queuesIn old) (queuesIn new)) × (now (routes .exit) ≡ withReplaced (now (routes .entry)) (slot .0) (queuesIn old) (queuesIn new)) ⌝ }
+{
+    let old_dcis = old.dcis;
+    let old_rings = old.rings;
+    let new_dcis = new.dcis;
+    let new_rings = new.rings;
+    replace_first(
+        routes,
+        slot,
+        old_dcis,
+        old_rings,
+        old.count,
+        new_dcis,
+        new_rings,
+        new.count,
+    )
+}
+
+pub fn no_queues() -> Queues
+    ensures { λ r. ⌜ (queuesIn r ≡ []) × (r .count ≡ 0) ⌝ }
+{
+    Queues {
+        dcis: [0; 30],
+        rings: [0; 30],
+        count: 0,
+    }
+}
+
+fn prepare_first(
+    ctx: &mut [u8],
+    spacing: usize,
+    speed: u8,
+    interface: u8,
+    alternate: u8,
+    dropped: &[u32],
+    added: &[u32],
+    dcis: [u8; 30],
+    rings: [u64; 30],
+    count: usize,
+    all: [u8; 30],
+    all_count: usize,
+)
+    requires { ⌜ Spaced spacing (length (now ctx)) ⌝ }
+    requires { ⌜ (count ≤ 30) × («all_count» ≤ 30) × (highestDci (take «all_count» all) < 255) ⌝ }
+    ensures { λ r. ⌜ now (ctx .exit) ≡ written spacing (configureWrites speed interface alternate (now (dropped .entry)) (now (added .entry)) (queues (take count dcis) (take count rings)) (take «all_count» all)) (now (ctx .entry)) ⌝ }
+{
+    configure_context::prepare_configure_context(
+        ctx,
+        spacing,
+        speed,
+        interface,
+        alternate,
+        dropped,
+        added,
+        &dcis[0..count],
+        &rings[0..count],
+        &all[0..all_count],
+    );
+}
+
+// The context of a Configure, with the rings of some queues for the added words; `all` are the record's endpoints.
+pub fn prepare_configure(
+    ctx: &mut [u8],
+    spacing: usize,
+    speed: u8,
+    interface: u8,
+    alternate: u8,
+    dropped: &[u32],
+    added: &[u32],
+    q: Queues,
+    all: Queues,
+)
+    requires { ⌜ Spaced spacing (length (now ctx)) ⌝ }
+    requires { ⌜ (q .count ≤ 30) × (all .count ≤ 30) × (highestDci (dcisIn all) < 255) ⌝ }
+    ensures { λ r. ⌜ now (ctx .exit) ≡ written spacing (configureWrites speed interface alternate (now (dropped .entry)) (now (added .entry)) (queuesIn q) (dcisIn all)) (now (ctx .entry)) ⌝ }
+{
+    let dcis = q.dcis;
+    let rings = q.rings;
+    let d = all.dcis;
+    prepare_first(
+        ctx,
+        spacing,
+        speed,
+        interface,
+        alternate,
+        dropped,
+        added,
+        dcis,
+        rings,
+        q.count,
+        d,
+        all.count,
+    );
+}
+
+pub fn answer_of(s: Sent) -> Answer
+    ensures { λ r. ⌜ r ≡ answerOf s ⌝ }
+{
+    match s {
+        Sent::Done => Answer::Accepted,
+        Sent::Failed(code) => Answer::Failed(code),
+        Sent::Cut => Answer::Cut,
+    }
+}
+
+// The answer after a failed Configure of a release or a set configuration.
+pub fn configure_failed(code: u8, s: Sent) -> Answer
+    ensures { λ r. ⌜ r ≡ configureFailed code s ⌝ }
+{
+    match s {
+        Sent::Done => Answer::Failed(code),
+        Sent::Failed(_) => Answer::Failed(code),
+        Sent::Cut => Answer::Cut,
+    }
+}
+
+// An end that leaves the routes and the held settings as they were.
+pub fn stays(answer: Answer, count: usize, active: usize) -> Ended
+    ensures { λ r. ⌜ r ≡ record { answer = answer; count = count; active = active; moved = false } ⌝ }
+{
+    Ended {
+        answer: answer,
+        count: count,
+        active: active,
+        moved: false,
+    }
+}
+
+// An end after which the old endpoints are gone.
+pub fn moves(answer: Answer, count: usize) -> Ended
+    ensures { λ r. ⌜ r ≡ record { answer = answer; count = count; active = 0; moved = true } ⌝ }
+{
+    Ended {
+        answer: answer,
+        count: count,
+        active: 0,
+        moved: true,
+    }
+}

@@ -1,0 +1,66 @@
+use native.Mathlib.Nat.{sub-zero}
+use borrow.Author.Needs.{needs}
+use Prim.Native.Nat.{_≤_, _-_}
+use mathlib.Core.Path.{_≡_, sym, _∙_}
+use lib.ListN.{length}
+use Rattle.context.specs.Place.{written}
+use Rattle.context.specs.Steps.{addAll}
+use Rattle.transfer.specs.Routes.{queues}
+use Rattle.settings.specs.Held.{heldIn, heldWords}
+use Rattle.set_configuration.proofs.Steps.{wordsFrom, add-next, add-end}
+use Rattle.set_configuration.proofs.held.add_held.Statement.{statement}
+use Rattle.set_configuration.proofs.held.add_held.Tie as tie
+
+abbrev Inv-loop : tie.InvT-loop
+Inv-loop ctx₀ spacing speed list n dcis rings interfaces alternates i₀ ctx i =
+    (i ≤ n) × (length ctx ≡ length ctx₀) × (written spacing (addAll speed (queues dcis rings) (heldWords list (heldIn n interfaces alternates))) ctx₀ ≡ written spacing (addAll speed (queues dcis rings) (wordsFrom list interfaces alternates n i)) ctx)
+
+abbrev μ-loop : tie.MeasureT-loop
+μ-loop ctx₀ spacing speed list n dcis rings interfaces alternates i₀ ctx i = n - i
+
+loop-holds : tie.Need-loop-holds Inv-loop μ-loop
+loop-holds c = (search needs, search needs, rw sub-zero)
+
+array-read-setting-words : tie.Need-array-read-setting-words Inv-loop μ-loop
+array-read-setting-words c = search needs
+
+array-read-setting-words-2 : tie.Need-array-read-setting-words-2 Inv-loop μ-loop
+array-read-setting-words-2 c = search needs
+
+setting-words-requires : tie.Need-setting-words-requires Inv-loop μ-loop
+setting-words-requires c κs = search needs
+
+add-endpoints-requires : tie.Need-add-endpoints-requires Inv-loop μ-loop
+add-endpoints-requires c κs = search needs
+
+add-i : tie.Need-add-i Inv-loop μ-loop
+add-i c = search needs
+
+loop-less : tie.Need-loop-less Inv-loop μ-loop
+loop-less c = search needs
+
+loop-again : tie.Need-loop-again Inv-loop μ-loop
+loop-again c = (search needs, search needs, c .before .before .before .before .before .before .loop .inv .2 ∙ add-next _ _ _ _ _ _ (c .before .before .before .before .before .loop-test .taken) (c .before .before .before .before .setting-words .ensures) _ _ _ _ _ (c .before .before .add-endpoints .ensures))
+
+same-length : tie.Need-same-length Inv-loop μ-loop
+same-length c = search needs
+
+returns : tie.Need-returns Inv-loop μ-loop
+returns c = sym (c .before .loop .inv .2 ∙ add-end _ _ _ _ _ (c .loop-test .left) _ _ _ _)
+
+pub add-held-spec : {M : Type 1} → statement M
+add-held-spec =
+    tie.close
+    (tie.spec
+    Inv-loop
+    μ-loop
+    loop-holds
+    array-read-setting-words
+    array-read-setting-words-2
+    setting-words-requires
+    add-endpoints-requires
+    add-i
+    loop-less
+    loop-again
+    same-length
+    returns)

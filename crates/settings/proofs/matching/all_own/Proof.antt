@@ -1,0 +1,64 @@
+use Prim.Native.Nat.{_-_}
+use mathlib.Core.Path.{_≡_, sym, _∙_}
+use native.Mathlib.Nat.{sub-zero}
+use borrow.Author.Needs.{needs}
+use borrow.Author.Tests.{not-true, not-false}
+use lib.ListN.{drop}
+use Rattle.settings.specs.Held.{heldIn}
+use Rattle.settings.specs.Match.{allOwn}
+use Rattle.settings.proofs.Steps.{passed-next, passed-none}
+use Rattle.settings.proofs.matching.all_own.Statement.{statement}
+use Rattle.settings.proofs.matching.all_own.Tie as tie
+
+abbrev Inv-loop : tie.InvT-loop
+Inv-loop list n c interfaces alternates i₀ i =
+    allOwn list (heldIn n interfaces alternates) c ≡ allOwn list (heldIn (n - i) (drop i interfaces) (drop i alternates)) c
+
+abbrev μ-loop : tie.MeasureT-loop
+μ-loop list n c interfaces alternates i₀ i = n - i
+
+loop-holds : tie.Need-loop-holds Inv-loop μ-loop
+loop-holds c = rw sub-zero
+
+array-read-owns-places : tie.Need-array-read-owns-places Inv-loop μ-loop
+array-read-owns-places c = search needs
+
+array-read-owns-places-2 : tie.Need-array-read-owns-places-2 Inv-loop μ-loop
+array-read-owns-places-2 c = search needs
+
+owns-places-requires : tie.Need-owns-places-requires Inv-loop μ-loop
+owns-places-requires c κs = search needs
+
+add-i : tie.Need-add-i Inv-loop μ-loop
+add-i c = search needs
+
+returns : tie.Need-returns Inv-loop μ-loop
+unfolding allOwn
+returns c = sym (c .before .before .before .loop .inv ∙ passed-next _ _ _ _ _ (c .before .before .loop-test .taken) ∙ rw (← c .before .owns-places .ensures, not-true (c .before .owns-places .result) (c .if1 .taken)))
+
+loop-less : tie.Need-loop-less Inv-loop μ-loop
+loop-less c = search needs
+
+loop-again : tie.Need-loop-again Inv-loop μ-loop
+unfolding allOwn
+loop-again c = c .before .before .before .loop .inv ∙ passed-next _ _ _ _ _ (c .before .before .loop-test .taken) ∙ rw (← c .before .owns-places .ensures, not-false (c .before .owns-places .result) (c .if1 .left))
+
+returns-2 : tie.Need-returns-2 Inv-loop μ-loop
+unfolding allOwn
+returns-2 c = sym (c .before .loop .inv ∙ passed-none _ _ _ _ _ (c .loop-test .left))
+
+pub all-own-spec : {M : Type 1} → statement M
+all-own-spec =
+    tie.close
+    (tie.spec
+    Inv-loop
+    μ-loop
+    loop-holds
+    array-read-owns-places
+    array-read-owns-places-2
+    owns-places-requires
+    add-i
+    returns
+    loop-less
+    loop-again
+    returns-2)

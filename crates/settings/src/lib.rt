@@ -1,0 +1,12 @@
+// The settings that a record holds, and whether its endpoints are theirs (device.rs of the original).
+mod held;
+mod matching;
+
+pub use held::Settings;
+pub use held::alternate_of;
+pub use held::is_held;
+pub use held::settings_sound;
+pub use held::with_setting;
+pub use held::without_setting;
+pub use matching::addresses_free;
+pub use matching::endpoints_match;

@@ -1,0 +1,66 @@
+use mathlib.Core.Path.{_≡_, refl}
+use mathlib.Core.Bool.{Bool, true, false, cond}
+use mir.Val.{boolByte}
+use Rattle.block.specs.Setting.{settled}
+use Rattle.block.specs.Blocks.{addressSlot}
+use borrow.Author.Needs.{needs}
+use Rattle.slot_block.proofs.address_slot.Statement.{statement}
+use Rattle.slot_block.proofs.address_slot.Tie as tie
+
+cast-bool : (b : Bool) → boolByte b ≡ cond b 1 0
+cast-bool true = refl
+cast-bool false = refl
+
+put-field-requires : tie.Need-put-field-requires
+put-field-requires c κs = search needs
+
+put-field-requires-2 : tie.Need-put-field-requires-2
+put-field-requires-2 c κs = search needs
+
+cast-put-field : tie.Need-cast-put-field
+cast-put-field c = search needs
+
+put-field-requires-3 : tie.Need-put-field-requires-3
+put-field-requires-3 c κs = search needs
+
+put-field-requires-4 : tie.Need-put-field-requires-4
+put-field-requires-4 c κs = search needs
+
+put-field-requires-5 : tie.Need-put-field-requires-5
+put-field-requires-5 c κs = search needs
+
+cast-put-field-2 : tie.Need-cast-put-field-2
+cast-put-field-2 c = search needs
+
+put-field-requires-6 : tie.Need-put-field-requires-6
+put-field-requires-6 c κs = search needs
+
+cast-put-field-3 : tie.Need-cast-put-field-3
+cast-put-field-3 c = search needs
+
+put-field-requires-7 : tie.Need-put-field-requires-7
+put-field-requires-7 c κs = search needs
+
+same-length : tie.Need-same-length
+same-length c = search needs
+
+returns : tie.Need-returns
+unfolding settled addressSlot
+returns c = rw (c .before .before .put-field7 .ensures, c .before .before .before .before .before .before .before .put-field6 .ensures, c .before .before .before .before .before .before .before .before .before .before .before .before .put-field5 .ensures, c .before .before .before .before .before .before .before .before .before .before .before .before .before .before .before .before .put-field4 .ensures, c .before .before .before .before .before .before .before .before .before .before .before .before .before .before .before .before .before .before .before .before .put-field3 .ensures, c .before .before .before .before .before .before .before .before .before .before .before .before .before .before .before .before .before .before .before .before .before .before .before .before .before .put-field2 .ensures, c .before .before .before .before .before .before .before .before .before .before .before .before .before .before .before .before .before .before .before .before .before .before .before .before .before .before .before .before .before .put-field .ensures, cast-bool (c .before .before .before .before .before .before .before .before .before .before .before .before .before .before .before .before .before .before .before .before .before .before .before .before .before .before .before .before .before .before .before .before .args .translator .multi))
+
+pub address-slot-spec : {M : Type 1} → statement M
+address-slot-spec =
+    tie.close
+    (tie.spec
+    put-field-requires
+    put-field-requires-2
+    cast-put-field
+    put-field-requires-3
+    put-field-requires-4
+    put-field-requires-5
+    cast-put-field-2
+    put-field-requires-6
+    cast-put-field-3
+    put-field-requires-7
+    same-length
+    returns)
