@@ -21,6 +21,9 @@ ENDPOINT = 2
 unfoldable pub kind : ℕ → ℕ
 kind w = packed 32 0 2 w
 
+unfoldable pub configurationValue : ℕ → ℕ
+configurationValue w = packed 32 2 8 w
+
 unfoldable pub interfaceNumber : ℕ → ℕ
 interfaceNumber w = packed 32 2 8 w
 

@@ -2,7 +2,7 @@
 use def::Dci;
 ghost use mathlib.Core.Path.{_≡_};
 ghost use Prim.Native.Nat.{_<_};
-ghost use Rattle.descriptor.specs.Word.{kind, interfaceNumber, alternateSetting, directionIn, endpointNumber, typeNumber, transferType, endpointDescriptor, endpointOk, wordOk};
+ghost use Rattle.descriptor.specs.Word.{kind, configurationValue, interfaceNumber, alternateSetting, directionIn, endpointNumber, typeNumber, transferType, endpointDescriptor, endpointOk, wordOk};
 ghost use Rattle.descriptor.specs.Endpoint.{dciOf};
 
 pub enum TransferType {
@@ -52,6 +52,12 @@ pub fn word_kind(w: u32) -> u8
     ensures { λ r. ⌜ r ≡ kind w ⌝ }
 {
     (w / KIND_LSB % 4) as u8
+}
+
+pub fn configuration_value(w: u32) -> u8
+    ensures { λ r. ⌜ r ≡ configurationValue w ⌝ }
+{
+    (w / VALUE_LSB % 256) as u8
 }
 
 pub fn interface_number(w: u32) -> u8

@@ -2,16 +2,15 @@
 use Prim.Native.Nat.{ℕ}
 use mathlib.Core.Path.{_≡_, refl}
 use mathlib.Core.Logic.{_⊎_, inl, inr}
-use mathlib.Core.Bool.{Bool}
+use mathlib.Core.Bool.{Bool, true, false, cond, _||_}
 use mathlib.Core.List.{List}
 use lib.ListN.{length}
 use Rattle.answer.specs.declared.Answer.{Answer}
-use Rattle.answer.specs.declared.Answer.the-variants as answer
 use Rattle.device.specs.declared.check.Check.{Check}
 use Rattle.device.specs.declared.check.Check.the-variants.{Pass, Refuse}
 use Rattle.device.specs.declared.record.Device.{Device}
 use Rattle.device.specs.Device.{unusable}
-use Rattle.device.specs.Left.{Left, refused, marked}
+use Rattle.device.specs.Left.{Left, refused, isBroken, isCut, marked}
 use Rattle.device.specs.Check.{recordCheck, hubCheck}
 use Rattle.device.specs.Calls.{onCheck, hubLeft, hubUpdate}
 
@@ -22,25 +21,11 @@ SameOr d r = (r ≡ d) ⊎ (r ≡ unusable d)
 -- an answer leaves the record, or marks it
 pub marked-one : (a : Answer) (d : Device) → SameOr d (marked a d)
 unfolding marked
-marked-one answer.InterfaceBroken d = inr refl
-marked-one answer.Cut d = inr refl
-marked-one answer.Accepted d = inl refl
-marked-one (answer.Failed code) d = inl refl
-marked-one answer.ContextLength d = inl refl
-marked-one answer.RoutesLength d = inl refl
-marked-one answer.LogTooShort d = inl refl
-marked-one answer.DescriptorList d = inl refl
-marked-one answer.HubChain d = inl refl
-marked-one answer.Speed d = inl refl
-marked-one answer.ThinkTime d = inl refl
-marked-one answer.NotFound d = inl refl
-marked-one answer.InvalidParameter d = inl refl
-marked-one answer.Rings d = inl refl
-marked-one answer.SlotLimitReached d = inl refl
-marked-one answer.Unusable d = inl refl
-marked-one answer.ShortHeader d = inl refl
-marked-one answer.QueueFull d = inl refl
-marked-one answer.InvalidEndpoint d = inl refl
+marked-one a d = go (isBroken a || isCut a)
+  where
+    go : (b : Bool) → SameOr d (cond b (unusable d) d)
+    go true = inr refl
+    go false = inl refl
 
 -- what holds of a call that runs and of each refusal holds of the call
 pub on-check : (P : Left → Type 0) (k : Check) (run : Left) (refuse : Answer → Left) → P run → ((a : Answer) → P (refuse a)) →

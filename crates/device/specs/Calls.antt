@@ -5,15 +5,13 @@ use mathlib.Core.List.{List}
 use lib.ListN.{length}
 use Rattle.answer.specs.declared.Answer.{Answer}
 use Rattle.command.specs.declared.Command.the-variants as command
-use Rattle.command.specs.declared.Sent.{Sent}
-use Rattle.command.specs.declared.Sent.the-variants as sent
 use Rattle.command.specs.Course.{Course, ends, sends, Played, played}
 use Rattle.hub.specs.declared.think.ThinkTime.{ThinkTime}
 use Rattle.hub.specs.declared.think.ThinkTime.the-variants as think
 use Rattle.hub.specs.ThinkTime.{thinkTime}
 use Rattle.context.specs.Place.{written}
 use Rattle.context.specs.Steps.{hubWrites}
-use Rattle.answer.specs.declared.Answer.the-variants as answer
+use Rattle.phase.specs.End.{answerOf}
 use Rattle.device.specs.declared.check.Check.{Check}
 use Rattle.device.specs.declared.check.Check.the-variants.{Pass, Refuse}
 use Rattle.device.specs.declared.record.Device.{Device}
@@ -23,12 +21,6 @@ use Rattle.device.specs.Check.{recordCheck, hubCheck}
 unfoldable pub onCheck : Check → Left → (Answer → Left) → Left
 onCheck Pass next refuse = next
 onCheck (Refuse a) next refuse = refuse a
-
--- The answer of a call that is one command.
-unfoldable pub answerOf : Sent → Answer
-answerOf sent.Done = answer.Accepted
-answerOf (sent.Failed code) = answer.Failed code
-answerOf sent.Cut = answer.Cut
 
 -- The value of a think time; 0 where it is refused, which is not written then.
 unfoldable pub thinkValue : ThinkTime → ℕ

@@ -1,8 +1,12 @@
 -- What a call returns and leaves.
 use Prim.Native.Nat.{ℕ}
+use mathlib.Core.Bool.{Bool, cond, _||_}
 use mathlib.Core.List.{List}
+use lib.Dec.{eqb}
 use Rattle.answer.specs.declared.Answer.{Answer}
-use Rattle.answer.specs.declared.Answer.the-variants as answer
+use Rattle.answer.specs.Answer.{number}
+use Rattle.command.specs.Course.{Played}
+use Rattle.phase.specs.End.{End}
 use Rattle.device.specs.declared.record.Device.{Device}
 use Rattle.device.specs.declared.record.Called.{Called}
 use Rattle.device.specs.Device.{unusable}
@@ -23,24 +27,27 @@ leaves r ctx routes log =
 unfoldable pub refused : Device → Answer → List ℕ → List ℕ → List ℕ → Left
 refused d a ctx routes log = record { device = d; answer = a; count = 0; ctx = ctx; routes = routes; log = log }
 
+abbrev pub isAccepted : Answer → Bool
+isAccepted a = eqb (number a) 0
+
+abbrev pub isBroken : Answer → Bool
+isBroken a = eqb (number a) 14
+
+abbrev pub isCut : Answer → Bool
+isCut a = eqb (number a) 15
+
 -- 14 and 15 make the record unusable.
 unfoldable pub marked : Answer → Device → Device
-marked answer.InterfaceBroken d = unusable d
-marked answer.Cut d = unusable d
-marked answer.Accepted d = d
-marked answer.ContextLength d = d
-marked answer.RoutesLength d = d
-marked answer.LogTooShort d = d
-marked answer.DescriptorList d = d
-marked answer.HubChain d = d
-marked answer.Speed d = d
-marked answer.ThinkTime d = d
-marked answer.NotFound d = d
-marked answer.InvalidParameter d = d
-marked answer.Rings d = d
-marked answer.SlotLimitReached d = d
-marked answer.Unusable d = d
-marked (answer.Failed code) d = d
-marked answer.ShortHeader d = d
-marked answer.QueueFull d = d
-marked answer.InvalidEndpoint d = d
+marked a d = cond (isBroken a || isCut a) (unusable d) d
+
+-- Where a course has ended, with the record that its end makes.
+unfoldable pub ended : (End → Device) → Played End → Left
+ended made p =
+    record {
+      device = made (p .end);
+      answer = p .end .answer;
+      count = p .count;
+      ctx = p .end .ctx;
+      routes = p .end .routes;
+      log = p .log;
+    }

@@ -2,7 +2,7 @@
 use super::check::Check;
 use super::record::Called;
 use super::record::Device;
-use answer::Answer;
+use super::update;
 use command::Command;
 use command::Sent;
 use hub::ThinkTime;
@@ -14,7 +14,8 @@ ghost use Rattle.command.specs.Course.{played};
 ghost use Rattle.hub.specs.ThinkTime.{thinkTime};
 ghost use Rattle.context.specs.Place.{Spaced};
 ghost use Rattle.device.specs.Left.{leaves, marked};
-ghost use Rattle.device.specs.Calls.{answerOf, thinkValue, hubContext, hubCourse, hubLeft, hubUpdate};
+ghost use Rattle.phase.specs.End.{answerOf};
+ghost use Rattle.device.specs.Calls.{thinkValue, hubContext, hubCourse, hubLeft, hubUpdate};
 
 // The field of a think time; 0 where it is refused, which is not written then.
 fn think_value(ns: u32) -> u8
@@ -29,28 +30,14 @@ fn think_value(ns: u32) -> u8
 
 impl Device {
     // The end of a call that is one command, by its outcome.
-    fn hub_end(mut self, s: Sent, count: usize) -> Called
+    fn hub_end(self, s: Sent, count: usize) -> Called
         ensures { λ r. ⌜ r ≡ record { device = marked (answerOf s) self; answer = answerOf s; count = count } ⌝ }
     {
-        match s {
-            Sent::Done => Called {
-                device: self,
-                answer: Answer::Accepted,
-                count: count,
-            },
-            Sent::Failed(code) => Called {
-                device: self,
-                answer: Answer::Failed(code),
-                count: count,
-            },
-            Sent::Cut => {
-                self.usable = false;
-                Called {
-                    device: self,
-                    answer: Answer::Cut,
-                    count: count,
-                }
-            }
+        let a = phase::answer_of(s);
+        Called {
+            device: update::marked(self, a),
+            answer: a,
+            count: count,
         }
     }
 

@@ -3,6 +3,7 @@ mod check;
 mod hub_update;
 mod record;
 mod sound;
+mod update;
 
 pub use check::Check;
 pub use record::Called;

@@ -77,11 +77,12 @@ owns (Interface i) owner = eqb owner i
 unfoldable pub isOwned : Owner → Cells → ℕ → Bool
 isOwned who c place = not (eqb (getD (c .rings) place 0) 0) && owns who (getD (c .owners) place 0)
 
--- Their rings by place, 0 elsewhere.
+-- What f says of k places from `place` on.
 unfoldable pub tabulated : {A : Type 0} → (ℕ → A) → ℕ → ℕ → List A
 tabulated f zero place = []
 tabulated f (suc k) place = f place ∷ tabulated f k (place + 1)
 
+-- Their rings by place, 0 elsewhere.
 unfoldable pub ownedRings : Owner → Cells → List ℕ
 ownedRings who c = tabulated (λ p. cond (isOwned who c p) (getD (c .rings) p 0) 0) PLACES 0
 

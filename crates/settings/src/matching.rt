@@ -9,21 +9,8 @@ ghost use mathlib.Core.List.{List};
 ghost use Prim.Native.Nat.{ℕ, _≤_};
 ghost use lib.Dec.{eqb};
 ghost use lib.ListN.{getD};
-ghost use Rattle.endpoint.specs.Order.{placeOf};
 ghost use Rattle.settings.specs.Held.{heldIn, isHeld, settingWords};
 ghost use Rattle.settings.specs.Match.{placesOf, same, eachPlace, ownsPlaces, allOwn, ownersHeld, endpointsMatch, addressesFree};
-
-// The place of an address; 30 for one that no endpoint can have.
-fn place_of(address: u8) -> usize
-    ensures { λ r. ⌜ (r ≡ placeOf address) × (r ≤ 30) ⌝ }
-{
-    let a = address as usize;
-    match address {
-        1..=15 => a - 1,
-        129..=143 => a - 114,
-        _ => 30,
-    }
-}
 
 // The places of endpoint words.
 fn places_of(words: &[u32]) -> [bool; 30]
@@ -33,7 +20,7 @@ fn places_of(words: &[u32]) -> [bool; 30]
     let mut i = 0;
     while i < words.len() {
         let e = descriptor::endpoint_descriptor(words[i]);
-        let place = place_of(e.address);
+        let place = endpoint::place_of(e.address);
         i += 1;
         if place < 30 {
             places[place] = true;

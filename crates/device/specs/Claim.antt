@@ -1,0 +1,74 @@
+-- The claim of an interface's alternate setting, with the rings offered for its endpoint words.
+use Prim.Native.Nat.{ℕ}
+use mathlib.Core.Bool.{cond}
+use mathlib.Core.List.{List, []}
+use lib.ListN.{length}
+use Rattle.answer.specs.declared.Answer.{Answer}
+use Rattle.answer.specs.declared.Answer.the-variants as answer
+use Rattle.command.specs.Course.{played}
+use Rattle.configuration.specs.Lookup.{findEndpoints}
+use Rattle.ring.specs.Rings.{offerOk}
+use Rattle.endpoint.specs.declared.cells.Owner.the-variants.{Interface}
+use Rattle.endpoint.specs.Cells.{ownedRings, queuesOf, queueDcis, queueRings, pendingRings, claimedCells, withActive}
+use Rattle.settings.specs.Held.{isHeld, alternateOf, isFound, settingWords, withSetting}
+use Rattle.settings.specs.Match.{addressesFree}
+use Rattle.phase.specs.End.{End}
+use Rattle.claim.specs.Claim.{Claim, claimCourse}
+use Rattle.device.specs.declared.check.Check.{Check}
+use Rattle.device.specs.declared.check.Check.the-variants.{Pass}
+use Rattle.device.specs.declared.record.Device.{Device}
+use Rattle.device.specs.Device.{listOf, cellsIn, heldOf, quarantinedOf, withCells, withHeld, withQuarantined}
+use Rattle.device.specs.Left.{Left, refused, isBroken, marked, ended}
+use Rattle.device.specs.Check.{unless, recordCheck}
+use Rattle.device.specs.Calls.{onCheck}
+
+-- 8, 9, 10.
+unfoldable pub claimCheck : Device → ℕ → ℕ → List ℕ → Check
+claimCheck d interface alternate rings =
+    let words = settingWords (listOf d) interface alternate in
+    unless (isFound (findEndpoints (listOf d) interface alternate)) answer.NotFound
+    (unless (addressesFree words interface (cellsIn d)) answer.InvalidParameter
+    (unless (offerOk (length words) rings ((cellsIn d) .rings) (d .control) (quarantinedOf d)) answer.Rings Pass))
+
+-- The rings offered for the words of an alternate, by place.
+unfoldable pub pendingOf : Device → ℕ → ℕ → List ℕ → List ℕ
+pendingOf d interface alternate rings = pendingRings (settingWords (listOf d) interface alternate) rings
+
+-- What the course of a claim works on.
+unfoldable pub claimIn : Device → ℕ → ℕ → List ℕ → Claim
+claimIn d interface alternate rings =
+    let held = isHeld interface (heldOf d) in
+    let old = alternateOf interface (heldOf d) in
+    record {
+      slot = d .slot .0;
+      spacing = d .spacing;
+      speed = d .«port_speed»;
+      interface = interface;
+      alternate = alternate;
+      held = held;
+      oldAlternate = old;
+      oldWords = cond held (settingWords (listOf d) interface old) [];
+      newWords = settingWords (listOf d) interface alternate;
+      old = queuesOf (ownedRings (Interface interface) (cellsIn d));
+      pending = queuesOf (pendingOf d interface alternate rings);
+      dcis = queueDcis (queuesOf ((cellsIn d) .rings));
+    }
+
+-- After 14 the pending rings are quarantined, by rising address.
+unfoldable pub quarantines : Answer → List ℕ → Device → Device
+quarantines a rings d = cond (isBroken a) (withQuarantined rings d) d
+
+-- The record that the end of its course makes.
+unfoldable pub claimRecord : Device → ℕ → ℕ → List ℕ → End → Device
+claimRecord d interface alternate rings e =
+    let pending = pendingOf d interface alternate rings in
+    marked (e .answer)
+    (cond (e .moved)
+    (withHeld (withSetting interface alternate (heldOf d)) (withCells (claimedCells interface pending (cellsIn d)) d))
+    (quarantines (e .answer) (queueRings (queuesOf pending)) (withCells (withActive (Interface interface) (e .active) (cellsIn d)) d)))
+
+unfoldable pub claim : Device → List ℕ → List ℕ → List ℕ → List ℕ → ℕ → ℕ → List ℕ → Left
+claim d ctx routes log outcomes interface alternate rings =
+    onCheck (recordCheck d (length ctx) (length routes) (length log) (claimCheck d interface alternate rings))
+    (ended (claimRecord d interface alternate rings) (played outcomes 0 (claimCourse (claimIn d interface alternate rings) ctx routes) log))
+    (λ a. refused d a ctx routes log)

@@ -1,0 +1,55 @@
+-- The release of an interface.
+use Prim.Native.Nat.{ℕ}
+use mathlib.Core.Bool.{cond, _||_}
+use mathlib.Core.List.{List}
+use lib.ListN.{length, replicate}
+use Rattle.answer.specs.declared.Answer.the-variants as answer
+use Rattle.command.specs.Course.{played}
+use Rattle.configuration.specs.Lookup.{findEndpoints}
+use Rattle.endpoint.specs.Order.{PLACES}
+use Rattle.endpoint.specs.declared.cells.Owner.the-variants.{Interface}
+use Rattle.endpoint.specs.Cells.{ownedRings, queuesOf, queueDcis, claimedCells, withActive}
+use Rattle.settings.specs.Held.{isHeld, alternateOf, isFound, settingWords, withoutSetting}
+use Rattle.phase.specs.End.{End}
+use Rattle.release.specs.Release.{Release, releaseCourse}
+use Rattle.device.specs.declared.check.Check.{Check}
+use Rattle.device.specs.declared.check.Check.the-variants.{Pass}
+use Rattle.device.specs.declared.record.Device.{Device}
+use Rattle.device.specs.Device.{listOf, cellsIn, heldOf, withCells, withHeld}
+use Rattle.device.specs.Left.{Left, refused, marked, ended}
+use Rattle.device.specs.Check.{unless, recordCheck}
+use Rattle.device.specs.Calls.{onCheck}
+
+-- 8, for an unclaimed interface without alternate 0 only.
+unfoldable pub releaseCheck : Device → ℕ → Check
+releaseCheck d interface =
+    unless (isHeld interface (heldOf d) || isFound (findEndpoints (listOf d) interface 0)) answer.NotFound Pass
+
+-- What the course of a release works on: the held alternate, or alternate 0.
+unfoldable pub releaseIn : Device → ℕ → Release
+releaseIn d interface =
+    let alternate = alternateOf interface (heldOf d) in
+    record {
+      slot = d .slot .0;
+      spacing = d .spacing;
+      speed = d .«port_speed»;
+      interface = interface;
+      alternate = alternate;
+      words = settingWords (listOf d) interface alternate;
+      old = queuesOf (ownedRings (Interface interface) (cellsIn d));
+      dcis = queueDcis (queuesOf ((cellsIn d) .rings));
+    }
+
+-- The record that the end of its course makes.
+unfoldable pub releaseRecord : Device → ℕ → End → Device
+releaseRecord d interface e =
+    marked (e .answer)
+    (cond (e .moved)
+    (withHeld (withoutSetting interface (heldOf d)) (withCells (claimedCells interface (replicate PLACES 0) (cellsIn d)) d))
+    (withCells (withActive (Interface interface) (e .active) (cellsIn d)) d))
+
+unfoldable pub release : Device → List ℕ → List ℕ → List ℕ → List ℕ → ℕ → Left
+release d ctx routes log outcomes interface =
+    onCheck (recordCheck d (length ctx) (length routes) (length log) (releaseCheck d interface))
+    (ended (releaseRecord d interface) (played outcomes 0 (releaseCourse (releaseIn d interface) ctx routes) log))
+    (λ a. refused d a ctx routes log)

@@ -1,0 +1,47 @@
+-- The setting of a configuration, which ends all held settings.
+use Prim.Native.Nat.{ℕ}
+use mathlib.Core.Bool.{cond}
+use mathlib.Core.List.{List, []}
+use lib.ListN.{length}
+use Rattle.command.specs.Course.{played}
+use Rattle.endpoint.specs.declared.cells.Owner.the-variants.{Any}
+use Rattle.endpoint.specs.Cells.{queuesOf, noCells, withActive}
+use Rattle.settings.specs.Held.{heldWords}
+use Rattle.phase.specs.End.{End}
+use Rattle.set_configuration.specs.SetConfiguration.{Settings, setCourse}
+use Rattle.device.specs.declared.check.Check.the-variants.{Pass}
+use Rattle.device.specs.declared.record.Device.{Device}
+use Rattle.device.specs.Device.{listOf, cellsIn, heldOf, withCells, withHeld, withConfiguration}
+use Rattle.device.specs.Left.{Left, refused, isAccepted, marked, ended}
+use Rattle.device.specs.Check.{recordCheck}
+use Rattle.device.specs.Calls.{onCheck}
+
+-- What the course of a set configuration works on.
+unfoldable pub settingsIn : Device → ℕ → Settings
+settingsIn d value =
+    record {
+      slot = d .slot .0;
+      spacing = d .spacing;
+      speed = d .«port_speed»;
+      value = value;
+      words = heldWords (listOf d) (heldOf d);
+      old = queuesOf ((cellsIn d) .rings);
+    }
+
+-- The record without held settings.
+unfoldable pub bare : Device → Device
+bare d = withHeld [] (withCells noCells d)
+
+-- The record that the end of its course makes: the value is set where the last Evaluate is done.
+unfoldable pub setRecord : Device → ℕ → End → Device
+setRecord d value e =
+    marked (e .answer)
+    (cond (e .moved)
+    (cond (isAccepted (e .answer)) (withConfiguration value (bare d)) (bare d))
+    (withCells (withActive Any (e .active) (cellsIn d)) d))
+
+unfoldable pub setConfiguration : Device → List ℕ → List ℕ → List ℕ → List ℕ → ℕ → Left
+setConfiguration d ctx routes log outcomes value =
+    onCheck (recordCheck d (length ctx) (length routes) (length log) Pass)
+    (ended (setRecord d value) (played outcomes 0 (setCourse (settingsIn d value) ctx routes) log))
+    (λ a. refused d a ctx routes log)

@@ -1,0 +1,63 @@
+-- Demand 3: what every list of calls on a slot leaves of its routes and of its controller's endpoints.
+use Prim.Native.Nat.{ℕ, _<_, _≤_}
+use mathlib.Core.Path.{_≡_}
+use mathlib.Core.Bool.{false}
+use mathlib.Core.List.{List, [], _∷_}
+use lib.ListN.{length, getD, take}
+use Rattle.answer.specs.declared.Answer.the-variants as answer
+use Rattle.transfer.specs.Routes.{routeOf, Outside}
+use Rattle.bring_up.specs.BringUp.{BringUp, bringUp}
+use Rattle.device.specs.declared.record.Device.{Device}
+use Rattle.device.specs.Left.{Left}
+use Rattle.slot.specs.Call.{Lent, Asked, Call, left, AllOfSlot, bringsUp}
+use Rattle.slot.specs.Plain.{Plain, plainRoute, isHeldDci, begun, observed}
+
+-- The record and the table as the calls hand them on, and the plain slot beside them.
+pub record State : Type 0 where
+  pub device : Device
+  pub routes : List ℕ
+  pub plain : Plain
+
+-- The same call, given only the first i outcomes.
+unfoldable pub cutAt : ℕ → Lent → Lent
+cutAt i l = record { ctx = l .ctx; log = l .log; outcomes = take i (l .outcomes) }
+
+-- One call: it gets the record and the table of the last one. The plain slot reads its answer and the words that it logged, the
+-- controller the contexts that the same call leaves when it is cut.
+unfoldable pub called : State → Call → State
+called s c =
+    let l = left (c .asked) (c .lent) (s .device) (s .routes) in
+    let contexts = λ (i : ℕ). left (c .asked) (cutAt i (c .lent)) (s .device) (s .routes) .ctx in
+    record {
+      device = l .device;
+      routes = l .routes;
+      plain = observed (c .asked) (c .lent) (l .answer) (take (l .count) (l .log)) contexts (s .plain);
+    }
+
+unfoldable pub after : State → List Call → State
+after s [] = s
+after s (c ∷ cs) = after (called s c) cs
+
+-- The slot after its accepted bring-up.
+unfoldable pub start : BringUp → Left → State
+start b l = record { device = l .device; routes = l .routes; plain = begun b }
+
+-- What holds of a slot, where `before` is the table before its bring-up.
+pub record Kept (slot : ℕ) (before : List ℕ) (s : State) : Type 0 where
+  -- its routes are the plain slot's
+  pub own : (d : ℕ) → d < 32 → routeOf (s .routes) slot d ≡ plainRoute (s .plain) d
+  -- every other word is as before
+  pub others : (k : ℕ) → Outside slot k → getD (s .routes) k 0 ≡ getD before k 0
+  -- before the first broken or cut answer the enabled endpoints are the held ones
+  pub enabled :
+      s .plain .broken ≡ false → s .plain .loose ≡ false → (d : ℕ) → 2 ≤ d → d < 32 →
+      s .plain .enabled d ≡ isHeldDci (s .plain) d
+
+-- For every slot whose routes were all 0 and every accepted bring-up of it, whatever calls follow.
+abbrev pub Demand3 : Type 0
+Demand3 =
+    (b : BringUp) (l : Lent) (routes : List ℕ) (calls : List Call) →
+    ((d : ℕ) → d < 32 → routeOf routes (b .slot) d ≡ 0) →
+    bringUp b (l .ctx) routes (l .log) (l .outcomes) .answer ≡ answer.Accepted →
+    AllOfSlot (b .slot) calls →
+    Kept (b .slot) routes (after (start b (bringUp b (l .ctx) routes (l .log) (l .outcomes))) calls)
