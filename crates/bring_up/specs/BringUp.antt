@@ -21,7 +21,6 @@ use Rattle.context.specs.Place.{written}
 use Rattle.context.specs.Steps.{addressContext, maxPacketWrites}
 use Rattle.endpoint.specs.Endpoint.{blank, padded}
 use Rattle.endpoint.specs.declared.entry.Handle.the-variants.{Active}
-use Rattle.phase.specs.End.{End}
 use Rattle.set_configuration.specs.SetConfiguration.{Settings, setCourse}
 use Rattle.device.specs.declared.check.Check.{Check}
 use Rattle.device.specs.declared.check.Check.the-variants.{Pass}

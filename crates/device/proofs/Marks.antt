@@ -1,11 +1,15 @@
 -- What a call makes of the record's mark.
-use Prim.Native.Nat.{ℕ}
+use Prim.Native.Nat.{ℕ, _<_, _≤_}
 use mathlib.Core.Path.{_≡_, refl}
 use mathlib.Core.Logic.{_⊎_, inl, inr}
 use mathlib.Core.Bool.{Bool, true, false, cond, _||_}
 use mathlib.Core.List.{List}
+use native.Mathlib.Omega.{arith}
+use native.Mathlib.Decide.{decLt}
+use borrow.Author.Tests.{ne-eqb}
 use lib.ListN.{length}
 use Rattle.answer.specs.declared.Answer.{Answer}
+use Rattle.answer.specs.Answer.{number}
 use Rattle.device.specs.declared.check.Check.{Check}
 use Rattle.device.specs.declared.check.Check.the-variants.{Pass, Refuse}
 use Rattle.device.specs.declared.record.Device.{Device}
@@ -26,6 +30,27 @@ marked-one a d = go (isBroken a || isCut a)
     go : (b : Bool) → SameOr d (cond b (unusable d) d)
     go true = inr refl
     go false = inl refl
+
+-- 14 and 15 mark it, as numbers
+pub marked-lost : (a : Answer) (d : Device) (n : ℕ) → n ≡ number a → 14 ≤ n → n < 16 → unusable d ≡ marked a d
+unfolding marked
+marked-lost a d n e l h = go (decLt (number a) 15)
+  where
+    go : Dec (number a < 15) → unusable d ≡ cond (isBroken a || isCut a) (unusable d) d
+    go (yes z) = let y : number a ≡ 14 = omega arith in rw y refl
+    go (no z) = let y : number a ≡ 15 = omega arith in rw y refl
+
+-- and no other does
+pub marked-kept : (a : Answer) (d : Device) (n : ℕ) → n ≡ number a → (n < 14) ⊎ (16 ≤ n) → d ≡ marked a d
+unfolding marked
+marked-kept a d n e h =
+    let b : isBroken a ≡ false = ne-eqb (number a) 14 (λ z. other h (omega arith)) in
+    let c : isCut a ≡ false = ne-eqb (number a) 15 (λ z. other h (omega arith)) in
+    rw (b, c)
+  where
+    other : (n < 14) ⊎ (16 ≤ n) → (14 ≤ n) × (n < 16) → ⊥
+    other (inl l) g = omega arith
+    other (inr l) g = omega arith
 
 -- what holds of a call that runs and of each refusal holds of the call
 pub on-check : (P : Left → Type 0) (k : Check) (run : Left) (refuse : Answer → Left) → P run → ((a : Answer) → P (refuse a)) →

@@ -3,13 +3,13 @@ use Prim.Native.Nat.{ℕ, _<_, _≤_}
 use mathlib.Core.Path.{_≡_}
 use mathlib.Core.Bool.{false}
 use mathlib.Core.List.{List, [], _∷_}
-use lib.ListN.{length, getD, take}
+use lib.ListN.{getD, take}
 use Rattle.answer.specs.declared.Answer.the-variants as answer
 use Rattle.transfer.specs.Routes.{routeOf, Outside}
 use Rattle.bring_up.specs.BringUp.{BringUp, bringUp}
 use Rattle.device.specs.declared.record.Device.{Device}
 use Rattle.device.specs.Left.{Left}
-use Rattle.slot.specs.Call.{Lent, Asked, Call, left, AllOfSlot, bringsUp}
+use Rattle.slot.specs.Call.{Lent, Call, left, AllOfSlot}
 use Rattle.slot.specs.Plain.{Plain, plainRoute, isHeldDci, begun, observed}
 
 -- The record and the table as the calls hand them on, and the plain slot beside them.

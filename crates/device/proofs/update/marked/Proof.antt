@@ -1,3 +1,6 @@
+use mathlib.Core.Logic.{inl, inr}
+use Rattle.device.specs.Device.{unusable}
+use Rattle.device.proofs.Marks.{marked-lost, marked-kept}
 use borrow.Author.Needs.{needs}
 use Rattle.device.proofs.update.marked.Statement.{statement}
 use Rattle.device.proofs.update.marked.Tie as tie
@@ -5,21 +8,18 @@ use Rattle.device.proofs.update.marked.Reads as reads
 use Rattle.device.proofs.update.marked.Lts as lts
 use Rattle.answer.proofs.answer_number.Reads as answer-number-reads
 
--- src/update.rt:16:9
 answer-number-requires : tie.Need-answer-number-requires
 answer-number-requires c κs = search needs
 
--- src/update.rt:13:1
 returns : tie.Need-returns
-returns c = ?
+unfolding unusable
+returns c = marked-lost _ _ _ (c .before .before .answer-number .ensures) (c .before .if1 .left) (c .if2 .taken)
 
--- src/update.rt:13:1
 returns-2 : tie.Need-returns-2
-returns-2 c = ?
+returns-2 c = marked-kept _ _ _ (c .before .answer-number .ensures) (inl (c .if1 .taken))
 
--- src/update.rt:13:1
 returns-3 : tie.Need-returns-3
-returns-3 c = ?
+returns-3 c = marked-kept _ _ _ (c .before .before .answer-number .ensures) (inr (c .if2 .left))
 
 pub marked-spec : {M : Type 1} → statement M
 marked-spec = tie.close (tie.spec answer-number-requires returns returns-2 returns-3)

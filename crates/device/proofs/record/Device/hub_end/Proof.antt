@@ -6,17 +6,14 @@ use Rattle.device.proofs.record.Device.hub_end.Lts as lts
 use Rattle.device.proofs.update.marked.Reads as marked-reads
 use Rattle.phase.proofs.answer_of.Reads as answer-of-reads
 
--- src/hub_update.rt:36:13
 answer-of-requires : tie.Need-answer-of-requires
 answer-of-requires c κs = search needs
 
--- src/hub_update.rt:38:21
 marked-requires : tie.Need-marked-requires
 marked-requires c κs = search needs
 
--- src/hub_update.rt:33:5
 returns : tie.Need-returns
-returns c = ?
+returns c = rw (c .marked .ensures, c .before .answer-of .ensures)
 
 pub hub-end-spec : {M : Type 1} → statement M
 hub-end-spec = tie.close (tie.spec answer-of-requires marked-requires returns)
