@@ -18,20 +18,22 @@ pub record State : Type 0 where
   pub routes : List ℕ
   pub plain : Plain
 
--- The same call, given only the first i outcomes.
+-- The same call, given only the first i outcomes, and the context that it leaves.
 unfoldable pub cutAt : ℕ → Lent → Lent
 cutAt i l = record { ctx = l .ctx; log = l .log; outcomes = take i (l .outcomes) }
 
--- One call: it gets the record and the table of the last one. The plain slot reads its answer and the words that it logged, the
--- controller the contexts that the same call leaves when it is cut.
+unfoldable pub contextCut : State → Call → ℕ → List ℕ
+contextCut s c i = (left (c .asked) (cutAt i (c .lent)) (s .device) (s .routes)) .ctx
+
+-- One call: it gets the record and the table of the last one. The plain slot reads its answer and the words that it logged; its
+-- controller the context that the same call leaves when it is cut at a command.
 unfoldable pub called : State → Call → State
 called s c =
     let l = left (c .asked) (c .lent) (s .device) (s .routes) in
-    let contexts = λ (i : ℕ). left (c .asked) (cutAt i (c .lent)) (s .device) (s .routes) .ctx in
     record {
       device = l .device;
       routes = l .routes;
-      plain = observed (c .asked) (c .lent) (l .answer) (take (l .count) (l .log)) contexts (s .plain);
+      plain = observed (c .asked) (c .lent) (l .answer) (take (l .count) (l .log)) (contextCut s c) (s .plain);
     }
 
 unfoldable pub after : State → List Call → State
@@ -58,6 +60,6 @@ abbrev pub Demand3 : Type 0
 Demand3 =
     (b : BringUp) (l : Lent) (routes : List ℕ) (calls : List Call) →
     ((d : ℕ) → d < 32 → routeOf routes (b .slot) d ≡ 0) →
-    bringUp b (l .ctx) routes (l .log) (l .outcomes) .answer ≡ answer.Accepted →
+    (bringUp b (l .ctx) routes (l .log) (l .outcomes)) .answer ≡ answer.Accepted →
     AllOfSlot (b .slot) calls →
     Kept (b .slot) routes (after (start b (bringUp b (l .ctx) routes (l .log) (l .outcomes))) calls)
