@@ -28,6 +28,7 @@ use Rattle.block.specs.Fields.{DROP-FLAG, ADD-FLAG}
 use Rattle.block.specs.Promises.{someDci}
 use Rattle.context.specs.Place.{blockAt, readAt, written, CONTROL, Spaced}
 use Rattle.context.specs.Steps.{configureWrites}
+use Rattle.context.proofs.Laws.{written-length}
 use Rattle.context.proofs.Added.{drop-flag-reads, add-flag-reads}
 use Rattle.transfer.specs.Routes.{Queue}
 use Rattle.controller.specs.Controller.{configured, isDone, CONFIGURE, controlled}
@@ -135,6 +136,45 @@ module _ (s : ℕ) (ctx : List ℕ) (spaced : Spaced s (length ctx)) (d : ℕ) (
       first-block s after (ADD-FLAG d) ∙ add-flag-reads speed interface alternate dropped added qs dcis s ctx spaced d two h in
       rw (le-leb 2 d two, lt-ltb d 32 h, drops, adds, flag-set (someDci d dropped), flag-set (someDci d added))
 
+-- dropped only
+pub drops-only : (was dropped : Bool) → ((was && not dropped) || false) ≡ (was && not dropped)
+drops-only true true = refl
+drops-only true false = refl
+drops-only false true = refl
+drops-only false false = refl
+
+-- what was dropped is added again and what was added dropped, and nothing else
+drops-undone : (was dropped added : Bool) → (dropped ≡ true → was ≡ true) → (added ≡ true → dropped ≡ false → was ≡ false) →
+    ((((was && not dropped) || added) && not added) || dropped) ≡ was
+drops-undone true true added h g = go added
+  where
+    go : (a : Bool) → (((false || a) && not a) || true) ≡ true
+    go true = refl
+    go false = refl
+drops-undone true false true h g = sym (g refl refl)
+drops-undone true false false h g = refl
+drops-undone false true added h g = not-both true refl (sym (h refl))
+drops-undone false false true h g = refl
+drops-undone false false false h g = refl
+
+module _ (s : ℕ) (ctx : List ℕ) (spaced : Spaced s (length ctx)) (d : ℕ) (two : 2 ≤ d) (h : d < 32) where
+  -- a second Configure that drops what the first added and adds what it dropped undoes it
+  pub configured-undone : (speed interface alternate backAlternate : ℕ) (dropped added : List ℕ) (qs backQs : List Queue)
+      (dcis : List ℕ) (enabled : ℕ → Bool) →
+      (someDci d dropped ≡ true → enabled d ≡ true) →
+      (someDci d added ≡ true → someDci d dropped ≡ false → enabled d ≡ false) →
+      let first = written s (configureWrites speed interface alternate dropped added qs dcis) ctx in
+      let second = written s (configureWrites speed interface backAlternate added dropped backQs dcis) first in
+      configured second (configured first enabled) d ≡ enabled d
+  configured-undone speed interface alternate backAlternate dropped added qs backQs dcis enabled p q =
+      let first : List ℕ = written s (configureWrites speed interface alternate dropped added qs dcis) ctx in
+      let still : Spaced s (length first) =
+      rw (written-length s (configureWrites speed interface alternate dropped added qs dcis) ctx) spaced in
+      configured-writes s first still d two h speed interface backAlternate added dropped backQs dcis (configured first enabled)
+      ∙ ap (λ x. (x && not (someDci d added)) || someDci d dropped)
+      (configured-writes s ctx spaced d two h speed interface alternate dropped added qs dcis enabled)
+      ∙ drops-undone (enabled d) (someDci d dropped) (someDci d added) p q
+
 -- However its commands go, a course ends with a value and with enabled endpoints of which Q holds.
 unfoldable pub Follows : {A : Type 0} → (A → (ℕ → Bool) → Type 0) → (ℕ → Bool) → Course A → Type 0
 Follows Q enabled (ends a) = Q a enabled
@@ -202,8 +242,7 @@ module _ {was made : Bool} {Undone : Type 0} where
   unfolding number
   told-failed u = record { accepted = λ a. absurd (omega (arith, ap number a)); failed = λ code f. u }
 
-  -- an answer that is neither
-  pub told-nothing : {x : Answer} {now : Bool} → 13 < number x → Told was made Undone x now
+  told-nothing : {x : Answer} {now : Bool} → 13 < number x → Told was made Undone x now
   unfolding number
   told-nothing h =
       record {
@@ -211,23 +250,15 @@ module _ {was made : Bool} {Undone : Type 0} where
         failed = λ code f. absurd (omega (arith, h, ap number f));
       }
 
--- dropped only
-pub drops-only : (was dropped : Bool) → ((was && not dropped) || false) ≡ (was && not dropped)
-drops-only true true = refl
-drops-only true false = refl
-drops-only false true = refl
-drops-only false false = refl
+  -- the other answers tell nothing
+  pub told-broken : {now : Bool} → Told was made Undone answer.InterfaceBroken now
+  unfolding number
+  told-broken = told-nothing (omega arith)
 
--- what was dropped is added again and what was added dropped, and nothing else
-pub drops-undone : (was dropped added : Bool) → (dropped ≡ true → was ≡ true) → (added ≡ true → dropped ≡ false → was ≡ false) →
-    ((((was && not dropped) || added) && not added) || dropped) ≡ was
-drops-undone true true added h g = go added
-  where
-    go : (a : Bool) → (((false || a) && not a) || true) ≡ true
-    go true = refl
-    go false = refl
-drops-undone true false true h g = sym (g refl refl)
-drops-undone true false false h g = refl
-drops-undone false true added h g = not-both true refl (sym (h refl))
-drops-undone false false true h g = refl
-drops-undone false false false h g = refl
+  pub told-cut : {now : Bool} → Told was made Undone answer.Cut now
+  unfolding number
+  told-cut = told-nothing (omega arith)
+
+  pub told-invalid : {now : Bool} → Told was made Undone answer.InvalidEndpoint now
+  unfolding number
+  told-invalid = told-nothing (omega arith)
