@@ -23,6 +23,10 @@ endpointWord directionIn number type size packets interval =
     + packets * 2 ^ 10
     + interval * 2 ^ 2
 
+-- 0x81, interrupt, size 64, packets 1, interval 4.
+abbrev pub interrupt81 : ℕ
+interrupt81 = endpointWord 1 1 3 64 1 4
+
 -- The context of a Configure that adds one word, over zeros and with no endpoint in the record.
 abbrev pub oneAdded : (spacing speed word ring : ℕ) → List ℕ
 oneAdded spacing speed word ring =

@@ -1,2 +1,4 @@
 pub mod Added
 pub mod Cases
+pub mod Example
+pub mod Lists
