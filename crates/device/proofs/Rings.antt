@@ -1,7 +1,7 @@
 -- The live rings of a record by place.
 use Prim.Native.Nat.{ℕ, zero, suc, _+_, _≤_, _<_}
 use mathlib.Core.Path.{_≡_, refl, sym, ap, _∙_}
-use mathlib.Core.Logic.{_⊎_, inl, inr}
+use mathlib.Core.Logic.{_⊎_, inl, inr, ⊎-elim}
 use mathlib.Core.Bool.{Bool, true, false, not, cond, _&&_, _||_}
 use mathlib.Core.List.{List, [], _∷_, _++_}
 use native.Mathlib.Decide.{decLt}
@@ -281,3 +281,240 @@ pending-from words rings p h z = go (pending-source words rings (replicate 30 0)
     go : (x ≡ getD (replicate 30 0) p 0) ⊎ From words rings p x → From words rings p x
     go (inl e) = absurd (z (e ∙ getD-replicate 30 p 0 0 h))
     go (inr t) = t
+
+-- The rings offered, by place.
+pub apart-offered :
+    (words rings live : List ℕ) (control : ℕ) (quarantined : List ℕ) →
+    Offered (length words) rings live control quarantined → Apart (pendingRings words rings) control
+apart-offered words rings live control quarantined o =
+    record {
+      ok = λ p h z. let t = pending-from words rings p h z in rw (t .same) (ring-at rings (o .ok) (t .at) (inside p t));
+      different = λ p q h g z e.
+          let t = pending-from words rings p h z in
+          let u = pending-from words rings q g (λ w. z (e ∙ w)) in
+          let s : t .at ≡ u .at =
+          distinct-place rings (o .apart) (t .at) (u .at) (inside p t) (inside q u) (sym (t .same) ∙ e ∙ u .same) in
+          sym (t .placed) ∙ ap (λ k. placeOf ((endpointDescriptor (getD words k 0)) .address)) s ∙ u .placed;
+      other = λ p h z e.
+          let t = pending-from words rings p h z in
+          not-both (elem control rings) (rw (← e, t .same) (elem-at rings (t .at) (inside p t))) (o .not-control);
+    }
+  where
+    inside : {x : ℕ} (p : ℕ) (t : From words rings p x) → t .at < length rings
+    inside p t = omega (arith, t .inside, o .counted)
+
+-- None of them is live.
+offered-live :
+    (words rings live : List ℕ) (control : ℕ) (quarantined : List ℕ) →
+    Offered (length words) rings live control quarantined → length live ≡ 30 →
+    (p q : ℕ) → p < 30 → q < 30 → (getD (pendingRings words rings) p 0 ≡ 0 → ⊥) →
+    getD (pendingRings words rings) p 0 ≡ getD live q 0 → ⊥
+offered-live words rings live control quarantined o l p q h g z e =
+    let t = pending-from words rings p h z in
+    let r : elem (getD live q 0) rings ≡ true =
+    rw (← e, t .same) (elem-at rings (t .at) (omega (arith, t .inside, o .counted))) in
+    not-both (elem (getD live q 0) live) (elem-at live q (omega arith))
+    (disjoint-elem rings live (o .not-live) (getD live q 0) r)
+
+-- No rings.
+pub apart-none : (control : ℕ) → Apart (replicate 30 0) control
+apart-none control =
+    record {
+      ok = λ p h z. absurd (z (getD-replicate 30 p 0 0 h));
+      different = λ p q h g z e. absurd (z (getD-replicate 30 p 0 0 h));
+      other = λ p h z e. z (getD-replicate 30 p 0 0 h);
+    }
+
+-- The rings after a claim: the pending ones, and the others' as before.
+module _ (i : ℕ) (pending : List ℕ) (c : Cells) (control : ℕ)
+    (new : Apart pending control) (old : Apart (c .rings) control)
+    (cross : (p q : ℕ) → p < 30 → q < 30 → (getD pending p 0 ≡ 0 → ⊥) → getD pending p 0 ≡ getD (c .rings) q 0 → ⊥) where
+  after : ℕ → ℕ
+  after p = getD ((claimedCells i pending c) .rings) p 0
+
+  Source : ℕ → Type 0
+  Source p =
+      ((getD pending p 0 ≡ 0 → ⊥) × (after p ≡ getD pending p 0))
+      ⊎ ((getD (c .rings) p 0 ≡ 0 → ⊥) × (after p ≡ getD (c .rings) p 0))
+
+  source : (p : ℕ) → p < 30 → (after p ≡ 0 → ⊥) → Source p
+  unfolding after Source claimedRing
+  source p h z = go (decided (eqb (getD pending p 0) 0)) (isOwned (Interface i) c p) (claimed-ring i pending c p h)
+    where
+      go :
+          Decided (eqb (getD pending p 0) 0) → (own : Bool) →
+          after p ≡ cond (eqb (getD pending p 0) 0) (cond own 0 (getD (c .rings) p 0)) (getD pending p 0) → Source p
+      go (inl e) true s = absurd (z (rw e at s))
+      go (inl e) false s = let t : after p ≡ getD (c .rings) p 0 = rw e at s in inr (λ y. z (t ∙ y), t)
+      go (inr e) own s = inl (eqb-false (getD pending p 0) 0 e, rw e at s)
+
+  source-ok : (p : ℕ) → p < 30 → Source p → ringOk (after p) ≡ true
+  unfolding Source
+  source-ok p h (inl t) = rw (t .1) (new .ok p h (t .0))
+  source-ok p h (inr t) = rw (t .1) (old .ok p h (t .0))
+
+  source-different : (p q : ℕ) → p < 30 → q < 30 → after p ≡ after q → Source p → Source q → p ≡ q
+  unfolding Source
+  source-different p q h g e (inl t) (inl u) = new .different p q h g (t .0) (sym (t .1) ∙ e ∙ u .1)
+  source-different p q h g e (inl t) (inr u) = absurd (cross p q h g (t .0) (sym (t .1) ∙ e ∙ u .1))
+  source-different p q h g e (inr t) (inl u) = absurd (cross q p g h (u .0) (sym (u .1) ∙ sym e ∙ t .1))
+  source-different p q h g e (inr t) (inr u) = old .different p q h g (t .0) (sym (t .1) ∙ e ∙ u .1)
+
+  source-other : (p : ℕ) → p < 30 → after p ≡ control → Source p → ⊥
+  unfolding Source
+  source-other p h e (inl t) = new .other p h (t .0) (sym (t .1) ∙ e)
+  source-other p h e (inr t) = old .other p h (t .0) (sym (t .1) ∙ e)
+
+  apart-after : Apart ((claimedCells i pending c) .rings) control
+  unfolding after
+  apart-after =
+      record {
+        ok = λ p h z. source-ok p h (source p h z);
+        different = λ p q h g z e. source-different p q h g e (source p h z) (source q g (λ y. z (e ∙ y)));
+        other = λ p h z e. source-other p h e (source p h z);
+      }
+
+-- A claim with rings that were offered keeps them apart.
+pub apart-claimed :
+    (i : ℕ) (words rings : List ℕ) (c : Cells) (control : ℕ) (quarantined : List ℕ) → CleanCells c →
+    Offered (length words) rings (c .rings) control quarantined → Apart (c .rings) control →
+    Apart ((claimedCells i (pendingRings words rings) c) .rings) control
+apart-claimed i words rings c control quarantined clean o old =
+    apart-after i (pendingRings words rings) c control (apart-offered words rings (c .rings) control quarantined o) old
+    (offered-live words rings (c .rings) control quarantined o (clean .whole .rings))
+
+-- A release does.
+pub apart-released :
+    (i : ℕ) (c : Cells) (control : ℕ) → Apart (c .rings) control →
+    Apart ((claimedCells i (replicate 30 0) c) .rings) control
+apart-released i c control old =
+    apart-after i (replicate 30 0) c control (apart-none control) old (λ p q h g z e. z (getD-replicate 30 p 0 0 h))
+
+-- The live rings of the arrays that cells make.
+module _ (c : Cells) where
+  liveFrom : ℕ → ℕ → List ℕ
+  liveFrom k a = ringsOf (gathered (endpointAt c) (c .rings) k a)
+
+  from-few : (k a : ℕ) → length (gathered (endpointAt c) (c .rings) k a) ≤ k
+  unfolding gathered
+  from-few zero a = omega arith
+  from-few (suc k) a = go (eqb (getD (c .rings) a 0) 0) (gathered (endpointAt c) (c .rings) k (a + 1)) (from-few k (a + 1))
+    where
+      go : (t : Bool) (l : List Endpoint) → length l ≤ k → length (cond t l (endpointAt c a ∷ l)) ≤ suc k
+      go true l h = omega arith
+      go false l h = omega arith
+
+  -- There are at most 30.
+  pub endpoints-few : length (endpointsOf c) ≤ 30
+  unfolding endpointsOf
+  endpoints-few = from-few 30 0
+
+  record Live (k a x : ℕ) : Type 0 where
+    pub at : ℕ
+    pub low : a ≤ at
+    pub high : at < a + k
+    pub nonzero : getD (c .rings) at 0 ≡ 0 → ⊥
+    pub same : x ≡ getD (c .rings) at 0
+
+  live-next :
+      (k a : ℕ) →
+      liveFrom (suc k) a
+      ≡ cond (eqb (getD (c .rings) a 0) 0) (liveFrom k (a + 1)) (getD (c .rings) a 0 ∷ liveFrom k (a + 1))
+  unfolding liveFrom gathered ringsOf endpointAt
+  live-next k a = go (eqb (getD (c .rings) a 0) 0) (gathered (endpointAt c) (c .rings) k (a + 1))
+    where
+      go :
+          (t : Bool) (l : List Endpoint) →
+          ringsOf (cond t l (endpointAt c a ∷ l)) ≡ cond t (ringsOf l) (getD (c .rings) a 0 ∷ ringsOf l)
+      go true l = refl
+      go false l = refl
+
+  live-last : (a : ℕ) → liveFrom zero a ≡ []
+  unfolding liveFrom gathered ringsOf
+  live-last a = refl
+
+  later : (k a x : ℕ) → Live k (a + 1) x → Live (suc k) a x
+  later k a x t =
+      record { at = t .at; low = omega (arith, t .low); high = omega (arith, t .high); nonzero = t .nonzero; same = t .same }
+
+  from-elem : (k a x : ℕ) → elem x (liveFrom k a) ≡ true → Live k a x
+  from-elem zero a x h = elem-none x (rw (live-last a) at h)
+  from-elem (suc k) a x h =
+      go (decided (eqb (getD (c .rings) a 0) 0)) (from-elem k (a + 1) x) (rw (live-next k a) at h)
+    where
+      here : eqb (getD (c .rings) a 0) 0 ≡ false → x ≡ getD (c .rings) a 0 → Live (suc k) a x
+      here e s =
+          record { at = a; low = omega arith; high = omega arith; nonzero = eqb-false (getD (c .rings) a 0) 0 e; same = s }
+
+      go :
+          Decided (eqb (getD (c .rings) a 0) 0) → (elem x (liveFrom k (a + 1)) ≡ true → Live k (a + 1) x) →
+          elem x (cond (eqb (getD (c .rings) a 0) 0) (liveFrom k (a + 1)) (getD (c .rings) a 0 ∷ liveFrom k (a + 1))) ≡ true →
+          Live (suc k) a x
+      go (inl e) f g = later k a x (f (rw e at g))
+      go (inr e) f g =
+          ⊎-elim (λ s. here e s) (λ s. later k a x (f s))
+          (elem-cases x (getD (c .rings) a 0) (liveFrom k (a + 1)) (rw e at g))
+
+  module _ (control : ℕ) (apart : Apart (c .rings) control) where
+    from-ok : (k a : ℕ) → a + k ≤ 30 → ringsOk (liveFrom k a) ≡ true
+    unfolding ringsOk
+    from-ok zero a h = rw (live-last a)
+    from-ok (suc k) a h =
+        rw (live-next k a) (go (decided (eqb (getD (c .rings) a 0) 0)) (from-ok k (a + 1) (omega arith)))
+      where
+        go :
+            Decided (eqb (getD (c .rings) a 0) 0) → ringsOk (liveFrom k (a + 1)) ≡ true →
+            ringsOk (cond (eqb (getD (c .rings) a 0) 0) (liveFrom k (a + 1)) (getD (c .rings) a 0 ∷ liveFrom k (a + 1))) ≡ true
+        go (inl e) f = rw e f
+        go (inr e) f =
+            rw e
+            (and-true (ringOk (getD (c .rings) a 0)) (ringsOk (liveFrom k (a + 1)))
+            (apart .ok a (omega arith) (eqb-false (getD (c .rings) a 0) 0 e)) f)
+
+    from-distinct : (k a : ℕ) → a + k ≤ 30 → distinct (liveFrom k a) ≡ true
+    unfolding distinct
+    from-distinct zero a h = rw (live-last a)
+    from-distinct (suc k) a h =
+        rw (live-next k a) (go (decided (eqb (getD (c .rings) a 0) 0)) (from-distinct k (a + 1) (omega arith)))
+      where
+        again : eqb (getD (c .rings) a 0) 0 ≡ false → elem (getD (c .rings) a 0) (liveFrom k (a + 1)) ≡ true → ⊥
+        again e g =
+            let t = from-elem k (a + 1) (getD (c .rings) a 0) g in
+            omega (
+              arith,
+              t .low,
+              apart .different a (t .at) (omega arith) (omega (arith, t .high)) (eqb-false (getD (c .rings) a 0) 0 e) (t .same),
+            )
+
+        go :
+            Decided (eqb (getD (c .rings) a 0) 0) → distinct (liveFrom k (a + 1)) ≡ true →
+            distinct (cond (eqb (getD (c .rings) a 0) 0) (liveFrom k (a + 1)) (getD (c .rings) a 0 ∷ liveFrom k (a + 1))) ≡ true
+        go (inl e) f = rw e f
+        go (inr e) f =
+            rw e
+            (distinct-cons (getD (c .rings) a 0) (liveFrom k (a + 1)) (false-if (elem (getD (c .rings) a 0) (liveFrom k (a + 1))) (again e)) f)
+
+    one-ok : ringOk control ≡ true → ringsOk (control ∷ []) ≡ true
+    unfolding ringsOk
+    one-ok e = and-true (ringOk control) true e refl
+
+    one-distinct : distinct (control ∷ []) ≡ true
+    unfolding distinct elem
+    one-distinct = refl
+
+    not-control : (x : ℕ) → elem x (liveFrom 30 0) ≡ true → elem x (control ∷ []) ≡ false
+    not-control x h =
+        let t = from-elem 30 0 x h in
+        false-if (elem x (control ∷ []))
+        (λ g.
+        ⊎-elim (λ s. apart .other (t .at) (t .high) (t .nonzero) (sym (t .same) ∙ s)) (λ s. elem-none x s)
+        (elem-cases x control [] g))
+
+    -- They and control's are sound.
+    pub rings-fit : ringOk control ≡ true →
+        (ringsOk (ringsOf (endpointsOf c) ++ (control ∷ [])) ≡ true) × (distinct (ringsOf (endpointsOf c) ++ (control ∷ [])) ≡ true)
+    unfolding endpointsOf liveFrom
+    rings-fit e = (
+      rings-ok-append (liveFrom 30 0) (control ∷ []) (from-ok 30 0 (omega arith)) (one-ok e),
+      distinct-append (liveFrom 30 0) (control ∷ []) (from-distinct 30 0 (omega arith)) one-distinct not-control,
+    )
