@@ -1,4 +1,5 @@
 pub mod Facts
+pub mod Kept
 pub mod Laws
 pub mod Marks
 pub mod Rings
