@@ -42,11 +42,11 @@ use Rattle.device.specs.Calls.{onCheck}
 use Rattle.device.specs.Claim.{claimCheck, pendingOf, quarantines, claimRecord, claim}
 use Rattle.device.specs.Release.{releaseCheck, releaseRecord, release}
 use Rattle.device.specs.SetConfiguration.{bare, setRecord, setConfiguration}
-use Rattle.device.proofs.Facts.{SoundFacts, sound-facts}
+use Rattle.device.proofs.Facts.{SoundFacts, sound-facts, unusable-not}
 use Rattle.device.proofs.Laws.{Passed, passed, pass-if}
 use Rattle.device.proofs.Rings.{Apart, control-ok, clean-in, apart-in, apart-none, apart-claimed, apart-released, endpoints-few, rings-fit}
 use Rattle.device.proofs.Steps.{rings-length}
-use Rattle.device.proofs.Updates.{Same, liveOf}
+use Rattle.device.proofs.Updates.{Same, same-then, liveOf, with-cells-same, with-cells-usable, with-cells-held, with-cells-cells, with-cells-live, with-cells-count, with-cells-quarantined-count, with-held-same, with-held-usable, with-held-held, with-held-cells, with-held-live, with-held-count, with-held-quarantined-count, with-configuration-same, with-configuration-usable, with-configuration-held, with-configuration-cells, with-configuration-live, with-configuration-count, with-configuration-quarantined-count, with-quarantined-same, with-quarantined-usable, with-quarantined-held, with-quarantined-cells, unusable-same, unusable-held, unusable-cells}
 
 -- 14 and 15, after which a record is not usable.
 abbrev pub isLost : Answer → Bool
@@ -123,3 +123,133 @@ module _ (d e : Device) (hs : List Held) (c : Cells) (s : sound d ≡ true) (b :
       (and-true (settingsSound (listOf e) (heldOf e)) _ (rw (b .same .list, b .held) settings)
       (and-true (addressesFit (addresses (take (e .«ep_count») (e .eps)))) _ (rw (b .live) (endpoints-fit c))
       (and-true (endpointsMatch (listOf e) (heldOf e) (cellsIn e)) _ (rw (b .same .list, b .held, b .cells) match) rings-sound)))))
+
+-- A record with the mark that an answer leaves.
+made-lost :
+    (d e : Device) (hs : List Held) (c : Cells) (lost : Bool) → Same d e → e .usable ≡ true → heldOf e ≡ hs → cellsIn e ≡ c →
+    (lost ≡ false → sound e ≡ true) → Made d (cond lost (unusable e) e) hs c lost
+made-lost d e hs c true s u h f g =
+    record {
+      same = same-then d e (unusable e) s (unusable-same e);
+      held = unusable-held e ∙ h;
+      cells = unusable-cells e ∙ f;
+      usable = unusable-not e;
+      is-sound = λ t. not-both ((unusable e) .usable) t (unusable-not e);
+    }
+made-lost d e hs c false s u h f g = record { same = s; held = h; cells = f; usable = u; is-sound = λ t. g refl }
+
+made-marked :
+    (d e : Device) (hs : List Held) (c : Cells) (a : Answer) → Same d e → e .usable ≡ true → heldOf e ≡ hs → cellsIn e ≡ c →
+    (isLost a ≡ false → sound e ≡ true) → Made d (marked a e) hs c (isLost a)
+unfolding marked
+made-marked d e hs c a s u h f g = made-lost d e hs c (isLost a) s u h f g
+
+-- The records that the calls make of a sound and usable one.
+module _ (d : Device) (u : d .usable ≡ true) (s : sound d ≡ true) where
+  cells-clean : CleanCells (cellsIn d)
+  cells-clean = clean-in d (sound-facts d s .rings .ok)
+
+  cells-apart : Apart ((cellsIn d) .rings) (d .control)
+  cells-apart =
+      let f = sound-facts d s in apart-in d (f .rings .ok) (f .addresses-fit) (f .rings .different)
+
+  cells-base : (c : Cells) → CleanCells c → Base d (withCells c d) (heldOf d) c
+  cells-base c clean =
+      record {
+        same = with-cells-same c d;
+        usable = with-cells-usable c d ∙ u;
+        held = with-cells-held c d;
+        cells = with-cells-cells c d clean;
+        live = with-cells-live c d;
+        count = with-cells-count c d;
+        none = with-cells-quarantined-count c d ∙ sound-facts d s .rings .free u;
+      }
+
+  held-base : (hs : List Held) (c : Cells) → CleanCells c → Base d (withHeld hs (withCells c d)) hs c
+  held-base hs c clean =
+      let b = cells-base c clean in
+      let e = withCells c d in
+      record {
+        same = same-then d e (withHeld hs e) (b .same) (with-held-same hs e);
+        usable = with-held-usable hs e ∙ b .usable;
+        held = with-held-held hs e;
+        cells = with-held-cells hs e ∙ b .cells;
+        live = with-held-live hs e ∙ b .live;
+        count = with-held-count hs e ∙ b .count;
+        none = with-held-quarantined-count hs e ∙ b .none;
+      }
+
+  active-base : (who : Owner) (n : ℕ) →
+      Base d (withCells (withActive who n (cellsIn d)) d) (heldOf d) (withActive who n (cellsIn d))
+  active-base who n = cells-base (withActive who n (cellsIn d)) (clean-active who n (cellsIn d) cells-clean)
+
+  active-sound : (who : Owner) (n : ℕ) → sound (withCells (withActive who n (cellsIn d)) d) ≡ true
+  active-sound who n =
+      let f = sound-facts d s in
+      let c = withActive who n (cellsIn d) in
+      base-sound d (withCells c d) (heldOf d) c s (active-base who n) (f .settings)
+      (match-active (listOf d) (heldOf d) who n (cellsIn d) ∙ f .endpoints)
+      (rw (active-rings who (cellsIn d) n) cells-apart)
+
+  -- Some endpoints of an owner active.
+  active-made : (who : Owner) (n : ℕ) (a : Answer) →
+      Made d (marked a (withCells (withActive who n (cellsIn d)) d)) (heldOf d) (withActive who n (cellsIn d)) (isLost a)
+  active-made who n a =
+      let b = active-base who n in
+      made-marked d (withCells (withActive who n (cellsIn d)) d) (heldOf d) (withActive who n (cellsIn d)) a
+      (b .same) (b .usable) (b .held) (b .cells) (λ l. active-sound who n)
+
+  -- The same, with rings in quarantine after 14.
+  quarantined-made : (who : Owner) (n : ℕ) (a : Answer) (rings : List ℕ) →
+      Made d (marked a (quarantines a rings (withCells (withActive who n (cellsIn d)) d))) (heldOf d) (withActive who n (cellsIn d)) (isLost a)
+  unfolding quarantines
+  quarantined-made who n a rings =
+      let t = go (isBroken a) in
+      made-marked d (cond (isBroken a) (withQuarantined rings e) e) (heldOf d) (withActive who n (cellsIn d)) a
+      (t .0) (t .1) (t .2) (t .3)
+      (λ l. rw (or-none (isBroken a) (isCut a) l .0) (active-sound who n))
+    where
+      e : Device
+      e = withCells (withActive who n (cellsIn d)) d
+
+      go :
+          (t : Bool) →
+          Same d (cond t (withQuarantined rings e) e) × ((cond t (withQuarantined rings e) e) .usable ≡ true)
+          × (heldOf (cond t (withQuarantined rings e) e) ≡ heldOf d)
+          × (cellsIn (cond t (withQuarantined rings e) e) ≡ withActive who n (cellsIn d))
+      go true =
+          let b = active-base who n in (
+            same-then d e (withQuarantined rings e) (b .same) (with-quarantined-same rings e),
+            with-quarantined-usable rings e ∙ b .usable,
+            with-quarantined-held rings e ∙ b .held,
+            with-quarantined-cells rings e ∙ b .cells,
+          )
+      go false = let b = active-base who n in (b .same, b .usable, b .held, b .cells)
+
+  -- Other settings and endpoints.
+  held-made : (hs : List Held) (c : Cells) (a : Answer) → CleanCells c → settingsSound (listOf d) hs ≡ true →
+      endpointsMatch (listOf d) hs c ≡ true → Apart (c .rings) (d .control) →
+      Made d (marked a (withHeld hs (withCells c d))) hs c (isLost a)
+  held-made hs c a clean settings match apart =
+      let b = held-base hs c clean in
+      made-marked d (withHeld hs (withCells c d)) hs c a (b .same) (b .usable) (b .held) (b .cells)
+      (λ l. base-sound d (withHeld hs (withCells c d)) hs c s b settings match apart)
+
+-- What a passed check of a claim says.
+pub record ClaimPassed (d : Device) (i a : ℕ) (rings : List ℕ) : Type 0 where
+  pub found : isFound (findEndpoints (listOf d) i a) ≡ true
+  pub free : addressesFree (settingWords (listOf d) i a) i (cellsIn d) ≡ true
+  pub offer : Offered (length (settingWords (listOf d) i a)) rings ((cellsIn d) .rings) (d .control) (quarantinedOf d)
+
+pub claim-passed : (d : Device) (i a : ℕ) (rings : List ℕ) → claimCheck d i a rings ≡ Pass → ClaimPassed d i a rings
+unfolding claimCheck
+claim-passed d i a rings e =
+    let words = settingWords (listOf d) i a in
+    let f : (isFound (findEndpoints (listOf d) i a) ≡ true) × _ = pass-if _ _ _ e in
+    let g : (addressesFree words i (cellsIn d) ≡ true) × _ = pass-if _ _ _ (f .1) in
+    let h : (offerOk (length words) rings ((cellsIn d) .rings) (d .control) (quarantinedOf d) ≡ true) × _ = pass-if _ _ _ (g .1) in
+    record {
+      found = f .0;
+      free = g .0;
+      offer = offered (length words) rings ((cellsIn d) .rings) (d .control) (quarantinedOf d) (h .0);
+    }
