@@ -1,5 +1,5 @@
 -- The record that a call makes: what it holds, and that it is sound while it is usable.
-use Prim.Native.Nat.{ℕ, _+_, _≤_}
+use Prim.Native.Nat.{ℕ, _≤_, _<_}
 use mathlib.Core.Path.{_≡_, refl, sym, ap, _∙_}
 use mathlib.Core.Logic.{_⊎_, inl, inr, ⊎-elim}
 use mathlib.Core.Bool.{Bool, true, false, not, cond, _&&_, _||_}
@@ -42,7 +42,7 @@ use Rattle.device.specs.Calls.{onCheck}
 use Rattle.device.specs.Claim.{claimCheck, pendingOf, quarantines, claimRecord, claim}
 use Rattle.device.specs.Release.{releaseCheck, releaseRecord, release}
 use Rattle.device.specs.SetConfiguration.{bare, setRecord, setConfiguration}
-use Rattle.device.proofs.Facts.{SoundFacts, sound-facts, unusable-not}
+use Rattle.device.proofs.Facts.{SoundFacts, sound-facts, unusable-not, none-quarantined}
 use Rattle.device.proofs.Laws.{Passed, passed, pass-if}
 use Rattle.device.proofs.Rings.{Apart, control-ok, clean-in, apart-in, apart-none, apart-claimed, apart-released, endpoints-few, rings-fit}
 use Rattle.device.proofs.Steps.{rings-length}
@@ -253,3 +253,188 @@ claim-passed d i a rings e =
       free = g .0;
       offer = offered (length words) rings ((cellsIn d) .rings) (d .control) (quarantinedOf d) (h .0);
     }
+
+-- A claim that moves its settings.
+pub claim-moves :
+    (d : Device) (ctx routes log i a : ℕ) (rings : List ℕ) → recordCheck d ctx routes log (claimCheck d i a rings) ≡ Pass →
+    (e : End) → e .moved ≡ true →
+    Made d (claimRecord d i a rings e) (withSetting i a (heldOf d)) (claimedCells i (pendingOf d i a rings) (cellsIn d)) (isLost (e .answer))
+unfolding claimRecord pendingOf
+claim-moves d ctx routes log i a rings k e m =
+    let t = passed d ctx routes log (claimCheck d i a rings) k in
+    let p : ClaimPassed d i a rings = claim-passed d i a rings (t .1) in
+    let f : SoundFacts d = t .0 .facts in
+    let words = settingWords (listOf d) i a in
+    let pending = pendingRings words rings in
+    let clean = cells-clean d (t .0 .usable) (t .0 .is-sound) in
+    let nonzero : (j : ℕ) → j < length words → getD rings j 0 ≡ 0 → ⊥ =
+    λ j h. ring-nonzero (getD rings j 0) (ring-at rings (p .offer .ok) j (omega (arith, p .offer .counted))) in
+    rw m
+    (held-made d (t .0 .usable) (t .0 .is-sound) (withSetting i a (heldOf d)) (claimedCells i pending (cellsIn d)) (e .answer)
+    (clean-claimed i pending (cellsIn d) clean)
+    (sound-with (listOf d) (heldOf d) (f .settings) i a (p .found))
+    (match-claimed (listOf d) (heldOf d) i pending (cellsIn d) (f .settings) (f .endpoints) a (p .free)
+    (λ q h. pending-place words rings q h nonzero))
+    (apart-claimed i words rings (cellsIn d) (d .control) (quarantinedOf d) clean (p .offer) (cells-apart d (t .0 .usable) (t .0 .is-sound))))
+
+-- A claim that does not.
+pub claim-stays :
+    (d : Device) (ctx routes log i a : ℕ) (rings : List ℕ) → recordCheck d ctx routes log (claimCheck d i a rings) ≡ Pass →
+    (e : End) → e .moved ≡ false →
+    Made d (claimRecord d i a rings e) (heldOf d) (withActive (Interface i) (e .active) (cellsIn d)) (isLost (e .answer))
+unfolding claimRecord
+claim-stays d ctx routes log i a rings k e m =
+    let t = passed d ctx routes log (claimCheck d i a rings) k in
+    rw m
+    (quarantined-made d (t .0 .usable) (t .0 .is-sound) (Interface i) (e .active) (e .answer) (queueRings (queuesOf (pendingOf d i a rings))))
+
+-- A release that moves its setting.
+pub release-moves :
+    (d : Device) (ctx routes log i : ℕ) → recordCheck d ctx routes log (releaseCheck d i) ≡ Pass → (e : End) → e .moved ≡ true →
+    Made d (releaseRecord d i e) (withoutSetting i (heldOf d)) (claimedCells i (replicate 30 0) (cellsIn d)) (isLost (e .answer))
+unfolding releaseRecord
+release-moves d ctx routes log i k e m =
+    let t = passed d ctx routes log (releaseCheck d i) k in
+    let f : SoundFacts d = t .0 .facts in
+    rw m
+    (held-made d (t .0 .usable) (t .0 .is-sound) (withoutSetting i (heldOf d)) (claimedCells i (replicate 30 0) (cellsIn d)) (e .answer)
+    (clean-claimed i (replicate 30 0) (cellsIn d) (cells-clean d (t .0 .usable) (t .0 .is-sound)))
+    (sound-without (listOf d) (heldOf d) (f .settings) i)
+    (match-released (listOf d) (heldOf d) i (replicate 30 0) (cellsIn d) (f .settings) (f .endpoints) (λ p h. getD-replicate 30 p 0 0 h))
+    (apart-released i (cellsIn d) (d .control) (cells-apart d (t .0 .usable) (t .0 .is-sound))))
+
+-- A release that does not.
+pub release-stays :
+    (d : Device) (ctx routes log i : ℕ) → recordCheck d ctx routes log (releaseCheck d i) ≡ Pass → (e : End) → e .moved ≡ false →
+    Made d (releaseRecord d i e) (heldOf d) (withActive (Interface i) (e .active) (cellsIn d)) (isLost (e .answer))
+unfolding releaseRecord
+release-stays d ctx routes log i k e m =
+    let t = passed d ctx routes log (releaseCheck d i) k in
+    rw m (active-made d (t .0 .usable) (t .0 .is-sound) (Interface i) (e .active) (e .answer))
+
+module _ (d : Device) (u : d .usable ≡ true) (s : sound d ≡ true) where
+  bare-base : Base d (bare d) [] noCells
+  unfolding bare
+  bare-base = held-base d u s [] noCells clean-none
+
+  configured-base : (value : ℕ) → Base d (withConfiguration value (bare d)) [] noCells
+  configured-base value =
+      let b = bare-base in
+      let e = bare d in
+      record {
+        same = same-then d e (withConfiguration value e) (b .same) (with-configuration-same value e);
+        usable = with-configuration-usable value e ∙ b .usable;
+        held = with-configuration-held value e ∙ b .held;
+        cells = with-configuration-cells value e ∙ b .cells;
+        live = with-configuration-live value e ∙ b .live;
+        count = with-configuration-count value e ∙ b .count;
+        none = with-configuration-quarantined-count value e ∙ b .none;
+      }
+
+  bare-sound : (e : Device) → Base d e [] noCells → sound e ≡ true
+  unfolding noCells
+  bare-sound e b = base-sound d e [] noCells s b (sound-none (listOf d)) (match-none (listOf d)) (apart-none (d .control))
+
+  bare-made : (e : Device) (a : Answer) → Base d e [] noCells → Made d (marked a e) [] noCells (isLost a)
+  bare-made e a b = made-marked d e [] noCells a (b .same) (b .usable) (b .held) (b .cells) (λ l. bare-sound e b)
+
+-- A set configuration that ends the held settings.
+pub set-moves :
+    (d : Device) (ctx routes log value : ℕ) → recordCheck d ctx routes log Pass ≡ Pass → (e : End) → e .moved ≡ true →
+    Made d (setRecord d value e) [] noCells (isLost (e .answer))
+unfolding setRecord
+set-moves d ctx routes log value k e m =
+    let t = passed d ctx routes log Pass k in
+    let u = t .0 .usable in
+    let s = t .0 .is-sound in
+    rw m (go u s (isAccepted (e .answer)))
+  where
+    go :
+        d .usable ≡ true → sound d ≡ true → (b : Bool) →
+        Made d (marked (e .answer) (cond b (withConfiguration value (bare d)) (bare d))) [] noCells (isLost (e .answer))
+    go u s true = bare-made d u s (withConfiguration value (bare d)) (e .answer) (configured-base d u s value)
+    go u s false = bare-made d u s (bare d) (e .answer) (bare-base d u s)
+
+-- One that does not.
+pub set-stays :
+    (d : Device) (ctx routes log value : ℕ) → recordCheck d ctx routes log Pass ≡ Pass → (e : End) → e .moved ≡ false →
+    Made d (setRecord d value e) (heldOf d) (withActive Any (e .active) (cellsIn d)) (isLost (e .answer))
+unfolding setRecord
+set-stays d ctx routes log value k e m =
+    let t = passed d ctx routes log Pass k in
+    rw m (active-made d (t .0 .usable) (t .0 .is-sound) Any (e .active) (e .answer))
+
+-- What a call returns: the record as it came, or a sound and usable one, or one that is not usable.
+abbrev pub Live : Device → Type 0
+Live r = (r .usable ≡ true) × (sound r ≡ true)
+
+abbrev pub Returned : Device → Device → Type 0
+Returned d r = (r ≡ d) ⊎ Live r ⊎ (r .usable ≡ false)
+
+-- An answer that is not 14 or 15 leaves it sound and usable.
+pub made-live : (d e : Device) (hs : List Held) (c : Cells) (lost : Bool) → Made d e hs c lost → lost ≡ false → Live e
+made-live d e hs c lost m l = let u : e .usable ≡ true = m .usable ∙ rw l in (u, m .is-sound u)
+
+-- 14 and 15 do not leave it usable.
+pub made-lost-not : (d e : Device) (hs : List Held) (c : Cells) (lost : Bool) → Made d e hs c lost → lost ≡ true → e .usable ≡ false
+made-lost-not d e hs c lost m l = m .usable ∙ rw l
+
+made-returned : (d e : Device) (hs : List Held) (c : Cells) (lost : Bool) → Made d e hs c lost → Returned d e
+made-returned d e hs c lost m =
+    ⊎-elim (λ l. inr (inr (made-lost-not d e hs c lost m l))) (λ l. inr (inl (made-live d e hs c lost m l))) (decided lost)
+
+-- what holds of a call that runs after its checks, and of each refusal, holds of the call
+pub on-pass : (P : Left → Type 0) (k : Check) (run : Left) (refuse : Answer → Left) → (k ≡ Pass → P run) → ((a : Answer) → P (refuse a)) →
+    P (onCheck k run refuse)
+unfolding onCheck
+on-pass P Pass run refuse p q = p refl
+on-pass P (Refuse a) run refuse p q = q a
+
+ended-device : (made : End → Device) (p : Played End) → (ended made p) .device ≡ made (p .end)
+unfolding ended
+ended-device made p = refl
+
+-- what a call returns whose record is made in either of two ways
+returned :
+    (d : Device) (k : Check) (made : End → Device) (p : Played End) (ctx routes log : List ℕ) →
+    (k ≡ Pass → (e : End) → e .moved ≡ true → Returned d (made e)) →
+    (k ≡ Pass → (e : End) → e .moved ≡ false → Returned d (made e)) →
+    Returned d ((onCheck k (ended made p) (λ a. refused d a ctx routes log)) .device)
+unfolding refused
+returned d k made p ctx routes log f g =
+    on-pass (λ l. Returned d (l .device)) k (ended made p) (λ a. refused d a ctx routes log)
+    (λ q. rw (ended-device made p) (⊎-elim (λ m. f q (p .end) m) (λ m. g q (p .end) m) (decided (p .end .moved))))
+    (λ a. inl refl)
+
+-- A claim returns the record as it came, or a sound and usable one, or one that is not usable.
+pub claim-sound :
+    (d : Device) (ctx routes log outcomes : List ℕ) (i a : ℕ) (rings : List ℕ) →
+    Returned d ((claim d ctx routes log outcomes i a rings) .device)
+unfolding claim
+claim-sound d ctx routes log outcomes i a rings =
+    returned d (recordCheck d (length ctx) (length routes) (length log) (claimCheck d i a rings)) (claimRecord d i a rings) _ ctx routes log
+    (λ k e m. made-returned d _ _ _ _ (claim-moves d _ _ _ i a rings k e m))
+    (λ k e m. made-returned d _ _ _ _ (claim-stays d _ _ _ i a rings k e m))
+
+-- A release does.
+pub release-sound :
+    (d : Device) (ctx routes log outcomes : List ℕ) (i : ℕ) → Returned d ((release d ctx routes log outcomes i) .device)
+unfolding release
+release-sound d ctx routes log outcomes i =
+    returned d (recordCheck d (length ctx) (length routes) (length log) (releaseCheck d i)) (releaseRecord d i) _ ctx routes log
+    (λ k e m. made-returned d _ _ _ _ (release-moves d _ _ _ i k e m))
+    (λ k e m. made-returned d _ _ _ _ (release-stays d _ _ _ i k e m))
+
+-- A set configuration does.
+pub set-configuration-sound :
+    (d : Device) (ctx routes log outcomes : List ℕ) (value : ℕ) →
+    Returned d ((setConfiguration d ctx routes log outcomes value) .device)
+unfolding setConfiguration
+set-configuration-sound d ctx routes log outcomes value =
+    returned d (recordCheck d (length ctx) (length routes) (length log) Pass) (setRecord d value) _ ctx routes log
+    (λ k e m. made-returned d _ _ _ _ (set-moves d _ _ _ value k e m))
+    (λ k e m. made-returned d _ _ _ _ (set-stays d _ _ _ value k e m))
+
+-- And a returned record that is sound and usable has no quarantined ring.
+pub live-unquarantined : (r : Device) → Live r → quarantinedOf r ≡ []
+live-unquarantined r l = none-quarantined r (l .0) (l .1)
