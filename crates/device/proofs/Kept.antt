@@ -1,52 +1,45 @@
 -- What claim, release, set configuration and hub update make of a record.
-use Prim.Native.Nat.{ℕ, _≤_, _<_}
-use mathlib.Core.Path.{_≡_, refl, sym, ap, _∙_}
+use Prim.Native.Nat.{ℕ, _<_}
+use mathlib.Core.Path.{_≡_, refl, ap, _∙_}
 use mathlib.Core.Logic.{_⊎_, inl, inr, ⊎-elim}
-use mathlib.Core.Bool.{Bool, true, false, not, cond, _&&_, _||_}
-use mathlib.Core.List.{List, [], _∷_, _++_}
+use mathlib.Core.Bool.{Bool, true, false, not, cond}
+use mathlib.Core.List.{List, []}
 use native.Mathlib.Omega.{arith}
-use borrow.Author.Tests.{eq-eqb, le-leb}
-use lib.Dec.{eqb, leb}
-use lib.ListN.{length, getD, take, replicate, length-append, getD-replicate}
-use Rattle.laws.proofs.Tests.{and-left, and-right, and-true, not-both}
-use Rattle.laws.proofs.Cases.{Decided, decided, or-right, or-none}
-use Rattle.laws.proofs.Distinct.{distinct}
-use Rattle.def.specs.Speed.{speedKnown}
+use lib.ListN.{length, getD, replicate, getD-replicate}
+use Rattle.laws.proofs.Cases.{decided}
 use Rattle.answer.specs.declared.Answer.{Answer}
 use Rattle.answer.specs.declared.Answer.the-variants as answer
 use Rattle.answer.specs.Answer.{number}
 use Rattle.command.specs.Course.{Played}
-use Rattle.configuration.specs.Valid.{validList}
 use Rattle.configuration.specs.Lookup.{findEndpoints}
-use Rattle.ring.specs.Rings.{ringOk, ringsOk, offerOk}
+use Rattle.ring.specs.Rings.{offerOk}
 use Rattle.ring.proofs.Laws.{ring-at, ring-nonzero, Offered, offered}
 use Rattle.endpoint.specs.declared.cells.Cells.{Cells}
 use Rattle.endpoint.specs.declared.cells.Owner.{Owner}
 use Rattle.endpoint.specs.declared.cells.Owner.the-variants.{Any, Interface}
-use Rattle.endpoint.specs.Endpoint.{addresses, addressesFit}
-use Rattle.endpoint.specs.Cells.{noCells, endpointsOf, queuesOf, queueRings, pendingRings, claimedCells, withActive}
-use Rattle.endpoint.proofs.Laws.{active-rings}
-use Rattle.endpoint.proofs.Clean.{CleanCells, clean-none, clean-claimed, clean-active, endpoints-fit}
-use Rattle.settings.specs.Held.{Held, withSetting, withoutSetting, settingWords, isFound, settingsSound}
-use Rattle.settings.specs.Match.{addressesFree, endpointsMatch}
-use Rattle.settings.proofs.Laws.{held-length, sound-with, sound-without, sound-none, sound-fits, pending-place, match-claimed, match-released, match-active, match-none}
+use Rattle.endpoint.specs.Cells.{noCells, queuesOf, queueRings, pendingRings, claimedCells, withActive}
+use Rattle.endpoint.proofs.Laws.{active-rings, active-owners}
+use Rattle.endpoint.proofs.Clean.{clean-none, clean-claimed}
+use Rattle.settings.specs.Held.{Held, withSetting, withoutSetting, settingWords, isFound}
+use Rattle.settings.specs.Match.{addressesFree}
+use Rattle.settings.proofs.Laws.{sound-with, sound-without, sound-none, pending-place, match-claimed, match-released, match-none}
 use Rattle.phase.specs.End.{End}
 use Rattle.device.specs.declared.check.Check.{Check}
 use Rattle.device.specs.declared.check.Check.the-variants.{Pass, Refuse}
 use Rattle.device.specs.declared.record.Device.{Device}
-use Rattle.device.specs.Device.{listOf, cellsIn, heldOf, quarantinedOf, withCells, withHeld, withConfiguration, withQuarantined, unusable}
-use Rattle.device.specs.Sound.{placeSound, countsFit, ringsOf, allRings, ringsSound, sound}
-use Rattle.device.specs.Left.{Left, refused, isAccepted, isBroken, isCut, marked, ended}
-use Rattle.device.specs.Check.{recordCheck}
-use Rattle.device.specs.Calls.{onCheck}
+use Rattle.device.specs.Device.{listOf, cellsIn, heldOf, quarantinedOf, withCells, withHeld, withConfiguration, withQuarantined}
+use Rattle.device.specs.Sound.{sound}
+use Rattle.device.specs.Left.{Left, refused, isAccepted, isBroken, marked, ended}
+use Rattle.device.specs.Check.{recordCheck, hubCheck}
+use Rattle.device.specs.Calls.{onCheck, hubLeft, hubUpdate}
 use Rattle.device.specs.Claim.{claimCheck, pendingOf, quarantines, claimRecord, claim}
 use Rattle.device.specs.Release.{releaseCheck, releaseRecord, release}
 use Rattle.device.specs.SetConfiguration.{bare, setRecord, setConfiguration}
-use Rattle.device.proofs.Facts.{SoundFacts, sound-facts, unusable-not, none-quarantined}
-use Rattle.device.proofs.Laws.{Passed, passed, pass-if}
+use Rattle.device.proofs.Facts.{SoundFacts, none-quarantined}
+use Rattle.device.proofs.Laws.{passed, pass-if}
 use Rattle.device.proofs.Rings.{apart-none, apart-offered, offered-live, apart-claimed, apart-released}
-use Rattle.device.proofs.Made.{isLost, Made, made-usable, sound-clean, sound-apart, marked-made, held-made, configured-made, active-made, quarantined-made}
-use Rattle.device.proofs.Steps.{rings-length}
+use Rattle.device.proofs.Updates.{with-cells-quarantined, with-quarantined-quarantined, unusable-quarantined}
+use Rattle.device.proofs.Made.{isLost, Made, sound-clean, sound-apart, marked-made, held-made, configured-made, active-made, quarantined-made}
 
 -- What a passed check of a claim says.
 pub record ClaimPassed (d : Device) (i a : ℕ) (rings : List ℕ) : Type 0 where
@@ -156,6 +149,41 @@ set-stays d ctx routes log value k e m =
     let t = passed d ctx routes log Pass k in
     rw m (active-made d (t .0 .usable) (t .0 .is-sound) Any (e .active) (e .answer))
 
+-- A call that does not move settings keeps rings and owners.
+pub stays-rings :
+    {d e : Device} {hs : List Held} {lost : Bool} (who : Owner) (n : ℕ) → Made d e hs (withActive who n (cellsIn d)) lost →
+    ((cellsIn e) .rings ≡ (cellsIn d) .rings) × ((cellsIn e) .owners ≡ (cellsIn d) .owners)
+stays-rings {d} who n m = (
+  ap (λ (c : Cells). c .rings) (m .cells) ∙ active-rings who (cellsIn d) n,
+  ap (λ (c : Cells). c .owners) (m .cells) ∙ active-owners who (cellsIn d) n,
+)
+
+-- After 14 the pending rings of a claim are quarantined.
+pub claim-quarantined :
+    (d : Device) (ctx routes log i a : ℕ) (rings : List ℕ) → recordCheck d ctx routes log (claimCheck d i a rings) ≡ Pass →
+    (e : End) → e .moved ≡ false → isBroken (e .answer) ≡ true →
+    quarantinedOf (claimRecord d i a rings e) ≡ queueRings (queuesOf (pendingOf d i a rings))
+unfolding claimRecord marked quarantines
+claim-quarantined d ctx routes log i a rings k e m b =
+    let t = passed d ctx routes log (claimCheck d i a rings) k in
+    let c = withActive (Interface i) (e .active) (cellsIn d) in
+    let by = queueRings (queuesOf (pendingOf d i a rings)) in
+    rw (
+      m,
+      b,
+      unusable-quarantined (withQuarantined by (withCells c d)),
+      with-quarantined-quarantined by (withCells c d),
+      with-cells-quarantined c d,
+      none-quarantined d (t .0 .usable) (t .0 .is-sound),
+    )
+
+-- An accepted set configuration keeps its value.
+pub set-value :
+    (d : Device) (value : ℕ) (e : End) → e .moved ≡ true → e .answer ≡ answer.Accepted →
+    ((setRecord d value e) .configured ≡ true) × ((setRecord d value e) .«current_config_value» ≡ value)
+unfolding setRecord marked withConfiguration number
+set-value d value e m a = rw (m, a) (refl, refl)
+
 -- What a call returns: the record as it came, or a sound one.
 abbrev pub Returned : Device → Device → Type 0
 Returned d r = (r ≡ d) ⊎ (sound r ≡ true)
@@ -211,3 +239,16 @@ set-configuration-sound d ctx routes log outcomes value =
     returned d (recordCheck d (length ctx) (length routes) (length log) Pass) (setRecord d value) _ ctx routes log
     (λ k e m. inr (set-moves d _ _ _ value k e m .is-sound))
     (λ k e m. inr (set-stays d _ _ _ value k e m .is-sound))
+
+-- A hub update does.
+pub hub-update-returned :
+    (d : Device) (ctx routes log outcomes : List ℕ) (ports : ℕ) (multi : Bool) (ns : ℕ) →
+    Returned d ((hubUpdate d ctx routes log outcomes ports multi ns) .device)
+unfolding hubUpdate hubLeft refused
+hub-update-returned d ctx routes log outcomes ports multi ns =
+    let check = recordCheck d (length ctx) (length routes) (length log) (hubCheck d ns) in
+    on-pass (λ l. Returned d (l .device)) check _ (λ a. refused d a ctx routes log)
+    (λ k.
+    let t = passed d (length ctx) (length routes) (length log) (hubCheck d ns) k in
+    inr (marked-made d (t .0 .usable) (t .0 .is-sound) _ .is-sound))
+    (λ a. inl refl)

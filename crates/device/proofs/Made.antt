@@ -1,51 +1,34 @@
 -- The records that calls make of a sound one: what they hold, and that they are sound.
-use Prim.Native.Nat.{ℕ, _≤_, _<_}
+use Prim.Native.Nat.{ℕ, _≤_}
 use mathlib.Core.Path.{_≡_, refl, sym, ap, _∙_}
-use mathlib.Core.Logic.{_⊎_, inl, inr, ⊎-elim}
-use mathlib.Core.Bool.{Bool, true, false, not, cond, _&&_, _||_}
-use mathlib.Core.List.{List, [], _∷_, _++_}
+use mathlib.Core.Bool.{Bool, true, false, not, cond, _||_}
+use mathlib.Core.List.{List, _∷_, _++_}
 use native.Mathlib.Omega.{arith}
 use borrow.Author.Tests.{eq-eqb, le-leb}
 use lib.Dec.{eqb, leb}
-use lib.ListN.{length, getD, take, replicate, length-append, getD-replicate}
+use lib.ListN.{length, replicate, getD-replicate}
 use Rattle.laws.proofs.Tests.{and-left, and-right, and-true, not-both}
-use Rattle.laws.proofs.Cases.{Decided, decided, or-right, or-none}
 use Rattle.laws.proofs.Distinct.{distinct}
-use Rattle.def.specs.Speed.{speedKnown}
 use Rattle.answer.specs.declared.Answer.{Answer}
 use Rattle.answer.specs.declared.Answer.the-variants as answer
-use Rattle.answer.specs.Answer.{number}
-use Rattle.command.specs.Course.{Played}
 use Rattle.configuration.specs.Valid.{validList}
-use Rattle.configuration.specs.Lookup.{findEndpoints}
-use Rattle.ring.specs.Rings.{ringOk, ringsOk, offerOk}
-use Rattle.ring.proofs.Laws.{ring-at, ring-nonzero, Offered, offered}
+use Rattle.ring.specs.Rings.{ringOk, ringsOk}
 use Rattle.endpoint.specs.declared.cells.Cells.{Cells}
 use Rattle.endpoint.specs.declared.cells.Owner.{Owner}
-use Rattle.endpoint.specs.declared.cells.Owner.the-variants.{Any, Interface}
 use Rattle.endpoint.specs.Endpoint.{addresses, addressesFit}
-use Rattle.endpoint.specs.Cells.{noCells, endpointsOf, queuesOf, queueRings, pendingRings, claimedCells, withActive}
+use Rattle.endpoint.specs.Cells.{endpointsOf, queuesOf, queueRings, withActive}
 use Rattle.endpoint.proofs.Laws.{active-rings}
-use Rattle.endpoint.proofs.Clean.{CleanCells, clean-none, clean-claimed, clean-active, endpoints-fit}
-use Rattle.settings.specs.Held.{Held, withSetting, withoutSetting, settingWords, isFound, settingsSound}
-use Rattle.settings.specs.Match.{addressesFree, endpointsMatch}
-use Rattle.settings.proofs.Laws.{held-length, sound-with, sound-without, sound-none, sound-fits, pending-place, match-claimed, match-released, match-active, match-none}
-use Rattle.phase.specs.End.{End}
-use Rattle.device.specs.declared.check.Check.{Check}
-use Rattle.device.specs.declared.check.Check.the-variants.{Pass, Refuse}
+use Rattle.endpoint.proofs.Clean.{CleanCells, clean-active, endpoints-fit}
+use Rattle.settings.specs.Held.{Held, settingsSound}
+use Rattle.settings.specs.Match.{endpointsMatch}
+use Rattle.settings.proofs.Laws.{held-length, sound-fits, match-active}
 use Rattle.device.specs.declared.record.Device.{Device}
 use Rattle.device.specs.Device.{listOf, cellsIn, heldOf, quarantinedOf, withCells, withHeld, withConfiguration, withQuarantined, unusable}
-use Rattle.device.specs.Sound.{placeSound, countsFit, ringsOf, allRings, ringsSound, sound}
-use Rattle.device.specs.Left.{Left, refused, isAccepted, isBroken, isCut, marked, ended}
-use Rattle.device.specs.Check.{recordCheck}
-use Rattle.device.specs.Calls.{onCheck}
-use Rattle.device.specs.Claim.{claimCheck, pendingOf, quarantines, claimRecord, claim}
-use Rattle.device.specs.Release.{releaseCheck, releaseRecord, release}
-use Rattle.device.specs.SetConfiguration.{bare, setRecord, setConfiguration}
+use Rattle.device.specs.Sound.{placeSound, countsFit, allRings, ringsSound, sound}
+use Rattle.device.specs.Left.{isBroken, isCut, marked}
+use Rattle.device.specs.Claim.{quarantines}
 use Rattle.device.proofs.Facts.{SoundFacts, sound-facts, unusable-not, none-quarantined}
-use Rattle.device.proofs.Laws.{Passed, passed, pass-if}
 use Rattle.device.proofs.Rings.{Apart, Disjoint, control-ok, clean-in, apart-in, apart-none, placedRings, placed-few, placed-none, all-ok, all-distinct, all-few, endpoint-rings, endpoints-few, queue-rings}
-use Rattle.device.proofs.Steps.{rings-length}
 use Rattle.device.proofs.Updates.{Same, same-self, same-then, liveOf, with-cells-same, with-cells-usable, with-cells-held, with-cells-cells, with-cells-live, with-cells-count, with-cells-quarantined-count, with-held-same, with-held-usable, with-held-held, with-held-cells, with-held-live, with-held-count, with-held-quarantined-count, with-configuration-same, with-configuration-usable, with-configuration-held, with-configuration-cells, with-configuration-live, with-configuration-count, with-configuration-quarantined-count, with-quarantined-same, with-quarantined-usable, with-quarantined-held, with-quarantined-cells, unusable-same, unusable-held, unusable-cells, unusable-live, unusable-count, unusable-quarantined, unusable-quarantined-count, with-quarantined-live, with-quarantined-count, with-quarantined-count-of, with-quarantined-quarantined, with-cells-quarantined, with-held-quarantined, with-configuration-quarantined}
 
 -- 14 and 15, after which a record is not usable.

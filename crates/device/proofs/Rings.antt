@@ -2,11 +2,11 @@
 use Prim.Native.Nat.{ℕ, zero, suc, _+_, _≤_, _<_}
 use mathlib.Core.Path.{_≡_, refl, sym, ap, _∙_}
 use mathlib.Core.Logic.{_⊎_, inl, inr, ⊎-elim}
-use mathlib.Core.Bool.{Bool, true, false, not, cond, _&&_, _||_}
+use mathlib.Core.Bool.{Bool, true, false, cond}
 use mathlib.Core.List.{List, [], _∷_, _++_}
 use native.Mathlib.Decide.{decLt}
 use native.Mathlib.Omega.{arith}
-use borrow.Author.Tests.{eq-eqb, ne-eqb, eqb-true, eqb-false}
+use borrow.Author.Tests.{eqb-true, eqb-false}
 use lib.Dec.{eqb}
 use lib.ListN.{length, getD, set, take, drop, replicate, length-append, length-set, length-take, List·getD-eq-default, getD-replicate}
 use lib.Seq.{getD-take, getD-set-same, getD-set-other, set-out, take-nil}
@@ -24,11 +24,10 @@ use Rattle.endpoint.specs.Order.{placeOf, dciAt}
 use Rattle.endpoint.specs.Endpoint.{blank, addresses, addressesFit}
 use Rattle.endpoint.specs.Cells.{Whole, noCells, withCell, isActive, cellsFrom, cellsOf, gathered, endpointAt, endpointsOf, isOwned, pendingFrom, pendingRings, claimedRing, claimedCells, queuesOf, queueRings}
 use Rattle.endpoint.proofs.Laws.{no-place-low, claimed-ring}
-use Rattle.endpoint.proofs.Clean.{CleanCells, CellIs, clean-none, clean-of, cells-none, cells-at}
+use Rattle.endpoint.proofs.Clean.{CleanCells, clean-none, clean-of, cells-none, cells-at}
 use Rattle.device.specs.declared.record.Device.{Device}
 use Rattle.device.specs.Device.{cellsIn, quarantinedOf}
 use Rattle.device.specs.Sound.{ringsOf, allRings}
-use Rattle.device.proofs.Facts.{SoundFacts}
 use Rattle.device.proofs.Steps.{rings-length}
 
 -- Rings by place: each a nonzero multiple of 16, no two the same, none of them control's.
