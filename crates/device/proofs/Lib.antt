@@ -1,3 +1,5 @@
+pub mod Counts
+pub mod Ends
 pub mod Facts
 pub mod Laws
 pub mod Marks

@@ -1,7 +1,9 @@
 // The record of a device and the calls on it (device.rs of the original, and the lifecycle of src/device.rs above it).
+mod cells;
 mod check;
 mod hub_update;
 mod record;
+mod release_interface;
 mod sound;
 mod update;
 

@@ -1,0 +1,17 @@
+use Rattle.device.proofs.Facts.{count-facts}
+use Rattle.device.specs.Device.{cellsIn}
+use Rattle.device.proofs.cells.cells_in.Statement.{statement}
+use Rattle.device.proofs.cells.cells_in.Tie as tie
+use Rattle.device.proofs.cells.cells_in.Reads as reads
+use Rattle.device.proofs.cells.cells_in.Lts as lts
+use Rattle.endpoint.proofs.cells_of.Reads as cells-of-reads
+
+cells-of-requires : tie.Need-cells-of-requires
+cells-of-requires c κs = count-facts _ (c .before .before .pre) .endpoints
+
+returns : tie.Need-returns
+unfolding cellsIn
+returns c = c .cells-of .ensures
+
+pub cells-in-spec : {M : Type 1} → statement M
+cells-in-spec = tie.close (tie.spec cells-of-requires returns)
