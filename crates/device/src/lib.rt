@@ -4,6 +4,7 @@ mod check;
 mod hub_update;
 mod record;
 mod release_interface;
+mod set_value;
 mod sound;
 mod update;
 

@@ -8,10 +8,6 @@ use Rattle.settings.specs.Held.{foundWords, settingWords}
 use borrow.Author.Needs.{needs}
 use Rattle.release.proofs.release_interface.Statement.{statement}
 use Rattle.release.proofs.release_interface.Tie as tie
-use Rattle.release.proofs.release_interface.Reads as reads
-use Rattle.release.proofs.release_interface.Lts as lts
-use Rattle.configuration.proofs.find_interface_endpoints.Reads as find-interface-endpoints-reads
-use Rattle.release.proofs.run_release.Reads as run-release-reads
 
 find-interface-endpoints-requires : tie.Need-find-interface-endpoints-requires
 find-interface-endpoints-requires c κs = search needs

@@ -2,9 +2,6 @@ use Rattle.device.proofs.Facts.{count-facts}
 use Rattle.device.specs.Device.{cellsIn}
 use Rattle.device.proofs.cells.cells_in.Statement.{statement}
 use Rattle.device.proofs.cells.cells_in.Tie as tie
-use Rattle.device.proofs.cells.cells_in.Reads as reads
-use Rattle.device.proofs.cells.cells_in.Lts as lts
-use Rattle.endpoint.proofs.cells_of.Reads as cells-of-reads
 
 cells-of-requires : tie.Need-cells-of-requires
 cells-of-requires c κs = count-facts _ (c .before .before .pre) .endpoints

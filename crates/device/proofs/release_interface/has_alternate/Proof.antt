@@ -4,9 +4,6 @@ use mathlib.Core.Path.{ap, sym, _∙_}
 use borrow.Author.Needs.{needs}
 use Rattle.device.proofs.release_interface.has_alternate.Statement.{statement}
 use Rattle.device.proofs.release_interface.has_alternate.Tie as tie
-use Rattle.device.proofs.release_interface.has_alternate.Reads as reads
-use Rattle.device.proofs.release_interface.has_alternate.Lts as lts
-use Rattle.configuration.proofs.find_interface_endpoints.Reads as find-interface-endpoints-reads
 
 sub-find-interface-endpoints : tie.Need-sub-find-interface-endpoints
 sub-find-interface-endpoints c = search needs

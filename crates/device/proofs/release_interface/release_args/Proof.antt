@@ -7,11 +7,6 @@ use Rattle.phase.proofs.Laws.{queues-as}
 use borrow.Author.Needs.{needs}
 use Rattle.device.proofs.release_interface.release_args.Statement.{statement}
 use Rattle.device.proofs.release_interface.release_args.Tie as tie
-use Rattle.device.proofs.release_interface.release_args.Reads as reads
-use Rattle.device.proofs.release_interface.release_args.Lts as lts
-use Rattle.endpoint.proofs.owned_rings.Reads as owned-rings-reads
-use Rattle.endpoint.proofs.queues_of.Reads as queues-of-reads
-use Rattle.settings.proofs.alternate_of.Reads as alternate-of-reads
 
 alternate-of-requires : tie.Need-alternate-of-requires
 alternate-of-requires c κs = count-facts _ (c .before .before .pre .0) .held

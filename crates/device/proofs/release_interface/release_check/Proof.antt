@@ -4,10 +4,6 @@ use mathlib.Core.Path.{sym, _∙_}
 use borrow.Author.Needs.{needs}
 use Rattle.device.proofs.release_interface.release_check.Statement.{statement}
 use Rattle.device.proofs.release_interface.release_check.Tie as tie
-use Rattle.device.proofs.release_interface.release_check.Reads as reads
-use Rattle.device.proofs.release_interface.release_check.Lts as lts
-use Rattle.device.proofs.record.Device.record_check.Reads as record-check-reads
-use Rattle.device.proofs.release_interface.setting_check.Reads as setting-check-reads
 
 record-check-requires : tie.Need-record-check-requires
 record-check-requires c κs = search needs

@@ -3,9 +3,6 @@ use native.Mathlib.Nat.{sub-zero}
 use borrow.Author.Needs.{needs}
 use Rattle.device.proofs.release_interface.release_listed.Statement.{statement}
 use Rattle.device.proofs.release_interface.release_listed.Tie as tie
-use Rattle.device.proofs.release_interface.release_listed.Reads as reads
-use Rattle.device.proofs.release_interface.release_listed.Lts as lts
-use Rattle.release.proofs.release_interface.Reads as release-interface-reads
 
 sub-release-interface : tie.Need-sub-release-interface
 sub-release-interface c = search needs

@@ -2,12 +2,6 @@ use Rattle.device.specs.Release.{releaseRecord}
 use borrow.Author.Needs.{needs}
 use Rattle.device.proofs.release_interface.release_record.Statement.{statement}
 use Rattle.device.proofs.release_interface.release_record.Tie as tie
-use Rattle.device.proofs.release_interface.release_record.Reads as reads
-use Rattle.device.proofs.release_interface.release_record.Lts as lts
-use Rattle.device.proofs.release_interface.released.Reads as released-reads
-use Rattle.device.proofs.update.marked.Reads as marked-reads
-use Rattle.device.proofs.update.with_cells.Reads as with-cells-reads
-use Rattle.endpoint.proofs.with_active.Reads as with-active-reads
 
 released-requires : tie.Need-released-requires
 released-requires c κs = search needs

@@ -7,12 +7,6 @@ use Rattle.device.specs.Device.{listOf}
 use borrow.Author.Needs.{needs}
 use Rattle.device.proofs.release_interface.release_run.Statement.{statement}
 use Rattle.device.proofs.release_interface.release_run.Tie as tie
-use Rattle.device.proofs.release_interface.release_run.Reads as reads
-use Rattle.device.proofs.release_interface.release_run.Lts as lts
-use Rattle.device.proofs.cells.cells_in.Reads as cells-in-reads
-use Rattle.device.proofs.release_interface.release_args.Reads as release-args-reads
-use Rattle.device.proofs.release_interface.release_listed.Reads as release-listed-reads
-use Rattle.device.proofs.release_interface.release_record.Reads as release-record-reads
 
 cells-in-requires : tie.Need-cells-in-requires
 cells-in-requires c κs = search needs

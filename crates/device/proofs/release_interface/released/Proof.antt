@@ -4,12 +4,6 @@ use mathlib.Core.Path.{_∙_}
 use borrow.Author.Needs.{needs}
 use Rattle.device.proofs.release_interface.released.Statement.{statement}
 use Rattle.device.proofs.release_interface.released.Tie as tie
-use Rattle.device.proofs.release_interface.released.Reads as reads
-use Rattle.device.proofs.release_interface.released.Lts as lts
-use Rattle.device.proofs.update.with_cells.Reads as with-cells-reads
-use Rattle.device.proofs.update.with_held.Reads as with-held-reads
-use Rattle.endpoint.proofs.claimed_cells.Reads as claimed-cells-reads
-use Rattle.settings.proofs.without_setting.Reads as without-setting-reads
 
 without-setting-requires : tie.Need-without-setting-requires
 without-setting-requires c κs = count-facts _ (c .before .before .pre) .held

@@ -3,10 +3,6 @@ use Rattle.device.specs.Release.{releaseCheck}
 use Rattle.device.specs.Device.{listOf, heldOf}
 use Rattle.device.proofs.release_interface.setting_check.Statement.{statement}
 use Rattle.device.proofs.release_interface.setting_check.Tie as tie
-use Rattle.device.proofs.release_interface.setting_check.Reads as reads
-use Rattle.device.proofs.release_interface.setting_check.Lts as lts
-use Rattle.device.proofs.release_interface.has_alternate.Reads as has-alternate-reads
-use Rattle.settings.proofs.is_held.Reads as is-held-reads
 
 is-held-requires : tie.Need-is-held-requires
 is-held-requires c κs = count-facts _ (c .before .before .pre) .held

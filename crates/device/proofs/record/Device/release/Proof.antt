@@ -7,10 +7,6 @@ use Rattle.device.specs.Left.{refused}
 use borrow.Author.Needs.{needs}
 use Rattle.device.proofs.record.Device.release.Statement.{statement}
 use Rattle.device.proofs.record.Device.release.Tie as tie
-use Rattle.device.proofs.record.Device.release.Reads as reads
-use Rattle.device.proofs.record.Device.release.Lts as lts
-use Rattle.device.proofs.release_interface.release_check.Reads as release-check-reads
-use Rattle.device.proofs.release_interface.release_run.Reads as release-run-reads
 
 release-check-requires : tie.Need-release-check-requires
 release-check-requires c κs = search needs
