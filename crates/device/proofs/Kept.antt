@@ -2,7 +2,7 @@
 use Prim.Native.Nat.{ℕ, _<_}
 use mathlib.Core.Path.{_≡_, refl, ap, _∙_}
 use mathlib.Core.Logic.{_⊎_, inl, inr, ⊎-elim}
-use mathlib.Core.Bool.{Bool, true, false, not, cond}
+use mathlib.Core.Bool.{Bool, true, false, cond}
 use mathlib.Core.List.{List, []}
 use native.Mathlib.Omega.{arith}
 use lib.ListN.{length, getD, replicate, getD-replicate}
@@ -25,11 +25,11 @@ use Rattle.settings.specs.Match.{addressesFree}
 use Rattle.settings.proofs.Laws.{sound-with, sound-without, sound-none, pending-place, match-claimed, match-released, match-none}
 use Rattle.phase.specs.End.{End}
 use Rattle.device.specs.declared.check.Check.{Check}
-use Rattle.device.specs.declared.check.Check.the-variants.{Pass, Refuse}
+use Rattle.device.specs.declared.check.Check.the-variants.{Pass}
 use Rattle.device.specs.declared.record.Device.{Device}
 use Rattle.device.specs.Device.{listOf, cellsIn, heldOf, quarantinedOf, withCells, withHeld, withConfiguration, withQuarantined}
 use Rattle.device.specs.Sound.{sound}
-use Rattle.device.specs.Left.{Left, refused, isAccepted, isBroken, marked, ended}
+use Rattle.device.specs.Left.{refused, isAccepted, isBroken, marked, ended}
 use Rattle.device.specs.Check.{recordCheck, hubCheck}
 use Rattle.device.specs.Calls.{onCheck, hubLeft, hubUpdate}
 use Rattle.device.specs.Claim.{claimCheck, pendingOf, quarantines, claimRecord, claim}
@@ -37,6 +37,7 @@ use Rattle.device.specs.Release.{releaseCheck, releaseRecord, release}
 use Rattle.device.specs.SetConfiguration.{bare, setRecord, setConfiguration}
 use Rattle.device.proofs.Facts.{SoundFacts, none-quarantined}
 use Rattle.device.proofs.Laws.{passed, pass-if}
+use Rattle.device.proofs.Marks.{on-pass}
 use Rattle.device.proofs.Rings.{apart-none, apart-offered, offered-live, apart-claimed, apart-released}
 use Rattle.device.proofs.Updates.{with-cells-quarantined, with-quarantined-quarantined, unusable-quarantined}
 use Rattle.device.proofs.Made.{isLost, Made, sound-clean, sound-apart, marked-made, held-made, configured-made, active-made, quarantined-made}
@@ -187,13 +188,6 @@ set-value d value e m a = rw (m, a) (refl, refl)
 -- What a call returns: the record as it came, or a sound one.
 abbrev pub Returned : Device → Device → Type 0
 Returned d r = (r ≡ d) ⊎ (sound r ≡ true)
-
--- what holds of a call that runs after its checks, and of each refusal, holds of the call
-pub on-pass : (P : Left → Type 0) (k : Check) (run : Left) (refuse : Answer → Left) → (k ≡ Pass → P run) → ((a : Answer) → P (refuse a)) →
-    P (onCheck k run refuse)
-unfolding onCheck
-on-pass P Pass run refuse p q = p refl
-on-pass P (Refuse a) run refuse p q = q a
 
 ended-device : (made : End → Device) (p : Played End) → (ended made p) .device ≡ made (p .end)
 unfolding ended
