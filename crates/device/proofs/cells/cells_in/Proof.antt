@@ -1,5 +1,6 @@
-use Rattle.device.proofs.Facts.{count-facts}
+use Prim.Native.Nat.{_-_}
 use Rattle.device.specs.Device.{cellsIn}
+use Rattle.device.proofs.Facts.{count-facts}
 use Rattle.device.proofs.cells.cells_in.Statement.{statement}
 use Rattle.device.proofs.cells.cells_in.Tie as tie
 
