@@ -1,3 +1,4 @@
+use mathlib.Core.Path.{_∙_}
 use borrow.Author.Needs.{needs}
 use Rattle.claim.proofs.claim_interface.Statement.{statement}
 use Rattle.claim.proofs.claim_interface.Tie as tie
@@ -26,7 +27,7 @@ same-length-3 : tie.Need-same-length-3
 same-length-3 c = search needs
 
 returns : tie.Need-returns
-returns c = rw (← c .before .before .before .before .before .before .before .before .before .before .setting-words .ensures, ← c .before .before .before .before .before .before .before .before .before .before .before .held-words .ensures) (c .before .before .before .before .before .before .run-claim .ensures)
+returns c = c .before .before .before .before .before .before .run-claim .ensures ∙ rw (c .before .before .before .before .before .before .before .before .before .before .before .held-words .ensures, c .before .before .before .before .before .before .before .before .before .before .setting-words .ensures)
 
 pub claim-interface-spec : {M : Type 1} → statement M
 claim-interface-spec =
