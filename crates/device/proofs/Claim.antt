@@ -1,31 +1,36 @@
 -- What a claim whose checks have passed may rely on, and what it leaves.
 use Prim.Native.Nat.{ℕ, suc, _+_, _-_, _≤_, _<_}
-use mathlib.Core.Path.{_≡_, refl, ap, _∙_}
+use mathlib.Core.Path.{_≡_, refl, sym, _∙_}
 use mathlib.Core.Bool.{true, cond}
 use mathlib.Core.List.{List, [], _∷_, _++_, append-assoc}
 use native.Mathlib.Numerals.{add-one}
 use native.Mathlib.Omega.{arith}
+use borrow.Author.Tests.{eq-eqb, ne-eqb}
 use lib.ListN.{length, getD, set, take, length-append, length-set}
 use lib.Seq.{set-append-seam, take-suc, length-take-le}
+use Rattle.answer.specs.declared.Answer.{Answer}
+use Rattle.answer.specs.Answer.{number}
 use Rattle.configuration.specs.Lookup.{findEndpoints}
 use Rattle.command.specs.Course.{played}
 use Rattle.context.specs.Place.{Spaced}
 use Rattle.endpoint.specs.declared.cells.Cells.{Cells}
+use Rattle.endpoint.specs.declared.cells.Owner.{Owner}
+use Rattle.endpoint.specs.Cells.{claimedCells, withActive}
 use Rattle.endpoint.specs.Endpoint.{padded}
-use Rattle.settings.specs.Held.{isFound, settingWords, withSetting}
+use Rattle.settings.specs.Held.{Held, isFound, settingWords, withSetting}
 use Rattle.settings.proofs.Laws.{with-fits}
 use Rattle.phase.specs.declared.Ended.{Ended}
 use Rattle.phase.specs.Lent as lent
 use Rattle.phase.proofs.Laws.{queues-as, room-as}
 use Rattle.claim.specs.declared.ClaimArgs.{ClaimArgs}
-use Rattle.claim.specs.Claim.{Claim, claimOf, claimCourse}
+use Rattle.claim.specs.Claim.{claimOf, claimCourse}
 use Rattle.device.specs.declared.check.Check.the-variants.{Pass}
 use Rattle.device.specs.declared.record.Device.{Device}
-use Rattle.device.specs.Device.{listOf, cellsIn, heldOf, quarantinedOf, withCells}
+use Rattle.device.specs.Device.{listOf, cellsIn, heldOf, quarantinedOf, withCells, withHeld, withQuarantined}
 use Rattle.device.specs.Sound.{countsFit}
 use Rattle.device.specs.Left.{leaves, ended}
 use Rattle.device.specs.Check.{recordCheck}
-use Rattle.device.specs.Claim.{claimCheck, pendingOf, claimIn, ClaimAs, claimRecord}
+use Rattle.device.specs.Claim.{claimCheck, pendingOf, claimIn, ClaimAs, quarantines, claimRecord}
 use Rattle.device.proofs.Counts.{sound-counts}
 use Rattle.device.proofs.Facts.{none-quarantined}
 use Rattle.device.proofs.Laws.{pass-if, passed}
@@ -52,7 +57,7 @@ fill-next {rings} {out} {i} f h =
     let t : length (take i rings) ≡ i = length-take-le i rings (omega arith) in
     let s : take (i + 1) rings ≡ take i rings ++ (getD rings i 0 ∷ []) = rw (add-one i) (take-suc rings i 0 (omega arith)) in
     let p : set (padded 61 0 (take i rings)) (length (take i rings)) (getD rings i 0)
-        ≡ padded 61 0 (take i rings ++ (getD rings i 0 ∷ [])) =
+    ≡ padded 61 0 (take i rings ++ (getD rings i 0 ∷ [])) =
     padded-put 61 (take i rings) (getD rings i 0) (omega (arith, t)) in
     record {
       full = l;
@@ -64,6 +69,27 @@ fill-next {rings} {out} {i} f h =
 pub quarantined-cells : (c : Cells) (d : Device) → quarantinedOf (withCells c d) ≡ quarantinedOf d
 unfolding quarantinedOf withCells
 quarantined-cells c d = refl
+
+-- the record of a claim that moved the settings, step by step
+pub moved-made :
+    (d e r : Device) (c x : Cells) (i : ℕ) (by : List ℕ) (hs : List Held) → x ≡ claimedCells i by c → e ≡ withCells x d →
+    r ≡ withHeld hs e → r ≡ withHeld hs (withCells (claimedCells i by c) d)
+moved-made d e r c x i by hs p q h = rw (h, q, p)
+
+-- of one that did not, after 14
+pub kept-broken :
+    (d e r : Device) (c x : Cells) (who : Owner) (active n : ℕ) (a : Answer) (rings : List ℕ) → x ≡ withActive who active c →
+    e ≡ withCells x d → n ≡ number a → n ≡ 14 → r ≡ withQuarantined rings e →
+    r ≡ quarantines a rings (withCells (withActive who active c) d)
+unfolding quarantines
+kept-broken d e r c x who active n a rings p q m t h = rw (h, q, p, eq-eqb (number a) 14 (sym m ∙ t))
+
+-- and after any other answer
+pub kept-other :
+    (d e : Device) (c x : Cells) (who : Owner) (active n : ℕ) (a : Answer) (rings : List ℕ) → x ≡ withActive who active c →
+    e ≡ withCells x d → n ≡ number a → (n ≡ 14 → ⊥) → e ≡ quarantines a rings (withCells (withActive who active c) d)
+unfolding quarantines
+kept-other d e c x who active n a rings p q m t = rw (q, p, ne-eqb (number a) 14 (λ z. t (m ∙ z)))
 
 pub record ClaimFacts (d : Device) (i alt ctx log : ℕ) : Type 0 where
   pub counts : countsFit d ≡ true
@@ -108,7 +134,9 @@ module _ (d : Device) (i alt : ℕ) (rings : List ℕ) where
       ≡ claimIn d i alt rings
   unfolding claimIn lent.dcisIn
   claim-of a c by e p s =
-      rw (s .slot, s .spacing, s .speed, s .interface, s .alternate, s .held, s .oldAlternate, queues-as _ _ (s .old), queues-as _ _ (s .pending), s .all .dcis, e, p)
+      let old = queues-as (a .old) _ (s .old) in
+      let pending = queues-as (a .pending) by (s .pending) in
+      rw (s .slot, s .spacing, s .speed, s .interface, s .alternate, s .held, s .oldAlternate, old, pending, s .all .dcis, e, p)
 
   -- what a claim leaves is what the end of its course makes
   pub claim-left :

@@ -48,10 +48,10 @@ fn words_check(
     if !settings::addresses_free(words, interface, c) {
         return Check::Refuse(Answer::InvalidParameter);
     }
-    if !ring::offer_ok(words.len(), rings, &c.rings, control, quarantined) {
-        return Check::Refuse(Answer::Rings);
+    if ring::offer_ok(words.len(), rings, &c.rings, control, quarantined) {
+        return Check::Pass;
     }
-    Check::Pass
+    Check::Refuse(Answer::Rings)
 }
 
 // 8, 9, 10.
@@ -151,13 +151,7 @@ fn setting_rings(list: &[u32], interface: u8, alternate: u8, rings: &[u64]) -> [
     endpoint::pending_rings(words, rings)
 }
 
-fn lent_rings(
-    list: [u32; 256],
-    n: usize,
-    interface: u8,
-    alternate: u8,
-    rings: &[u64],
-) -> [u64; 30]
+fn lent_rings(list: [u32; 256], n: usize, interface: u8, alternate: u8, rings: &[u64]) -> [u64; 30]
     requires { ⌜ n ≤ 256 ⌝ }
     ensures { λ r. ⌜ r ≡ pendingRings (settingWords (take n list) interface alternate) (now (rings .entry)) ⌝ }
 {
@@ -172,13 +166,7 @@ fn pending_of(d: Device, interface: u8, alternate: u8, rings: &[u64]) -> [u64; 3
     lent_rings(list, d.list_len, interface, alternate, rings)
 }
 
-fn claim_args(
-    d: Device,
-    c: Cells,
-    interface: u8,
-    alternate: u8,
-    pending: [u64; 30],
-) -> ClaimArgs
+fn claim_args(d: Device, c: Cells, interface: u8, alternate: u8, pending: [u64; 30]) -> ClaimArgs
     requires { ⌜ countsFit d ≡ true ⌝ }
     ensures { λ r. ⌜ ClaimAs r d c interface alternate pending ⌝ }
 {
@@ -245,25 +233,13 @@ fn with_quarantined(mut d: Device, q: Queues) -> Device
 }
 
 // The record of a claim that moved the settings.
-fn moved_record(
-    d: Device,
-    c: Cells,
-    interface: u8,
-    alternate: u8,
-    pending: [u64; 30],
-) -> Device
+fn moved_record(d: Device, c: Cells, interface: u8, alternate: u8, pending: [u64; 30]) -> Device
     requires { ⌜ (d .«held_count» ≤ 32) × (length (withSetting interface alternate (heldOf d)) ≤ 32) ⌝ }
     ensures { λ r. ⌜ r ≡ withHeld (withSetting interface alternate (heldOf d)) (withCells (claimedCells interface pending c) d) ⌝ }
 {
     let interfaces = d.interfaces;
     let alternates = d.alternates;
-    let s = settings::with_setting(
-        interfaces,
-        alternates,
-        d.held_count,
-        interface,
-        alternate,
-    );
+    let s = settings::with_setting(interfaces, alternates, d.held_count, interface, alternate);
     let claimed = endpoint::claimed_cells(interface, pending, c);
     let e = update::with_cells(d, claimed);
     update::with_held(e, s)
@@ -360,7 +336,16 @@ impl Device {
                 answer: a,
                 count: 0,
             },
-            Check::Pass => claim_run(self, ctx, routes, log, outcomes, interface, alternate, rings),
+            Check::Pass => claim_run(
+                self,
+                ctx,
+                routes,
+                log,
+                outcomes,
+                interface,
+                alternate,
+                rings,
+            ),
         }
     }
 }

@@ -1,3 +1,4 @@
+use mathlib.Core.Path.{_∙_}
 use borrow.Author.Needs.{needs}
 use Rattle.claim.proofs.claim_interface.Statement.{statement}
 use Rattle.claim.proofs.claim_interface.Tie as tie
@@ -7,33 +8,26 @@ use Rattle.claim.proofs.held_words.Reads as held-words-reads
 use Rattle.claim.proofs.run_claim.Reads as run-claim-reads
 use Rattle.settings.proofs.setting_words.Reads as setting-words-reads
 
--- src/lib.rt:259:9
 held-words-requires : tie.Need-held-words-requires
 held-words-requires c κs = search needs
 
--- src/lib.rt:260:9
 setting-words-requires : tie.Need-setting-words-requires
 setting-words-requires c κs = search needs
 
--- src/lib.rt:261:5
 run-claim-requires : tie.Need-run-claim-requires
 run-claim-requires c κs = search needs
 
--- src/lib.rt:246:1
 same-length : tie.Need-same-length
 same-length c = search needs
 
--- src/lib.rt:246:1
 same-length-2 : tie.Need-same-length-2
 same-length-2 c = search needs
 
--- src/lib.rt:246:1
 same-length-3 : tie.Need-same-length-3
 same-length-3 c = search needs
 
--- src/lib.rt:246:1
 returns : tie.Need-returns
-returns c = rw (← c .before .before .before .before .before .before .before .before .before .before .setting-words .ensures, ← c .before .before .before .before .before .before .before .before .before .before .before .held-words .ensures) (c .before .before .before .before .before .before .run-claim .ensures)
+returns c = c .before .before .before .before .before .before .run-claim .ensures ∙ rw (c .before .before .before .before .before .before .before .before .before .before .before .held-words .ensures, c .before .before .before .before .before .before .before .before .before .before .setting-words .ensures)
 
 pub claim-interface-spec : {M : Type 1} → statement M
 claim-interface-spec =

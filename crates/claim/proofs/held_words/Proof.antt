@@ -5,27 +5,21 @@ use Rattle.claim.proofs.held_words.Reads as reads
 use Rattle.claim.proofs.held_words.Lts as lts
 use Rattle.settings.proofs.setting_words.Reads as setting-words-reads
 
--- src/lib.rt:240:9
 setting-words-requires : tie.Need-setting-words-requires
 setting-words-requires c κs = search needs
 
--- src/lib.rt:240:9
 returns : tie.Need-returns
 returns c = rw (c .before .if1 .taken, c .setting-words .ensures)
 
--- src/lib.rt:242:5
 sub-result : tie.Need-sub-result
 sub-result c = search needs
 
--- src/lib.rt:242:5
 part-result-start : tie.Need-part-result-start
 part-result-start c = search needs
 
--- src/lib.rt:242:5
 part-result-end : tie.Need-part-result-end
 part-result-end c = search needs
 
--- src/lib.rt:236:1
 returns-2 : tie.Need-returns-2
 returns-2 c = rw (c .before .if1 .left)
 

@@ -1,7 +1,5 @@
 use mathlib.Core.Path.{_∙_}
-use borrow.Author.Tests.{eq-eqb, ne-eqb}
-use Rattle.device.specs.Claim.{quarantines}
-use Rattle.device.proofs.Claim.{quarantined-cells}
+use Rattle.device.proofs.Claim.{quarantined-cells, kept-broken, kept-other}
 use borrow.Author.Needs.{needs}
 use Rattle.device.proofs.claim_interface.kept_record.Statement.{statement}
 use Rattle.device.proofs.claim_interface.kept_record.Tie as tie
@@ -19,12 +17,10 @@ with-quarantined-requires : tie.Need-with-quarantined-requires
 with-quarantined-requires c κs = (rw (c .before .before .with-cells .ensures) (quarantined-cells _ _ ∙ c .before .before .before .before .pre .0), c .before .before .before .before .pre .1)
 
 returns : tie.Need-returns
-unfolding quarantines
-returns c = rw (c .with-quarantined .ensures, c .before .before .before .with-cells .ensures, c .before .before .before .before .with-active .ensures, ← c .before .before .answer-number .ensures, eq-eqb _ _ (c .before .if1 .taken))
+returns c = kept-broken _ _ _ _ _ _ _ _ _ _ (c .before .before .before .before .with-active .ensures) (c .before .before .before .with-cells .ensures) (c .before .before .answer-number .ensures) (c .before .if1 .taken) (c .with-quarantined .ensures)
 
 returns-2 : tie.Need-returns-2
-unfolding quarantines
-returns-2 c = rw (c .before .before .with-cells .ensures, c .before .before .before .with-active .ensures, ← c .before .answer-number .ensures, ne-eqb _ _ (c .if1 .left))
+returns-2 c = kept-other _ _ _ _ _ _ _ _ _ (c .before .before .before .with-active .ensures) (c .before .before .with-cells .ensures) (c .before .answer-number .ensures) (c .if1 .left)
 
 pub kept-record-spec : {M : Type 1} → statement M
 kept-record-spec = tie.close (tie.spec with-active-requires with-cells-requires answer-number-requires with-quarantined-requires returns returns-2)

@@ -1,7 +1,6 @@
 use Rattle.device.specs.Device.{listOf}
 use Rattle.device.specs.Claim.{pendingOf}
 use Rattle.device.proofs.Facts.{count-facts}
-use borrow.Author.Needs.{needs}
 use Rattle.device.proofs.claim_interface.pending_of.Statement.{statement}
 use Rattle.device.proofs.claim_interface.pending_of.Tie as tie
 

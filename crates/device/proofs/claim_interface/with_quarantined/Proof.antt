@@ -1,5 +1,4 @@
 use Rattle.device.specs.Device.{withQuarantined}
-use borrow.Author.Needs.{needs}
 use Rattle.device.proofs.claim_interface.with_quarantined.Statement.{statement}
 use Rattle.device.proofs.claim_interface.with_quarantined.Tie as tie
 
