@@ -208,7 +208,7 @@ fn configure(
 }
 
 // Claims an interface after the checks.
-pub fn run_claim(
+fn run_claim(
     ctx: &mut [u8],
     routes: &mut [u64],
     log: &mut [u32],

@@ -2,7 +2,6 @@
 use answer::Answer;
 use command::Command;
 use command::Sent;
-use configuration::Found;
 use def::SlotId;
 use endpoint::Queues;
 use phase::Ended;
@@ -102,7 +101,7 @@ fn configure(
 }
 
 // Releases an interface after the checks; `words` are its setting's endpoint words.
-pub fn run_release(
+fn run_release(
     ctx: &mut [u8],
     routes: &mut [u64],
     log: &mut [u32],
@@ -137,11 +136,6 @@ pub fn release_interface(
     requires { ⌜ 64 ≤ length (now log) ⌝ }
     ensures { λ r. ⌜ leaves r (now (ctx .exit)) (now (routes .exit)) (now (log .exit)) ≡ played (now (outcomes .entry)) 0 (releaseCourse (releaseOf a (settingWords (now (list .entry)) (a .interface) (a .alternate))) (now (ctx .entry)) (now (routes .entry))) (now (log .entry)) ⌝ }
 {
-    let found = configuration::find_interface_endpoints(list, a.interface, a.alternate);
-    match found {
-        Found::Endpoints { start, count } => {
-            run_release(ctx, routes, log, outcomes, a, &list[start..start + count])
-        }
-        Found::NotFound => run_release(ctx, routes, log, outcomes, a, &[0u32; 0]),
-    }
+    let words = settings::setting_words(list, a.interface, a.alternate);
+    run_release(ctx, routes, log, outcomes, a, words)
 }
