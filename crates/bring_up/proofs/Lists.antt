@@ -139,3 +139,8 @@ padded-next list i h g =
     ap (λ k. set (take i list ++ (0 ∷ replicate (256 - (i + 1)) 0)) k x) (sym t)
     ∙ set-append-seam (take i list) 0 (replicate (256 - (i + 1)) 0) x in
     rw (t, t′, m) (seam ∙ rw (add-one i, take-suc list i 0 h, append-assoc))
+
+-- a list without words
+pub first-empty : (k : ℕ) (l : List ℕ) → length l ≡ 0 → firstConfigurations k l ≡ l
+first-empty k [] e = none-left k
+first-empty k (w ∷ l) e = absurd (omega arith)
