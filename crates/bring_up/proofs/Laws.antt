@@ -1,8 +1,8 @@
 -- What a bring-up leaves: refused, or with control's route registered.
-use Prim.Native.Nat.{ℕ, _+_, _*_, _<_, _≤_}
+use Prim.Native.Nat.{ℕ, _+_, _*_}
 use mathlib.Core.Path.{_≡_, refl, sym, ap, _∙_}
 use mathlib.Core.Bool.{Bool, true, false, cond, _&&_, _||_}
-use mathlib.Core.List.{List, [], _∷_}
+use mathlib.Core.List.{List, []}
 use mathlib.Core.Logic.{_⊎_, inl, inr}
 use native.Mathlib.Omega.{arith}
 use borrow.Author.Tests.{eqb-true, eq-eqb, not-true}
@@ -14,12 +14,12 @@ use Rattle.def.specs.Speed.{speedKnown}
 use Rattle.configuration.specs.Valid.{configurations, validList}
 use Rattle.hub.specs.Chain.{chainOk}
 use Rattle.ring.specs.Rings.{ringOk}
-use Rattle.transfer.specs.Routes.{routeIndex, routeOf, withRoute, names, published, ringFor, Small, Outside}
+use Rattle.transfer.specs.Routes.{routeIndex, routeOf, withRoute, Outside}
 use Rattle.transfer.proofs.Laws.{index-inside}
 use Rattle.answer.specs.declared.Answer.{Answer}
 use Rattle.answer.specs.declared.Answer.the-variants as answer
 use Rattle.answer.specs.Answer.{number}
-use Rattle.command.specs.Course.{Played, played, result}
+use Rattle.command.specs.Course.{played, result}
 use Rattle.set_configuration.proofs.Laws.{AllDone}
 use Rattle.endpoint.specs.Cells.{noCells}
 use Rattle.device.specs.declared.check.Check.{Check}
@@ -29,7 +29,7 @@ use Rattle.device.specs.Device.{listOf, cellsIn, heldOf, quarantinedOf}
 use Rattle.device.specs.Left.{Left, refused, isAccepted, isBroken, isCut}
 use Rattle.device.specs.Sound.{sound}
 use Rattle.device.specs.Calls.{onCheck}
-use Rattle.bring_up.specs.BringUp.{BringUp, Brought, spacingOf, lentCheck, deviceCheck, queueCheck, bringUpCheck, bringUpCourse, broughtRecord, noDevice, broughtLeft, bringUp}
+use Rattle.bring_up.specs.BringUp.{BringUp, Brought, spacingOf, slotCheck, deviceCheck, queueCheck, bringUpCheck, bringUpCourse, broughtRecord, noDevice, broughtLeft, bringUp}
 use Rattle.bring_up.proofs.Checks.{Passed, passed, pass-if}
 use Rattle.bring_up.proofs.Ends.{EndFacts, course-facts, course-done}
 use Rattle.bring_up.proofs.Accepted.{record-held, record-cells, record-quarantined, record-list, record-usable, usable-accepted, record-sound}
@@ -51,7 +51,7 @@ refuses-if false x next r h = r
 
 -- every refusal of a bring-up is one
 check-refuses : (a : BringUp) (ctx : ℕ) (routes : List ℕ) (log : ℕ) → Refuses (bringUpCheck a ctx routes log)
-unfolding bringUpCheck lentCheck deviceCheck queueCheck Refuses number
+unfolding bringUpCheck slotCheck deviceCheck queueCheck Refuses number
 check-refuses a ctx routes log =
     refuses-if (leb 1 (a .slot) && (leb (a .slot) (a .n) && leb (a .n) 255)) answer.SlotLimitReached _ (record { accepted = refl; broken = refl; cut = refl })
     (refuses-if (eqb ctx 1056 || eqb ctx 2112) answer.ContextLength _ (record { accepted = refl; broken = refl; cut = refl })
