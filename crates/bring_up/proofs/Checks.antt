@@ -1,7 +1,7 @@
 -- What the checks of a bring-up come to, and what it says that they passed.
 use Prim.Native.Nat.{ℕ, _+_, _*_, _≤_}
 use mathlib.Core.Path.{_≡_, refl, sym, ap, _∙_}
-use mathlib.Core.Bool.{Bool, true, false, cond, _&&_, _||_}
+use mathlib.Core.Bool.{true, _&&_, _||_}
 use mathlib.Core.List.{List}
 use mathlib.Core.Logic.{_⊎_, inl, inr, ⊎-elim}
 use native.Mathlib.Omega.{arith}
@@ -14,19 +14,12 @@ use Rattle.def.specs.Speed.{speedKnown}
 use Rattle.configuration.specs.Valid.{validList}
 use Rattle.hub.specs.Chain.{chainOk}
 use Rattle.ring.specs.Rings.{ringOk}
-use Rattle.answer.specs.declared.Answer.{Answer}
 use Rattle.answer.specs.declared.Answer.the-variants as answer
 use Rattle.context.specs.Place.{Spaced}
 use Rattle.device.specs.declared.check.Check.{Check}
 use Rattle.device.specs.declared.check.Check.the-variants.{Pass, Refuse}
-use Rattle.device.proofs.Laws.{andThen}
+use Rattle.device.proofs.Laws.{andThen, then-if, pass-if}
 use Rattle.bring_up.specs.BringUp.{BringUp, spacingOf, slotCheck, deviceCheck, queueCheck, bringUpCheck}
-
-then-if : (b : Bool) (x y : Check) (a : Answer) (next : Check) → x ≡ andThen y next →
-    cond b x (Refuse a) ≡ andThen (cond b y (Refuse a)) next
-unfolding andThen
-then-if true x y a next e = e
-then-if false x y a next e = refl
 
 then-then : (x y z : Check) → andThen x (andThen y z) ≡ andThen (andThen x y) z
 unfolding andThen
@@ -91,11 +84,6 @@ lengths ctx (inl e) =
     rw e (record { known = refl; context = refl; spaced = record { wide = omega arith; narrow = omega arith; room = omega arith } })
 lengths ctx (inr e) =
     rw e (record { known = refl; context = refl; spaced = record { wide = omega arith; narrow = omega arith; room = omega arith } })
-
--- a check that passed held, and so did what followed
-pub pass-if : (b : Bool) (x : Check) (a : Answer) → cond b x (Refuse a) ≡ Pass → (b ≡ true) × (x ≡ Pass)
-pass-if true x a e = (refl, e)
-pass-if false x a e = let z : _≡_ {A = ℕ} 0 1 = cc in absurd (omega arith)
 
 module _ (a : BringUp) where
   -- what it says that they passed

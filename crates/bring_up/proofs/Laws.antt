@@ -30,7 +30,8 @@ use Rattle.device.specs.Left.{Left, refused, isAccepted, isBroken, isCut}
 use Rattle.device.specs.Sound.{sound}
 use Rattle.device.specs.Calls.{onCheck}
 use Rattle.bring_up.specs.BringUp.{BringUp, Brought, spacingOf, slotCheck, deviceCheck, queueCheck, bringUpCheck, bringUpCourse, broughtRecord, noDevice, broughtLeft, bringUp}
-use Rattle.bring_up.proofs.Checks.{Passed, passed, pass-if}
+use Rattle.device.proofs.Laws.{pass-if}
+use Rattle.bring_up.proofs.Checks.{Passed, passed}
 use Rattle.bring_up.proofs.Ends.{EndFacts, course-facts, course-done}
 use Rattle.bring_up.proofs.Accepted.{record-held, record-cells, record-quarantined, record-list, record-usable, usable-accepted, record-sound}
 

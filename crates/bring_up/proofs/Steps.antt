@@ -18,7 +18,7 @@ use Rattle.command.proofs.Laws.{played-ends, played-sends, played-then}
 use Rattle.context.specs.Place.{Spaced}
 use Rattle.context.specs.Steps.{highestDci}
 use Rattle.phase.specs.End.{End}
-use Rattle.phase.specs.Lent.{dcisIn, queuesIn, Room}
+use Rattle.phase.specs.Arrays.{dcisIn, queuesIn, Room}
 use Rattle.set_configuration.specs.declared.run.SettingsArgs.{SettingsArgs}
 use Rattle.set_configuration.specs.SetConfiguration.{setCourse}
 use Rattle.device.specs.declared.check.Check.the-variants.{Pass, Refuse}

@@ -20,15 +20,6 @@ fn context_known(ctx: usize) -> bool
     ctx == 2112
 }
 
-fn ring_ok(ring: u64) -> bool
-    ensures { λ r. ⌜ r ≡ ringOk ring ⌝ }
-{
-    if ring == 0 {
-        return false;
-    }
-    ring % 16 == 0
-}
-
 // 11, 1, 2, 3.
 fn slot_check(a: BringUpArgs, ctx: usize, routes: usize, log: usize) -> Check
     ensures { λ r. ⌜ ((hubs list : List ℕ) → r ≡ slotCheck (bringUpOf a hubs list) ctx routes log Pass) ⌝ }
@@ -68,7 +59,7 @@ fn device_check(a: BringUpArgs, hubs: &[u64], list: &[u32]) -> Check
     if !hub::chain_ok(hubs, a.has_parent, a.parent) {
         return Check::Refuse(Answer::HubChain);
     }
-    if !ring_ok(a.ring) {
+    if !ring::ring_ok(a.ring) {
         return Check::Refuse(Answer::Rings);
     }
     Check::Pass

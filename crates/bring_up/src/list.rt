@@ -3,24 +3,8 @@ ghost use mathlib.Core.Path.{_≡_};
 ghost use Prim.Native.Nat.{_≤_};
 ghost use lib.ListN.{length, getD, take};
 ghost use Rattle.descriptor.specs.Word.{configurationValue};
-ghost use Rattle.configuration.specs.Valid.{configurations};
 ghost use Rattle.endpoint.specs.Endpoint.{padded};
 ghost use Rattle.bring_up.specs.BringUp.{firstConfigurations};
-
-pub fn count_configurations(list: &[u32]) -> usize
-    ensures { λ r. ⌜ r ≡ configurations (now (list .entry)) ⌝ }
-{
-    let mut count = 0;
-    let mut i = 0;
-    while i < list.len() {
-        let kind = descriptor::word_kind(list[i]);
-        i += 1;
-        if kind == descriptor::CONFIGURATION {
-            count += 1;
-        }
-    }
-    count
-}
 
 // How many words the first k configurations have.
 pub fn count_words(list: &[u32], k: usize) -> usize

@@ -13,7 +13,7 @@ ghost use lib.ListN.{length};
 ghost use Rattle.configuration.specs.Valid.{configurations, validList};
 ghost use Rattle.command.specs.Course.{played};
 ghost use Rattle.context.specs.Place.{Spaced};
-ghost use Rattle.phase.specs.Lent.{queuesIn};
+ghost use Rattle.phase.specs.Arrays.{queuesIn};
 ghost use Rattle.set_configuration.specs.SetConfiguration.{settingsOf};
 ghost use Rattle.device.specs.Left.{isAccepted};
 ghost use Rattle.bring_up.specs.BringUp.{bringUpOf, leavesRead, bringUpSet, bringUpConfigs, bringUpDevice, bringUpConfiguration, bringUpPacket, bringUpHeader, bringUpAddress};
@@ -221,7 +221,7 @@ fn read_configs(
     requires { ⌜ validList (now list) ≡ true ⌝ }
     ensures { λ r. ⌜ ((hubs : List ℕ) → leavesRead r (now (list .entry)) (now (ctx .exit)) (now (routes .exit)) (now (log .exit)) ≡ played (now (outcomes .entry)) 5 (bringUpConfigs (bringUpOf a hubs (now (list .entry))) spacing (configurations (now (list .entry))) 0 (now (ctx .entry)) (now (routes .entry))) (now (log .entry))) ⌝ }
 {
-    let all = list::count_configurations(list);
+    let all = configuration::count_configurations(list);
     let mut i = 0;
     while i < all {
         let read = i;
@@ -294,6 +294,6 @@ fn set_first(
     let e = set_configuration::run_set_configuration(ctx, routes, log, outcomes, n, settings, list);
     let answer = e.answer;
     let value = value_after(answer, first, a.value);
-    let all = list::count_configurations(list);
+    let all = configuration::count_configurations(list);
     after_reading(answer, e.count, value, all)
 }

@@ -14,7 +14,7 @@ use Rattle.transfer.specs.declared.Replaced.{Replaced}
 use Rattle.transfer.specs.declared.Replaced.the-variants as replace
 use Rattle.transfer.specs.Routes.{Queue, replaced, withReplaced}
 use Rattle.phase.specs.End.{End, stays, moves, answerOf}
-use Rattle.phase.specs.Lent.{dcisIn, queuesIn}
+use Rattle.phase.specs.Arrays.{dcisIn, queuesIn}
 use Rattle.claim.specs.declared.ClaimArgs.{ClaimArgs}
 
 -- What a claim works on: the interface's old setting, if it holds one, and the one that it is to hold.

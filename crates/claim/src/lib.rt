@@ -13,7 +13,7 @@ ghost use Prim.Native.Nat.{ℕ, _+_, _≤_};
 ghost use lib.ListN.{length};
 ghost use Rattle.command.specs.Course.{played};
 ghost use Rattle.settings.specs.Held.{settingWords};
-ghost use Rattle.phase.specs.Lent.{leaves, queuesIn, Room};
+ghost use Rattle.phase.specs.Arrays.{leaves, queuesIn, Room};
 ghost use Rattle.claim.specs.Claim.{claimOf, claimContext, undoContext, claimPublish, claimSwitchBack, claimUndone, claimUndo, claimSwitch, claimResume, claimConfigure, claimCourse};
 
 // The interface's old setting, if it holds one, with its endpoints; the setting to be held, with its rings; and all endpoints of the record.

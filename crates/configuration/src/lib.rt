@@ -113,7 +113,7 @@ fn runs_fit(list: &[u32]) -> bool
     true
 }
 
-fn count_configurations(list: &[u32]) -> usize
+pub fn count_configurations(list: &[u32]) -> usize
     ensures { λ r. ⌜ r ≡ configurations (now (list .entry)) ⌝ }
 {
     let mut count = 0;

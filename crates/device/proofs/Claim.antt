@@ -20,7 +20,7 @@ use Rattle.endpoint.specs.Endpoint.{padded}
 use Rattle.settings.specs.Held.{Held, isFound, settingWords, withSetting}
 use Rattle.settings.proofs.Laws.{with-fits}
 use Rattle.phase.specs.declared.Ended.{Ended}
-use Rattle.phase.specs.Lent as lent
+use Rattle.phase.specs.Arrays as arrays
 use Rattle.phase.proofs.Laws.{queues-as, room-as}
 use Rattle.claim.specs.declared.ClaimArgs.{ClaimArgs}
 use Rattle.claim.specs.Claim.{claimOf, claimCourse}
@@ -102,7 +102,7 @@ pub record ClaimFacts (d : Device) (i alt ctx log : ℕ) : Type 0 where
 
 -- what the course of a claim asks
 pub claim-room : (d : Device) (i alt : ℕ) (a : ClaimArgs) (c : Cells) (by : List ℕ) (ctx : ℕ) → ClaimAs a d c i alt by →
-    Spaced (d .spacing) ctx → lent.Room (a .spacing) ctx (a .old) (a .all)
+    Spaced (d .spacing) ctx → arrays.Room (a .spacing) ctx (a .old) (a .all)
 claim-room d i alt a c by ctx s h = rw (s .spacing) (room-as (d .spacing) ctx (a .old) (a .all) _ _ h (s .old) (s .all))
 
 module _ (d : Device) (i alt : ℕ) (rings : List ℕ) where
@@ -132,7 +132,7 @@ module _ (d : Device) (i alt : ℕ) (rings : List ℕ) where
       claimOf a (cond (a .held) (settingWords (listOf d) (a .interface) (a .«old_alternate»)) [])
       (settingWords (listOf d) (a .interface) (a .alternate))
       ≡ claimIn d i alt rings
-  unfolding claimIn lent.dcisIn
+  unfolding claimIn arrays.dcisIn
   claim-of a c by e p s =
       let old = queues-as (a .old) _ (s .old) in
       let pending = queues-as (a .pending) by (s .pending) in
@@ -142,12 +142,12 @@ module _ (d : Device) (i alt : ℕ) (rings : List ℕ) where
   pub claim-left :
       (a : ClaimArgs) (c : Cells) (by o ctx routes log ctx′ routes′ log′ : List ℕ) (x : Ended) (made : Device) → c ≡ cellsIn d →
       by ≡ pendingOf d i alt rings → ClaimAs a d c i alt by →
-      lent.leaves x ctx′ routes′ log′
+      arrays.leaves x ctx′ routes′ log′
       ≡ played o 0
       (claimCourse (claimOf a (cond (a .held) (settingWords (listOf d) (a .interface) (a .«old_alternate»)) [])
       (settingWords (listOf d) (a .interface) (a .alternate))) ctx routes)
       log →
-      made ≡ claimRecord d i alt rings (lent.leaves x ctx′ routes′ [] .end) →
+      made ≡ claimRecord d i alt rings (arrays.leaves x ctx′ routes′ [] .end) →
       leaves (record { device = made; answer = x .answer; count = x .count }) ctx′ routes′ log′
       ≡ ended (claimRecord d i alt rings) (played o 0 (claimCourse (claimIn d i alt rings) ctx routes) log)
   unfolding ended

@@ -63,7 +63,7 @@ unfoldable pub andThen : Check → Check → Check
 andThen Pass next = next
 andThen (Refuse a) next = Refuse a
 
-then-if : (b : Bool) (x y : Check) (a : Answer) (next : Check) → x ≡ andThen y next →
+pub then-if : (b : Bool) (x y : Check) (a : Answer) (next : Check) → x ≡ andThen y next →
     cond b x (Refuse a) ≡ andThen (cond b y (Refuse a)) next
 unfolding andThen
 then-if true x y a next e = e

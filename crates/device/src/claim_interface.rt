@@ -25,7 +25,7 @@ ghost use Rattle.endpoint.specs.Cells.{pendingRings, claimedCells, withActive, 
 ghost use Rattle.endpoint.specs.Endpoint.{padded};
 ghost use Rattle.settings.specs.Held.{isFound, settingWords, withSetting};
 ghost use Rattle.settings.specs.Match.{addressesFree};
-ghost use Rattle.phase.specs.Lent as lent;
+ghost use Rattle.phase.specs.Arrays as arrays;
 ghost use Rattle.claim.specs.Claim.{claimOf, claimCourse};
 ghost use Rattle.device.specs.declared.check.Check.the-variants.{Pass};
 ghost use Rattle.device.specs.Device.{cellsIn, heldOf, quarantinedOf, withCells, withHeld, withQuarantined};
@@ -80,7 +80,7 @@ fn setting_check(
     }
 }
 
-fn lent_check(
+fn list_check(
     list: [u32; 256],
     n: usize,
     interface: u8,
@@ -112,7 +112,7 @@ fn own_check(d: Device, interface: u8, alternate: u8, rings: &[u64]) -> Check
     let list = d.list;
     let quarantined = d.quarantined;
     let c = cells::cells_in(d);
-    lent_check(
+    list_check(
         list,
         d.list_len,
         interface,
@@ -151,7 +151,7 @@ fn setting_rings(list: &[u32], interface: u8, alternate: u8, rings: &[u64]) -> [
     endpoint::pending_rings(words, rings)
 }
 
-fn lent_rings(list: [u32; 256], n: usize, interface: u8, alternate: u8, rings: &[u64]) -> [u64; 30]
+fn list_rings(list: [u32; 256], n: usize, interface: u8, alternate: u8, rings: &[u64]) -> [u64; 30]
     requires { ⌜ n ≤ 256 ⌝ }
     ensures { λ r. ⌜ r ≡ pendingRings (settingWords (take n list) interface alternate) (now (rings .entry)) ⌝ }
 {
@@ -163,7 +163,7 @@ fn pending_of(d: Device, interface: u8, alternate: u8, rings: &[u64]) -> [u64; 3
     ensures { λ r. ⌜ r ≡ pendingOf d interface alternate (now (rings .entry)) ⌝ }
 {
     let list = d.list;
-    lent_rings(list, d.list_len, interface, alternate, rings)
+    list_rings(list, d.list_len, interface, alternate, rings)
 }
 
 fn claim_args(d: Device, c: Cells, interface: u8, alternate: u8, pending: [u64; 30]) -> ClaimArgs
@@ -190,7 +190,7 @@ fn claim_args(d: Device, c: Cells, interface: u8, alternate: u8, pending: [u64; 
     }
 }
 
-fn lent_claim(
+fn list_claim(
     ctx: &mut [u8],
     routes: &mut [u64],
     log: &mut [u32],
@@ -199,10 +199,10 @@ fn lent_claim(
     list: [u32; 256],
     n: usize,
 ) -> Ended
-    requires { ⌜ lent.Room (a .spacing) (length (now ctx)) (a .old) (a .all) ⌝ }
+    requires { ⌜ arrays.Room (a .spacing) (length (now ctx)) (a .old) (a .all) ⌝ }
     requires { ⌜ a .pending .count ≤ 30 ⌝ }
     requires { ⌜ (64 ≤ length (now log)) × (n ≤ 256) ⌝ }
-    ensures { λ r. ⌜ lent.leaves r (now (ctx .exit)) (now (routes .exit)) (now (log .exit)) ≡ played (now (outcomes .entry)) 0 (claimCourse (claimOf a (cond (a .held) (settingWords (take n list) (a .interface) (a .«old_alternate»)) []) (settingWords (take n list) (a .interface) (a .alternate))) (now (ctx .entry)) (now (routes .entry))) (now (log .entry)) ⌝ }
+    ensures { λ r. ⌜ arrays.leaves r (now (ctx .exit)) (now (routes .exit)) (now (log .exit)) ≡ played (now (outcomes .entry)) 0 (claimCourse (claimOf a (cond (a .held) (settingWords (take n list) (a .interface) (a .«old_alternate»)) []) (settingWords (take n list) (a .interface) (a .alternate))) (now (ctx .entry)) (now (routes .entry))) (now (log .entry)) ⌝ }
 {
     claim::claim_interface(ctx, routes, log, outcomes, a, &list[0..n])
 }
@@ -270,7 +270,7 @@ fn claim_record(
 ) -> Device
     requires { ⌜ (d .«held_count» ≤ 32) × (length (withSetting interface alternate (heldOf d)) ≤ 32) ⌝ }
     requires { ⌜ (c ≡ cellsIn d) × (quarantinedOf d ≡ []) × QueuesAs q pending ⌝ }
-    ensures { λ r. ⌜ ((ctx routes rings : List ℕ) → pending ≡ pendingOf d interface alternate rings → r ≡ claimRecord d interface alternate rings (lent.leaves e ctx routes [] .end)) ⌝ }
+    ensures { λ r. ⌜ ((ctx routes rings : List ℕ) → pending ≡ pendingOf d interface alternate rings → r ≡ claimRecord d interface alternate rings (arrays.leaves e ctx routes [] .end)) ⌝ }
 {
     let a = e.answer;
     if e.moved {
@@ -298,7 +298,7 @@ fn claim_run(
     let a = claim_args(d, c, interface, alternate, pending);
     let list = d.list;
     let q = a.pending;
-    let e = lent_claim(ctx, routes, log, outcomes, a, list, d.list_len);
+    let e = list_claim(ctx, routes, log, outcomes, a, list, d.list_len);
     let answer = e.answer;
     Called {
         device: claim_record(d, c, interface, alternate, pending, q, e),

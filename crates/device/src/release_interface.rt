@@ -21,7 +21,7 @@ ghost use Rattle.context.specs.Place.{Spaced};
 ghost use Rattle.endpoint.specs.Order.{PLACES};
 ghost use Rattle.endpoint.specs.declared.cells.Owner.the-variants.{Interface};
 ghost use Rattle.endpoint.specs.Cells.{ownedRings, claimedCells, QueuesAs};
-ghost use Rattle.phase.specs.Lent as lent;
+ghost use Rattle.phase.specs.Arrays as arrays;
 ghost use Rattle.settings.specs.Held.{isFound, settingWords, withoutSetting};
 ghost use Rattle.release.specs.Release.{releaseOf, releaseCourse};
 ghost use Rattle.device.specs.Device.{listOf, cellsIn, heldOf, withCells, withHeld};
@@ -103,9 +103,9 @@ fn release_listed(
     list: [u32; 256],
     n: usize,
 ) -> Ended
-    requires { ⌜ lent.Room (a .spacing) (length (now ctx)) (a .old) (a .all) ⌝ }
+    requires { ⌜ arrays.Room (a .spacing) (length (now ctx)) (a .old) (a .all) ⌝ }
     requires { ⌜ (64 ≤ length (now log)) × (n ≤ 256) ⌝ }
-    ensures { λ r. ⌜ lent.leaves r (now (ctx .exit)) (now (routes .exit)) (now (log .exit)) ≡ played (now (outcomes .entry)) 0 (releaseCourse (releaseOf a (settingWords (take n list) (a .interface) (a .alternate))) (now (ctx .entry)) (now (routes .entry))) (now (log .entry)) ⌝ }
+    ensures { λ r. ⌜ arrays.leaves r (now (ctx .exit)) (now (routes .exit)) (now (log .exit)) ≡ played (now (outcomes .entry)) 0 (releaseCourse (releaseOf a (settingWords (take n list) (a .interface) (a .alternate))) (now (ctx .entry)) (now (routes .entry))) (now (log .entry)) ⌝ }
 {
     release::release_interface(ctx, routes, log, outcomes, a, &list[0..n])
 }
@@ -126,7 +126,7 @@ fn released(d: Device, c: Cells, interface: u8) -> Device
 fn release_record(d: Device, c: Cells, e: Ended, interface: u8) -> Device
     requires { ⌜ countsFit d ≡ true ⌝ }
     requires { ⌜ c ≡ cellsIn d ⌝ }
-    ensures { λ r. ⌜ ((ctx routes : List ℕ) → r ≡ releaseRecord d interface (lent.leaves e ctx routes [] .end)) ⌝ }
+    ensures { λ r. ⌜ ((ctx routes : List ℕ) → r ≡ releaseRecord d interface (arrays.leaves e ctx routes [] .end)) ⌝ }
 {
     let answer = e.answer;
     if e.moved {

@@ -18,7 +18,7 @@ ghost use lib.ListN.{length, take};
 ghost use Rattle.command.specs.Course.{played};
 ghost use Rattle.context.specs.Place.{Spaced};
 ghost use Rattle.endpoint.specs.Cells.{QueuesAs};
-ghost use Rattle.phase.specs.Lent as lent;
+ghost use Rattle.phase.specs.Arrays as arrays;
 ghost use Rattle.set_configuration.specs.SetConfiguration.{settingsOf, setCourse};
 ghost use Rattle.device.specs.Device.{listOf, cellsIn, withConfiguration};
 ghost use Rattle.device.specs.Left.{leaves, ended, isAccepted};
@@ -58,9 +58,9 @@ fn set_listed(
     list: [u32; 256],
     n: usize,
 ) -> Ended
-    requires { ⌜ lent.Room (a .spacing) (length (now ctx)) (a .old) (a .old) ⌝ }
+    requires { ⌜ arrays.Room (a .spacing) (length (now ctx)) (a .old) (a .old) ⌝ }
     requires { ⌜ (a .held ≤ 32) × (64 ≤ length (now log)) × (n ≤ 256) ⌝ }
-    ensures { λ r. ⌜ lent.leaves r (now (ctx .exit)) (now (routes .exit)) (now (log .exit)) ≡ played (now (outcomes .entry)) 0 (setCourse (settingsOf a (take n list)) (now (ctx .entry)) (now (routes .entry))) (now (log .entry)) ⌝ }
+    ensures { λ r. ⌜ arrays.leaves r (now (ctx .exit)) (now (routes .exit)) (now (log .exit)) ≡ played (now (outcomes .entry)) 0 (setCourse (settingsOf a (take n list)) (now (ctx .entry)) (now (routes .entry))) (now (log .entry)) ⌝ }
 {
     set_configuration::run_set_configuration(ctx, routes, log, outcomes, 0, a, &list[0..n])
 }
@@ -93,7 +93,7 @@ fn configured(mut d: Device, a: Answer, value: u8) -> Device
 // The record that the end of the course makes.
 fn set_record(d: Device, c: Cells, e: Ended, value: u8) -> Device
     requires { ⌜ c ≡ cellsIn d ⌝ }
-    ensures { λ r. ⌜ ((ctx routes : List ℕ) → r ≡ setRecord d value (lent.leaves e ctx routes [] .end)) ⌝ }
+    ensures { λ r. ⌜ ((ctx routes : List ℕ) → r ≡ setRecord d value (arrays.leaves e ctx routes [] .end)) ⌝ }
 {
     let answer = e.answer;
     if e.moved {

@@ -19,7 +19,7 @@ use Rattle.endpoint.specs.declared.pending.Queues.{Queues}
 use Rattle.endpoint.specs.Cells.{gathered, queuesOf, queueDcis, queueRings, QueuesAs}
 use Rattle.endpoint.specs.Order.{dciAt}
 use Rattle.transfer.specs.Routes.{Queue, queues}
-use Rattle.phase.specs.Lent.{dcisIn, ringsIn, queuesIn, Room}
+use Rattle.phase.specs.Arrays.{dcisIn, ringsIn, queuesIn, Room}
 
 -- the Dcis of queues made of Dcis and rings
 pub dcis-queues : (ds rs : List ℕ) → queueDcis (queues ds rs) ≡ ds

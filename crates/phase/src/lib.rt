@@ -16,7 +16,7 @@ ghost use Rattle.context.specs.Place.{written, Spaced};
 ghost use Rattle.context.specs.Steps.{configureWrites, highestDci};
 ghost use Rattle.transfer.specs.Routes.{queues, replaced, withReplaced};
 ghost use Rattle.phase.specs.End.{answerOf, configureFailed};
-ghost use Rattle.phase.specs.Lent.{dcisIn, queuesIn};
+ghost use Rattle.phase.specs.Arrays.{dcisIn, queuesIn};
 
 // How a course ended: of the old endpoints, by rising address, how many are active, and whether they are gone.
 pub struct Ended {

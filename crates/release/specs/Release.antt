@@ -13,7 +13,7 @@ use Rattle.transfer.specs.declared.Replaced.{Replaced}
 use Rattle.transfer.specs.declared.Replaced.the-variants as replace
 use Rattle.transfer.specs.Routes.{Queue, replaced, withReplaced}
 use Rattle.phase.specs.End.{End, stays, moves, configureFailed}
-use Rattle.phase.specs.Lent.{dcisIn, queuesIn}
+use Rattle.phase.specs.Arrays.{dcisIn, queuesIn}
 use Rattle.release.specs.declared.ReleaseArgs.{ReleaseArgs}
 
 -- What a release works on: the interface's setting, alternate 0 where none is held.

@@ -10,7 +10,7 @@ ghost use mathlib.Core.Path.{_≡_};
 ghost use Prim.Native.Nat.{_+_, _≤_};
 ghost use lib.ListN.{length};
 ghost use Rattle.command.specs.Course.{played};
-ghost use Rattle.phase.specs.Lent.{leaves, Room};
+ghost use Rattle.phase.specs.Arrays.{leaves, Room};
 ghost use Rattle.settings.specs.Held.{settingWords};
 ghost use Rattle.release.specs.Release.{releaseOf, releasePublish, releaseResume, releaseConfigure, releaseCourse};
 

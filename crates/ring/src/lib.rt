@@ -4,7 +4,7 @@ ghost use lib.ListN.{drop};
 ghost use Rattle.laws.proofs.Distinct.{elem, distinct};
 ghost use Rattle.ring.specs.Rings.{ringOk, ringsOk, disjoint, offerOk};
 
-fn ring_ok(ring: u64) -> bool
+pub fn ring_ok(ring: u64) -> bool
     ensures { λ r. ⌜ r ≡ ringOk ring ⌝ }
 {
     if ring == 0 {

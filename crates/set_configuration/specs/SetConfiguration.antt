@@ -12,7 +12,7 @@ use Rattle.transfer.specs.declared.Replaced.{Replaced}
 use Rattle.transfer.specs.declared.Replaced.the-variants as replace
 use Rattle.transfer.specs.Routes.{Queue, replaced, withReplaced}
 use Rattle.phase.specs.End.{End, stays, moves, configureFailed}
-use Rattle.phase.specs.Lent.{queuesIn}
+use Rattle.phase.specs.Arrays.{queuesIn}
 use Rattle.settings.specs.Held.{heldIn, heldWords}
 use Rattle.set_configuration.specs.declared.run.SettingsArgs.{SettingsArgs}
 

@@ -10,7 +10,7 @@ ghost use Rattle.block.specs.Setting.{_:=_};
 ghost use Rattle.context.specs.Place.{inBlock, CONTROL, SLOT, written, Spaced};
 ghost use Rattle.context.specs.Steps.{addAll, contextEntries, highestDci};
 ghost use Rattle.transfer.specs.Routes.{queues};
-ghost use Rattle.phase.specs.Lent.{Room};
+ghost use Rattle.phase.specs.Arrays.{Room};
 ghost use Rattle.settings.specs.Held.{heldIn, heldWords};
 ghost use Rattle.set_configuration.specs.SetConfiguration.{settingsOf, dropContext, restoreContext};
 

@@ -12,7 +12,7 @@ ghost use mathlib.Core.List.{List};
 ghost use Prim.Native.Nat.{ℕ, _+_, _*_, _<_, _≤_};
 ghost use lib.ListN.{length};
 ghost use Rattle.command.specs.Course.{played};
-ghost use Rattle.phase.specs.Lent.{leaves, Room};
+ghost use Rattle.phase.specs.Arrays.{leaves, Room};
 ghost use Rattle.set_configuration.specs.SetConfiguration.{settingsOf, setEvaluate, setPublish, setRestored, setRestore, setSwitch, setResume, setConfigure, setCourse};
 
 // The value asked for, the held settings, and their endpoints, which are all that the record has.

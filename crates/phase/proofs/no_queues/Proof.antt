@@ -1,6 +1,6 @@
 use mathlib.Core.Path.{refl}
 use Rattle.transfer.specs.Routes.{queues}
-use Rattle.phase.specs.Lent.{dcisIn, queuesIn}
+use Rattle.phase.specs.Arrays.{dcisIn, queuesIn}
 use Rattle.phase.proofs.no_queues.Statement.{statement}
 use Rattle.phase.proofs.no_queues.Tie as tie
 

@@ -1,4 +1,4 @@
-use Rattle.phase.specs.Lent.{dcisIn, ringsIn, queuesIn}
+use Rattle.phase.specs.Arrays.{dcisIn, ringsIn, queuesIn}
 use borrow.Author.Needs.{needs}
 use Rattle.phase.proofs.prepare_configure.Statement.{statement}
 use Rattle.phase.proofs.prepare_configure.Tie as tie

@@ -1,4 +1,4 @@
-use Rattle.phase.specs.Lent.{dcisIn}
+use Rattle.phase.specs.Arrays.{dcisIn}
 use borrow.Author.Needs.{needs}
 use Rattle.phase.proofs.resume_queues.Statement.{statement}
 use Rattle.phase.proofs.resume_queues.Tie as tie

@@ -5,7 +5,7 @@ use Rattle.bring_up.proofs.check.device_check.Statement.{statement}
 use Rattle.bring_up.proofs.check.device_check.Tie as tie
 use Rattle.bring_up.proofs.check.device_check.Reads as reads
 use Rattle.bring_up.proofs.check.device_check.Lts as lts
-use Rattle.bring_up.proofs.check.ring_ok.Reads as ring-ok-reads
+use Rattle.ring.proofs.ring_ok.Reads as ring-ok-reads
 use Rattle.configuration.proofs.valid_list.Reads as valid-list-reads
 use Rattle.def.proofs.speed_known.Reads as speed-known-reads
 use Rattle.hub.proofs.chain_ok.Reads as chain-ok-reads

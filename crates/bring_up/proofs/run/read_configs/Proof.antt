@@ -14,7 +14,7 @@ use Rattle.bring_up.proofs.run.read_configs.Statement.{statement}
 use Rattle.bring_up.proofs.run.read_configs.Tie as tie
 use Rattle.bring_up.proofs.run.read_configs.Reads as reads
 use Rattle.bring_up.proofs.run.read_configs.Lts as lts
-use Rattle.bring_up.proofs.list.count_configurations.Reads as count-configurations-reads
+use Rattle.configuration.proofs.count_configurations.Reads as count-configurations-reads
 use Rattle.bring_up.proofs.run.after_reading.Reads as after-reading-reads
 use Rattle.bring_up.proofs.run.set_first.Reads as set-first-reads
 use Rattle.command.proofs.send.Reads as send-reads

@@ -1,5 +1,5 @@
 use Rattle.bring_up.specs.BringUp.{bringUpOf}
-use Rattle.phase.specs.Lent.{leaves}
+use Rattle.phase.specs.Arrays.{leaves}
 use Rattle.bring_up.specs.BringUp.{bringUpSettings}
 use Rattle.bring_up.proofs.Steps.{first-room, set-end}
 use Rattle.bring_up.proofs.Lists.{first-all}
@@ -10,7 +10,7 @@ use Rattle.bring_up.proofs.run.set_first.Statement.{statement}
 use Rattle.bring_up.proofs.run.set_first.Tie as tie
 use Rattle.bring_up.proofs.run.set_first.Reads as reads
 use Rattle.bring_up.proofs.run.set_first.Lts as lts
-use Rattle.bring_up.proofs.list.count_configurations.Reads as count-configurations-reads
+use Rattle.configuration.proofs.count_configurations.Reads as count-configurations-reads
 use Rattle.bring_up.proofs.list.first_value.Reads as first-value-reads
 use Rattle.bring_up.proofs.run.after_reading.Reads as after-reading-reads
 use Rattle.bring_up.proofs.run.first_settings.Reads as first-settings-reads

@@ -4,12 +4,12 @@ use Rattle.device.proofs.Facts.{count-facts}
 use Rattle.device.proofs.claim_interface.pending_of.Statement.{statement}
 use Rattle.device.proofs.claim_interface.pending_of.Tie as tie
 
-lent-rings-requires : tie.Need-lent-rings-requires
-lent-rings-requires c κs = count-facts _ (c .before .before .pre) .list
+list-rings-requires : tie.Need-list-rings-requires
+list-rings-requires c κs = count-facts _ (c .before .before .pre) .list
 
 returns : tie.Need-returns
 unfolding pendingOf listOf
-returns c = c .lent-rings .ensures
+returns c = c .list-rings .ensures
 
 pub pending-of-spec : {M : Type 1} → statement M
-pending-of-spec = tie.close (tie.spec lent-rings-requires returns)
+pending-of-spec = tie.close (tie.spec list-rings-requires returns)

@@ -2,7 +2,7 @@ use mathlib.Core.Path.{refl}
 use Rattle.device.proofs.Facts.{count-facts}
 use Rattle.device.specs.Release.{releaseIn}
 use Rattle.device.specs.Device.{heldOf}
-use Rattle.phase.specs.Lent.{dcisIn}
+use Rattle.phase.specs.Arrays.{dcisIn}
 use Rattle.phase.proofs.Laws.{queues-as}
 use borrow.Author.Needs.{needs}
 use Rattle.device.proofs.release_interface.release_args.Statement.{statement}

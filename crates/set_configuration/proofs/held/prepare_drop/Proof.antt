@@ -1,4 +1,4 @@
-use Rattle.phase.specs.Lent.{dcisIn}
+use Rattle.phase.specs.Arrays.{dcisIn}
 use Rattle.phase.proofs.Laws.{dcis-in}
 use Rattle.set_configuration.specs.SetConfiguration.{dropContext}
 use Rattle.set_configuration.proofs.Steps.{drop-steps}

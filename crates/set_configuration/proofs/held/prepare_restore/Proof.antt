@@ -1,4 +1,4 @@
-use Rattle.phase.specs.Lent.{dcisIn, ringsIn, queuesIn}
+use Rattle.phase.specs.Arrays.{dcisIn, ringsIn, queuesIn}
 use Rattle.phase.proofs.Laws.{dcis-in}
 use Rattle.set_configuration.specs.SetConfiguration.{restoreContext}
 use Rattle.set_configuration.proofs.Steps.{restore-steps}

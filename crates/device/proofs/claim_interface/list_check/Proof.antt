@@ -1,7 +1,7 @@
 use native.Mathlib.Nat.{sub-zero}
 use borrow.Author.Needs.{needs}
-use Rattle.device.proofs.claim_interface.lent_check.Statement.{statement}
-use Rattle.device.proofs.claim_interface.lent_check.Tie as tie
+use Rattle.device.proofs.claim_interface.list_check.Statement.{statement}
+use Rattle.device.proofs.claim_interface.list_check.Tie as tie
 
 sub-setting-check : tie.Need-sub-setting-check
 sub-setting-check c = search needs
@@ -27,5 +27,5 @@ setting-check-requires c κs = search needs
 returns : tie.Need-returns
 returns c = rw (c .setting-check .ensures, sub-zero, sub-zero)
 
-pub lent-check-spec : {M : Type 1} → statement M
-lent-check-spec = tie.close (tie.spec sub-setting-check part-setting-check-start part-setting-check-end sub-setting-check-2 part-setting-check-start-2 part-setting-check-end-2 setting-check-requires returns)
+pub list-check-spec : {M : Type 1} → statement M
+list-check-spec = tie.close (tie.spec sub-setting-check part-setting-check-start part-setting-check-end sub-setting-check-2 part-setting-check-start-2 part-setting-check-end-2 setting-check-requires returns)

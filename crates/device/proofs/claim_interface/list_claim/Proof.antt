@@ -1,7 +1,7 @@
 use native.Mathlib.Nat.{sub-zero}
 use borrow.Author.Needs.{needs}
-use Rattle.device.proofs.claim_interface.lent_claim.Statement.{statement}
-use Rattle.device.proofs.claim_interface.lent_claim.Tie as tie
+use Rattle.device.proofs.claim_interface.list_claim.Statement.{statement}
+use Rattle.device.proofs.claim_interface.list_claim.Tie as tie
 
 sub-claim-interface : tie.Need-sub-claim-interface
 sub-claim-interface c = search needs
@@ -27,5 +27,5 @@ same-length-3 c = search needs
 returns : tie.Need-returns
 returns c = rw sub-zero at (c .before .before .before .before .before .before .claim-interface .ensures)
 
-pub lent-claim-spec : {M : Type 1} → statement M
-lent-claim-spec = tie.close (tie.spec sub-claim-interface part-claim-interface-start part-claim-interface-end claim-interface-requires same-length same-length-2 same-length-3 returns)
+pub list-claim-spec : {M : Type 1} → statement M
+list-claim-spec = tie.close (tie.spec sub-claim-interface part-claim-interface-start part-claim-interface-end claim-interface-requires same-length same-length-2 same-length-3 returns)

@@ -1,7 +1,7 @@
 use native.Mathlib.Nat.{sub-zero}
 use borrow.Author.Needs.{needs}
-use Rattle.device.proofs.claim_interface.lent_rings.Statement.{statement}
-use Rattle.device.proofs.claim_interface.lent_rings.Tie as tie
+use Rattle.device.proofs.claim_interface.list_rings.Statement.{statement}
+use Rattle.device.proofs.claim_interface.list_rings.Tie as tie
 
 sub-setting-rings : tie.Need-sub-setting-rings
 sub-setting-rings c = search needs
@@ -18,5 +18,5 @@ setting-rings-requires c κs = search needs
 returns : tie.Need-returns
 returns c = rw (c .setting-rings .ensures, sub-zero)
 
-pub lent-rings-spec : {M : Type 1} → statement M
-lent-rings-spec = tie.close (tie.spec sub-setting-rings part-setting-rings-start part-setting-rings-end setting-rings-requires returns)
+pub list-rings-spec : {M : Type 1} → statement M
+list-rings-spec = tie.close (tie.spec sub-setting-rings part-setting-rings-start part-setting-rings-end setting-rings-requires returns)
