@@ -124,3 +124,81 @@ module _ (d : Device) (ctx routes log o : List ℕ) (i a : ℕ) (rings : List �
       (λ k l. rw zero-add (done-at o 64 k (g .done) (omega (arith, queues-fit old)))) (t .done))
       (claim-moves d _ _ _ i a rings (g .passes) _ refl)
       (t .routed)
+
+-- A done command.
+done-next :
+    {A : Type 0} (o : List ℕ) (n : ℕ) (c : Command) (ctx : List ℕ) (k : Sent → Course A) → outcomeAt o n ≡ sent.Done →
+    result o n (sends c ctx k) ≡ result o (n + 1) (k sent.Done)
+unfolding result
+done-next o n c ctx k e = ap (λ s. result o (n + 1) (k s)) e
+
+-- With every outcome done and the old routes there, a release is accepted and they are out.
+module _ (a : Release) (routes o : List ℕ) where
+  publish-done :
+      (ctx : List ℕ) (n : ℕ) → replaced routes (a .slot) (a .old) [] ≡ replace.Done →
+      result o n (releasePublish a ctx routes) ≡ moves answer.Accepted ctx (withReplaced routes (a .slot) (a .old) [])
+  unfolding releasePublish releasePublished result
+  publish-done ctx n r = rw r
+
+  configure-done :
+      (ctx : List ℕ) (n : ℕ) → outcomeAt o n ≡ sent.Done → replaced routes (a .slot) (a .old) [] ≡ replace.Done →
+      result o n (releaseConfigure a ctx routes)
+      ≡ moves answer.Accepted (releaseContext a ctx) (withReplaced routes (a .slot) (a .old) [])
+  unfolding releaseConfigure onSent
+  configure-done ctx n e r = done-next o n _ _ _ e ∙ publish-done (releaseContext a ctx) (n + 1) r
+
+  pub release-accepted :
+      (ctx : List ℕ) → AllDone o (length (a .old) + 1) → replaced routes (a .slot) (a .old) [] ≡ replace.Done →
+      result o 0 (releaseCourse a ctx routes)
+      ≡ moves answer.Accepted (releaseContext a ctx) (withReplaced routes (a .slot) (a .old) [])
+  unfolding releaseCourse onSent
+  release-accepted ctx h r =
+      let dcis = queueDcis (a .old) in
+      let m : length dcis ≡ length (a .old) = length-dcis (a .old) in
+      let e = stop-all-done o ctx dcis 0 (λ k l g. done-at o _ k h (omega arith)) in
+      let n : length (words o 0 (stopAll ctx dcis)) ≡ length (a .old) = stop-done o ctx dcis 0 e ∙ m in
+      rw (result-then, e, n, zero-add) (configure-done ctx (length (a .old)) (done-at o _ _ h (omega arith)) r)
+
+module _ (d : Device) (ctx routes log o : List ℕ) (i : ℕ) (g : Ready d ctx routes log o (releaseCheck d i)) where
+  pub release-ran :
+      Ran d routes (withoutSetting i (heldOf d)) (claimedCells i (replicate 30 0) (cellsIn d)) (ownedRings (Interface i) (cellsIn d)) (replicate 30 0)
+      (release d ctx routes log o i)
+  unfolding release releaseIn
+  release-ran =
+      let old = ownedRings (Interface i) (cellsIn d) in
+      let p = passed d (length ctx) (length routes) (length log) (releaseCheck d i) (g .passes) .0 in
+      let t = release-routed routes (d .slot .0) (cellsIn d) (g .routed) (in-table d _ _ _ routes p refl) i in
+      ran d routes (withoutSetting i (heldOf d)) (claimedCells i (replicate 30 0) (cellsIn d)) old (replicate 30 0) (releaseRecord d i) _ o log
+      (releaseContext (releaseIn d i) ctx) (releaseCourse (releaseIn d i) ctx routes) _ (g .passes)
+      (rw no-queues
+      (release-accepted (releaseIn d i) routes o ctx (λ k l. g .done k (omega (arith, queues-fit old))) (t .done)))
+      (release-moves d _ _ _ i (g .passes) _ refl)
+      (rw no-queues (t .routed))
+
+module _ (d : Device) (ctx routes log o : List ℕ) (value : ℕ) (g : Ready d ctx routes log o Pass) where
+  -- What the course of a set configuration ends with.
+  pub setEnd : End
+  setEnd =
+      let a = settingsIn d value in
+      moves answer.Accepted (valueContext a (dropContext a ctx)) (withReplaced routes (d .slot .0) (queuesOf ((cellsIn d) .rings)) [])
+
+  pub set-end : result o 0 (setCourse (settingsIn d value) ctx routes) ≡ setEnd
+  unfolding settingsIn setEnd
+  set-end =
+      let p = passed d (length ctx) (length routes) (length log) Pass (g .passes) .0 in
+      let t = bare-routed routes (d .slot .0) (cellsIn d) (g .routed) (in-table d _ _ _ routes p refl) in
+      set-accepted (settingsIn d value) routes o ctx 0
+      (λ k l m. done-at o 64 k (g .done) (omega (arith, queues-fit ((cellsIn d) .rings)))) (t .done)
+
+  pub set-ran :
+      Ran d routes [] noCells ((cellsIn d) .rings) (replicate 30 0) (setConfiguration d ctx routes log o value)
+  unfolding setConfiguration setEnd
+  set-ran =
+      let p = passed d (length ctx) (length routes) (length log) Pass (g .passes) .0 in
+      let t = bare-routed routes (d .slot .0) (cellsIn d) (g .routed) (in-table d _ _ _ routes p refl) in
+      let a = settingsIn d value in
+      ran d routes [] noCells ((cellsIn d) .rings) (replicate 30 0) (setRecord d value) _ o log
+      (valueContext a (dropContext a ctx)) (setCourse a ctx routes) _ (g .passes)
+      (rw no-queues set-end)
+      (set-moves d _ _ _ value (g .passes) _ refl)
+      (rw no-queues (t .routed))
