@@ -72,7 +72,7 @@ ran d routes hs c x y made k o log at course refuse p r m q =
     rw (p, r) (record { answer = refl; made = m; left = refl; routed = q })
 
 -- Each of the first outcomes is done.
-done-at : (o : List ℕ) (n k : ℕ) → AllDone o n → k < n → outcomeAt o k ≡ sent.Done
+pub done-at : (o : List ℕ) (n k : ℕ) → AllDone o n → k < n → outcomeAt o k ≡ sent.Done
 done-at o n k h l = let t = h k l in outcome-done o k (t .0) (t .1)
 
 -- The slot's words lie in the table.
@@ -177,7 +177,7 @@ module _ (d : Device) (ctx routes log o : List ℕ) (i : ℕ) (g : Ready d ctx r
 
 module _ (d : Device) (ctx routes log o : List ℕ) (value : ℕ) (g : Ready d ctx routes log o Pass) where
   -- What the course of a set configuration ends with.
-  pub setEnd : End
+  unfoldable pub setEnd : End
   setEnd =
       let a = settingsIn d value in
       moves answer.Accepted (valueContext a (dropContext a ctx)) (withReplaced routes (d .slot .0) (queuesOf ((cellsIn d) .rings)) [])
