@@ -1,7 +1,7 @@
 -- What the calls leave where their checks pass and every outcome is done.
-use Prim.Native.Nat.{ℕ, _+_, _*_, _<_, _≤_}
+use Prim.Native.Nat.{ℕ, _+_, _<_}
 use mathlib.Core.Path.{_≡_, refl, sym, ap, _∙_}
-use mathlib.Core.Bool.{Bool, true, false, not}
+use mathlib.Core.Bool.{false, not}
 use mathlib.Core.List.{List, []}
 use native.Mathlib.Nat.{zero-add}
 use native.Mathlib.Omega.{arith}
@@ -15,12 +15,12 @@ use Rattle.command.specs.declared.Command.{Command}
 use Rattle.command.specs.declared.Sent.{Sent}
 use Rattle.command.specs.declared.Sent.the-variants as sent
 use Rattle.command.specs.Command.{outcomeAt}
-use Rattle.command.specs.Course.{Course, ends, sends, onSent, then, words, result, played}
+use Rattle.command.specs.Course.{Course, sends, onSent, words, result, played}
 use Rattle.command.specs.Sweep.{stopAll}
 use Rattle.command.proofs.Laws.{result-then}
 use Rattle.command.proofs.Sweeps.{stop-done}
 use Rattle.transfer.specs.declared.Replaced.the-variants as replace
-use Rattle.transfer.specs.Routes.{Queue, replaced, withReplaced}
+use Rattle.transfer.specs.Routes.{replaced, withReplaced}
 use Rattle.ring.proofs.Laws.{ring-at, ring-nonzero}
 use Rattle.endpoint.specs.declared.cells.Cells.{Cells}
 use Rattle.endpoint.specs.declared.cells.Owner.the-variants.{Interface}

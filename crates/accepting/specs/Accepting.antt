@@ -26,7 +26,7 @@ use Rattle.device.specs.Release.{releaseCheck, release}
 use Rattle.device.specs.SetConfiguration.{setConfiguration}
 use Rattle.device.proofs.Updates.{Same}
 
--- A record and a table agree: the slot's routes are those of the record's endpoints. Every list of calls keeps this.
+-- A record and a table agree: the slot's routes are those of the record's endpoints.
 abbrev pub Routed : Device → List ℕ → Type 0
 Routed d routes = RoutedBy routes (d .slot .0) (cellsIn d)
 
@@ -34,14 +34,14 @@ Routed d routes = RoutedBy routes (d .slot .0) (cellsIn d)
 abbrev pub AllDone : List ℕ → ℕ → Type 0
 AllDone outcomes n = (k : ℕ) → k < n → (k < length outcomes) × (getD outcomes k 0 ≡ 0)
 
--- A call that has all it needs; no call sends more than 64 commands.
+-- A call whose checks pass, on a record and a table that agree; 64 outcomes are enough for each.
 pub record Ready (d : Device) (ctx routes log outcomes : List ℕ) (check : Check) : Type 0 where
   pub passes : recordCheck d (length ctx) (length routes) (length log) check ≡ Pass
   pub routed : Routed d routes
   pub done : AllDone outcomes 64
 
--- What is lent to a later call on the same record, but the table.
-pub record Lent (d : Device) (ctx log outcomes : List ℕ) : Type 0 where
+-- A context, a log and outcomes that are enough for a later call.
+pub record Enough (d : Device) (ctx log outcomes : List ℕ) : Type 0 where
   pub context : length ctx ≡ 33 * d .spacing
   pub room : 64 ≤ length log
   pub done : AllDone outcomes 64
@@ -100,7 +100,7 @@ ReleaseBack =
     Ready d ctx routes log outcomes (claimCheck d interface alternate rings) →
     isHeld interface (heldOf d) ≡ false →
     (ctx₂ log₂ outcomes₂ : List ℕ) →
-    Lent d ctx₂ log₂ outcomes₂ →
+    Enough d ctx₂ log₂ outcomes₂ →
     let l = claim d ctx routes log outcomes interface alternate rings in
     Back d routes (release (l .device) ctx₂ (l .routes) log₂ outcomes₂ interface)
 
@@ -124,7 +124,7 @@ SetAgain =
     (d : Device) (l : Left) →
     Accepted d l →
     (ctx log outcomes : List ℕ) (value : ℕ) →
-    Lent d ctx log outcomes →
+    Enough d ctx log outcomes →
     Configured d value (setConfiguration (l .device) ctx (l .routes) log outcomes value)
 
 -- A hub update, which keeps the record.
