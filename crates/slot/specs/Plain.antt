@@ -72,14 +72,14 @@ isLoose (releases i) words held = ltb 0 (length words) && not (holds i held)
 isLoose (configures value) words held = false
 isLoose (updatesHub ports multi ns) words held = false
 
--- A slot whose bring-up was accepted.
+-- A slot whose bring-up was accepted: no held setting, and nothing but control enabled.
 unfoldable pub begun : BringUp → Plain
 begun a =
     record {
       control = a .ring;
       list = a .list;
       held = [];
-      enabled = λ d. false;
+      enabled = λ d. eqb d 1;
       broken = false;
       loose = false;
     }

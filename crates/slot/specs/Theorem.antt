@@ -3,13 +3,13 @@ use Prim.Native.Nat.{ℕ, _<_, _≤_}
 use mathlib.Core.Path.{_≡_}
 use mathlib.Core.Bool.{false}
 use mathlib.Core.List.{List, [], _∷_}
-use lib.ListN.{getD, take}
+use lib.ListN.{length, getD, take}
 use Rattle.answer.specs.declared.Answer.the-variants as answer
 use Rattle.transfer.specs.Routes.{routeOf, Outside}
 use Rattle.bring_up.specs.BringUp.{BringUp, bringUp}
 use Rattle.device.specs.declared.record.Device.{Device}
 use Rattle.device.specs.Left.{Left}
-use Rattle.slot.specs.Call.{Lent, Call, left, AllOfSlot}
+use Rattle.slot.specs.Call.{Lent, Asked, bringsUp, claims, releases, configures, updatesHub, Call, left, AllOfSlot}
 use Rattle.slot.specs.Plain.{Plain, plainRoute, isHeldDci, begun, observed}
 
 -- The record and the table as the calls hand them on, and the plain slot beside them.
@@ -63,3 +63,22 @@ Demand3 =
     (bringUp b (l .ctx) routes (l .log) (l .outcomes)) .answer ≡ answer.Accepted →
     AllOfSlot (b .slot) calls →
     Kept (b .slot) routes (after (start b (bringUp b (l .ctx) routes (l .log) (l .outcomes))) calls)
+
+-- Beside it, of one call: the slot whose routes it may write.
+unfoldable pub slotOf : Asked → Device → ℕ
+slotOf (bringsUp a) d = a .slot
+slotOf (claims interface alternate rings) d = d .slot .0
+slotOf (releases interface) d = d .slot .0
+slotOf (configures value) d = d .slot .0
+slotOf (updatesHub ports multi ns) d = d .slot .0
+
+-- A table of the same length, in which every word outside the slot is as it was.
+pub record Untouched (slot : ℕ) (before now : List ℕ) : Type 0 where
+  pub long : length now ≡ length before
+  pub words : (k : ℕ) → Outside slot k → getD now k 0 ≡ getD before k 0
+
+-- Every call leaves every word outside its slot as it was, whatever record and table it gets.
+abbrev pub OutsideUntouched : Type 0
+OutsideUntouched =
+    (c : Call) (d : Device) (routes : List ℕ) →
+    Untouched (slotOf (c .asked) d) routes ((left (c .asked) (c .lent) d routes) .routes)
