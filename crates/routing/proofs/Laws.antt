@@ -1,27 +1,39 @@
 -- What a claim, a release and a set configuration do to the routes of a slot.
-use Prim.Native.Nat.{ℕ, zero, suc, _+_, _*_, _≤_, _<_}
+use Prim.Native.Nat.{ℕ, zero, suc, _+_, _≤_, _<_}
 use mathlib.Core.Path.{_≡_, refl, sym, ap, _∙_}
 use mathlib.Core.Logic.{_⊎_, inl, inr}
-use mathlib.Core.Bool.{Bool, true, false, not, cond, _&&_, _||_}
-use mathlib.Core.List.{List, [], _∷_}
+use mathlib.Core.Bool.{Bool, true, false, not, cond, _||_}
+use mathlib.Core.List.{List, [], _∷_, _++_}
 use native.Mathlib.Omega.{arith}
-use borrow.Author.Tests.{eq-eqb, ne-eqb, eqb-true, eqb-false, not-true, not-false}
+use borrow.Author.Tests.{eq-eqb, ne-eqb, eqb-true, eqb-false, not-false}
 use lib.Dec.{eqb}
 use lib.ListN.{length, getD, drop, replicate, getD-replicate}
 use Rattle.laws.proofs.Tests.{and-true, not-both}
 use Rattle.laws.proofs.Cases.{Decided, decided, or-left, or-right, or-cases}
+use Rattle.ring.specs.Rings.{offerOk}
+use Rattle.ring.proofs.Laws.{ring-at, ring-nonzero, offered}
+use Rattle.descriptor.specs.Word.{ENDPOINT, kind, wordOk, endpointDescriptor}
+use Rattle.descriptor.specs.Endpoint.{dciOf}
+use Rattle.descriptor.proofs.Laws.{endpoint-word, dci-word}
+use Rattle.block.specs.Blocks.{wordDci}
+use Rattle.block.specs.Promises.{someDci}
+use Rattle.context.specs.Steps.{wordDcis}
 use Rattle.transfer.specs.declared.Replaced.the-variants as replace
 use Rattle.transfer.specs.Routes.{Queue, queues, names, routeIndex, routeOf, oldMatch, isFree, newFree, replaced, withReplaced, ringFor, Outside}
-use Rattle.transfer.proofs.Laws.{Apart, index-same, done-replaced, replaced-at, replaced-length, replaced-other, replaced-outside}
+use Rattle.transfer.proofs.Laws.{Apart, index-same, ringFor-none, done-replaced, replaced-at, replaced-length, replaced-other, replaced-outside}
 use Rattle.endpoint.specs.Order.{PLACES, dciAt}
-use Rattle.endpoint.specs.Cells.{noCells, gathered, isOwned, owns, ownedRings, queuesOf, claimedRing, claimedCells}
+use Rattle.endpoint.specs.Cells.{noCells, gathered, isOwned, owns, ownedRings, queuesOf, pendingRings, claimedRing, claimedCells}
 use Rattle.endpoint.specs.declared.cells.Cells.{Cells}
 use Rattle.endpoint.specs.declared.cells.Owner.{Owner}
 use Rattle.endpoint.specs.declared.cells.Owner.the-variants.{Interface}
-use Rattle.endpoint.proofs.Laws.{dci-low, dci-high, owned-at, owned-zero, claimed-ring, queues-name, queues-other, queues-ring, queues-small}
+use Rattle.endpoint.proofs.Laws.{dci-place, dci-low, dci-high, owned-at, owned-zero, claimed-ring, pending-at, word-at, wordDcis as endpointDcis, queues-name, queues-other, queues-ring, queues-small}
 use Rattle.settings.specs.Match.{hasPlace, addressesFree}
-use Rattle.settings.proofs.Laws.{each-at, each-if}
+use Rattle.settings.proofs.Laws.{each-at, each-if, pending-place}
 use Rattle.routing.specs.Routing.{InTable, RoutedBy, Rerouted}
+
+-- What holds of the Dci at each place holds of each Dci of a device context but 0 and control's.
+pub each-dci : (P : ℕ → Type 0) → ((p : ℕ) → p < 30 → P (dciAt p)) → (d : ℕ) → 2 ≤ d → d < 32 → P d
+each-dci P h d l g = let t = dci-place d l g in rw (← t .2) (h (t .0) (t .1))
 
 -- The Dci at a place is a word of the slot.
 dci-inside : (routes : List ℕ) (slot p : ℕ) → InTable routes slot → p < 30 → routeIndex slot (dciAt p) < length routes
@@ -219,3 +231,112 @@ module _ (routes : List ℕ) (slot : ℕ) (x y : List ℕ) where
   -- The length.
   pub length-kept : length (withReplaced routes slot (queuesOf x) (queuesOf y)) ≡ length routes
   length-kept = replaced-length routes slot (queuesOf x) (queuesOf y)
+
+-- Queues put together.
+
+-- The later queues count over the earlier ones.
+pub ringFor-append :
+    (d : ℕ) (a b : List Queue) (v : ℕ) → ringFor d (a ++ b) v ≡ ringFor d b (ringFor d a v)
+unfolding ringFor
+ringFor-append d [] b v = refl
+ringFor-append d (q ∷ a) b v = ringFor-append d a b (cond (eqb (q .dci) d) (q .ring) v)
+
+-- Where queues name an endpoint, the route that it had does not count.
+pub ringFor-start : (d : ℕ) (qs : List Queue) (v : ℕ) → ringFor d qs v ≡ cond (names d qs) (ringFor d qs 0) v
+unfolding ringFor names
+ringFor-start d qs v = go (decided (names d qs))
+  where
+    named : (l : List Queue) (a b : ℕ) → names d l ≡ true → ringFor d l a ≡ ringFor d l b
+    named [] a b e = not-both false e refl
+    named (q ∷ l) a b e = first (decided (eqb (q .dci) d)) (named l)
+      where
+        first :
+            Decided (eqb (q .dci) d) → ((x y : ℕ) → names d l ≡ true → ringFor d l x ≡ ringFor d l y) →
+            ringFor d l (cond (eqb (q .dci) d) (q .ring) a) ≡ ringFor d l (cond (eqb (q .dci) d) (q .ring) b)
+        first (inl s) f = rw s
+        first (inr s) f = rw s (f a b (rw s at e))
+
+    go : Decided (names d qs) → ringFor d qs v ≡ cond (names d qs) (ringFor d qs 0) v
+    go (inl e) = rw e (named qs v 0 e)
+    go (inr e) = rw e (ringFor-none d qs v e)
+
+-- What either names.
+pub names-append : (d : ℕ) (a b : List Queue) → names d (a ++ b) ≡ (names d a || names d b)
+unfolding names
+names-append d [] b = refl
+names-append d (q ∷ a) b = rw (names-append d a b) (go (eqb (q .dci) d))
+  where
+    go : (t : Bool) → (t || (names d a || names d b)) ≡ ((t || names d a) || names d b)
+    go true = refl
+    go false = refl
+
+-- Endpoint words and rings side by side.
+
+-- Each word is an endpoint word that may stand in a list.
+abbrev pub EndpointWords : List ℕ → Type 0
+EndpointWords words =
+    (k : ℕ) → k < length words → (kind (getD words k 0) ≡ ENDPOINT) × (wordOk (getD words k 0) ≡ true)
+
+dcis-same : (words : List ℕ) → wordDcis words ≡ endpointDcis words
+unfolding wordDcis wordDci endpointDcis
+dcis-same [] = refl
+dcis-same (w ∷ ws) = rw (dcis-same ws)
+
+-- Their queues name the words' Dcis.
+pub words-dci : (d : ℕ) (words rings : List ℕ) → names d (queues (wordDcis words) rings) ≡ someDci d words
+unfolding names queues wordDcis someDci
+words-dci d [] rings = refl
+words-dci d (w ∷ ws) rings = rw (words-dci d ws (drop 1 rings))
+
+dci-hasPlace : (p : ℕ) (words : List ℕ) → p < 30 → someDci (dciAt p) words ≡ hasPlace p words
+unfolding someDci hasPlace wordDci
+dci-hasPlace p [] h = refl
+dci-hasPlace p (w ∷ ws) h = rw (word-at w p h, dci-hasPlace p ws h)
+
+module _ (words rings : List ℕ) where
+  -- And so the words' places.
+  pub words-name : (p : ℕ) → p < 30 → names (dciAt p) (queues (wordDcis words) rings) ≡ hasPlace p words
+  words-name p h = words-dci (dciAt p) words rings ∙ dci-hasPlace p words h
+
+  -- The ring that they leave to a place is the pending one.
+  pub words-ring :
+      (p : ℕ) → p < 30 → ringFor (dciAt p) (queues (wordDcis words) rings) 0 ≡ getD (pendingRings words rings) p 0
+  words-ring p h = rw (dcis-same words) (sym (pending-at words rings p h))
+
+no-dci : (words : List ℕ) (d : ℕ) → EndpointWords words → d < 2 → someDci d words ≡ false
+unfolding someDci wordDci
+no-dci [] d h l = refl
+no-dci (w ∷ ws) d h l =
+    rw (ne-eqb (dciOf ((endpointDescriptor w) .address)) d (λ e. omega (arith, first (h 0 (omega arith)), e)), no-dci ws d (λ k g. h (suc k) (omega arith)) l)
+  where
+    first : (kind w ≡ ENDPOINT) × (wordOk w ≡ true) → 2 ≤ dciOf ((endpointDescriptor w) .address)
+    first t = omega (arith, dci-word w, endpoint-word w (t .0) (t .1) .number)
+
+-- Words of a valid list name neither the slot's first word nor control's.
+module _ (words rings : List ℕ) (h : EndpointWords words) (d : ℕ) (l : d < 2) where
+  pub words-low-name : names d (queues (wordDcis words) rings) ≡ false
+  words-low-name = words-dci d words rings ∙ no-dci words d h l
+
+  pub words-low-ring : ringFor d (queues (wordDcis words) rings) 0 ≡ 0
+  words-low-ring = ringFor-none d (queues (wordDcis words) rings) 0 words-low-name
+
+-- Rings that passed an offer are at the places of the words.
+pub offer-places :
+    (words rings live : List ℕ) (control : ℕ) (quarantined : List ℕ) →
+    offerOk (length words) rings live control quarantined ≡ true → (p : ℕ) → p < 30 →
+    eqb (getD (pendingRings words rings) p 0) 0 ≡ not (hasPlace p words)
+offer-places words rings live control quarantined e p h =
+    let o = offered (length words) rings live control quarantined e in
+    pending-place words rings p h (λ k l. ring-nonzero (getD rings k 0) (ring-at rings (o .ok) k (rw (o .counted) l)))
+
+-- So a claim whose addresses are free and whose offer passed replaces the interface's routes by the offered rings.
+pub offer-routed :
+    (routes : List ℕ) (slot i : ℕ) (words rings : List ℕ) (control : ℕ) (quarantined : List ℕ) (c : Cells) →
+    RoutedBy routes slot c → InTable routes slot → addressesFree words i c ≡ true →
+    offerOk (length words) rings (c .rings) control quarantined ≡ true →
+    Rerouted routes slot (queuesOf (ownedRings (Interface i) c)) (queuesOf (pendingRings words rings)) (claimedCells i (pendingRings words rings) c)
+offer-routed routes slot i words rings control quarantined c r room free offer =
+    claim-routed routes slot i words (pendingRings words rings) c r room free
+    (λ p h z.
+    not-false (hasPlace p words)
+    (sym (offer-places words rings (c .rings) control quarantined offer p h) ∙ ne-eqb (getD (pendingRings words rings) p 0) 0 z))
