@@ -1,2 +1,3 @@
 pub mod Laws
+pub mod Controlled
 pub mod Examples

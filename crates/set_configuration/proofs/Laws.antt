@@ -27,8 +27,9 @@ use Rattle.transfer.specs.declared.Replaced.the-variants as replace
 use Rattle.transfer.specs.Routes.{replaced, withReplaced}
 use Rattle.phase.specs.End.{End, stays, moves, configureFailed}
 use Rattle.phase.proofs.Laws.{length-dcis}
+use Rattle.controller.specs.Controller.{isDone, SET-CONFIGURATION, configurationSet}
+use Rattle.controller.proofs.Done.{isDoneCommand, doneIn, set-done, done-none, done-after}
 use Rattle.set_configuration.specs.SetConfiguration.{Settings, dropContext, restoreContext, valueContext, setEvaluate, setPublished, setPublish, setRestored, setRestore, setSwitch, setResume, setConfigure, setCourse}
-use Rattle.set_configuration.proofs.Done.{isDone, doneIn, doneWords, done-words, done-none, done-after}
 
 -- How many words it logs.
 
@@ -251,10 +252,6 @@ pub data SetEnd (a : Settings) (routes : List ℕ) : Bool → End → Type 0 whe
   cut-late : (ctx : List ℕ) → replaced routes (a .slot) (a .old) [] ≡ replace.Done →
       SetEnd a routes true (moves answer.Cut ctx (withReplaced routes (a .slot) (a .old) []))
 
--- SetConfiguration's operation
-abbrev pub SWITCH : ℕ
-SWITCH = 7
-
 module _ (a : Settings) (routes o : List ℕ) where
   configure-failed-end : (code active : ℕ) (ctx : List ℕ) (s : Sent) →
       SetEnd a routes false (stays (configureFailed code s) active ctx routes)
@@ -291,23 +288,23 @@ module _ (a : Settings) (routes o : List ℕ) where
   published-end ctx n replace.QueueFull e = invalid ctx (λ d. let z : _≡_ {A = ℕ} 0 1 = cc in omega arith)
 
   switch-end : (ctx : List ℕ) (n : ℕ) →
-      SetEnd a routes (doneIn SWITCH o n (setSwitch a ctx routes)) (result o n (setSwitch a ctx routes))
-  unfolding setSwitch setPublish doneIn result isDone operation onSent
+      SetEnd a routes (doneIn SET-CONFIGURATION o n (setSwitch a ctx routes)) (result o n (setSwitch a ctx routes))
+  unfolding setSwitch setPublish doneIn isDoneCommand result isDone operation onSent
   switch-end ctx n = go (outcomeAt o n)
     where
       rest : Sent → Course End
       rest s = onSent s (setPublish a ctx routes) (λ code. setRestore a code ctx routes) (ends (stays answer.Cut 0 ctx routes))
 
-      go : (s : Sent) → SetEnd a routes (isDone s || doneIn SWITCH o (n + 1) (rest s)) (result o (n + 1) (rest s))
+      go : (s : Sent) → SetEnd a routes (isDone s || doneIn SET-CONFIGURATION o (n + 1) (rest s)) (result o (n + 1) (rest s))
       go sent.Done = published-end ctx (n + 1) _ refl
       go (sent.Failed code) =
-          rw (done-none SWITCH o (n + 1) (setRestore a code ctx routes) (restore-sends _ a (λ k. refl) refl code ctx routes))
+          rw (done-none SET-CONFIGURATION o (n + 1) (setRestore a code ctx routes) (restore-sends _ a (λ k. refl) refl code ctx routes))
           (restore-end ctx (n + 1) code)
       go sent.Cut = cut 0 ctx
 
   configure-end : (ctx : List ℕ) (n : ℕ) →
-      SetEnd a routes (doneIn SWITCH o n (setConfigure a ctx routes)) (result o n (setConfigure a ctx routes))
-  unfolding setConfigure doneIn result operation onSent
+      SetEnd a routes (doneIn SET-CONFIGURATION o n (setConfigure a ctx routes)) (result o n (setConfigure a ctx routes))
+  unfolding setConfigure doneIn isDoneCommand result operation onSent
   configure-end ctx n = go (outcomeAt o n)
     where
       next : List ℕ
@@ -316,22 +313,22 @@ module _ (a : Settings) (routes o : List ℕ) where
       rest : Sent → Course End
       rest s = onSent s (setSwitch a next routes) (λ code. setResume a code next routes) (ends (stays answer.Cut 0 next routes))
 
-      go : (s : Sent) → SetEnd a routes (doneIn SWITCH o (n + 1) (rest s)) (result o (n + 1) (rest s))
+      go : (s : Sent) → SetEnd a routes (doneIn SET-CONFIGURATION o (n + 1) (rest s)) (result o (n + 1) (rest s))
       go sent.Done = switch-end next (n + 1)
       go (sent.Failed code) =
-          rw (done-none SWITCH o (n + 1) (setResume a code next routes) (resume-sends _ a (λ k. refl) code next routes))
+          rw (done-none SET-CONFIGURATION o (n + 1) (setResume a code next routes) (resume-sends _ a (λ k. refl) code next routes))
           (resume-end next (n + 1) code)
       go sent.Cut = cut 0 next
 
   -- it ends in one of these ways
   pub set-ends : (ctx : List ℕ) (n : ℕ) →
-      SetEnd a routes (doneIn SWITCH o n (setCourse a ctx routes)) (result o n (setCourse a ctx routes))
+      SetEnd a routes (doneIn SET-CONFIGURATION o n (setCourse a ctx routes)) (result o n (setCourse a ctx routes))
   unfolding setCourse doneIn result operation
   set-ends ctx n =
       let stop = stopAll ctx (queueDcis (a .old)) in
       let m = n + length (words o n stop) in
-      rw (done-after SWITCH o n stop _ (stop-each _ ctx _ (λ k. (refl, refl))), result-then)
-      (on-sent (λ (c : Course End). SetEnd a routes (doneIn SWITCH o m c) (result o m c)) ((result o n stop) .sent) _ _ _
+      rw (done-after SET-CONFIGURATION o n stop _ (stop-each _ ctx _ (λ k. (refl, refl))), result-then)
+      (on-sent (λ (c : Course End). SetEnd a routes (doneIn SET-CONFIGURATION o m c) (result o m c)) ((result o n stop) .sent) _ _ _
       (λ e. configure-end ctx m) (λ code e. broken _ ctx) (λ e. cut _ ctx))
 
 -- Of an end: the old routes are out exactly if SetConfiguration is done and the routes allow it.
@@ -416,21 +413,38 @@ module _ (a : Settings) (routes : List ℕ) where
 
 module _ (a : Settings) (routes o ctx : List ℕ) (n : ℕ) where
   -- what it makes of the routes
-  pub set-moved : Routed a routes (doneIn SWITCH o n (setCourse a ctx routes)) (result o n (setCourse a ctx routes))
+  pub set-moved : Routed a routes (doneIn SET-CONFIGURATION o n (setCourse a ctx routes)) (result o n (setCourse a ctx routes))
   set-moved = routed a routes _ _ (set-ends a routes o ctx n)
 
   -- what it answers
   pub set-answers : Answered a routes (result o n (setCourse a ctx routes))
   set-answers = answered a routes _ _ (set-ends a routes o ctx n)
 
+-- the operands of its commands are bytes
+pub set-operands : (a : Settings) (ctx routes : List ℕ) → a .value < 256 → ((k : ℕ) → getD (queueDcis (a .old)) k 0 < 256) →
+    EachCommand ByteOperands (setCourse a ctx routes)
+unfolding ByteOperands
+set-operands a ctx routes v d =
+    set-sends ByteOperands a (record { configure = tt; switch = v; evaluate = tt; stop = d; resume = d }) ctx routes
+
 -- the log tells whether its SetConfiguration is done
 pub set-switched : (a : Settings) (routes o ctx : List ℕ) (n : ℕ) → a .value < 256 →
     ((k : ℕ) → getD (queueDcis (a .old)) k 0 < 256) →
-    doneWords SWITCH o n (words o n (setCourse a ctx routes)) ≡ doneIn SWITCH o n (setCourse a ctx routes)
-unfolding ByteOperands
-set-switched a routes o ctx n v d =
-    done-words SWITCH o n (setCourse a ctx routes)
-    (set-sends ByteOperands a (record { configure = tt; switch = v; evaluate = tt; stop = d; resume = d }) ctx routes)
+    configurationSet o n (words o n (setCourse a ctx routes)) ≡ doneIn SET-CONFIGURATION o n (setCourse a ctx routes)
+set-switched a routes o ctx n v d = set-done o n (setCourse a ctx routes) (set-operands a ctx routes v d)
+
+-- where the old routes are there, they are out exactly if the log has a done SetConfiguration
+pub set-out : (a : Settings) (routes o ctx : List ℕ) (n : ℕ) → a .value < 256 →
+    ((k : ℕ) → getD (queueDcis (a .old)) k 0 < 256) → replaced routes (a .slot) (a .old) [] ≡ replace.Done →
+    configurationSet o n (words o n (setCourse a ctx routes)) ≡ (result o n (setCourse a ctx routes)) .moved
+set-out a routes o ctx n v d r =
+    let m = set-moved a routes o ctx n in
+    set-switched a routes o ctx n v d ∙ both _ _ (λ e. m .out e r) (λ e. m .gone e .0)
+  where
+    both : (x y : Bool) → (x ≡ true → y ≡ true) → (y ≡ true → x ≡ true) → x ≡ y
+    both true y f g = sym (f refl)
+    both false true f g = g refl
+    both false false f g = refl
 
 -- Each of k outcomes from number n on is done.
 abbrev pub AllDone : List ℕ → ℕ → ℕ → Type 0

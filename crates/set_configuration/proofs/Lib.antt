@@ -1,3 +1,3 @@
-pub mod Done
 pub mod Laws
+pub mod Controlled
 pub mod Steps
