@@ -1,3 +1,4 @@
 pub mod Good
 pub mod Settings
+pub mod Step
 pub mod Words
