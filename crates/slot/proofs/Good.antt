@@ -152,7 +152,7 @@ module _ (slot : ℕ) (before : List ℕ) (s now : State) (g : Good slot before 
   pub good-same :
       now .routes ≡ s .routes → now .plain .control ≡ s .plain .control → now .plain .held ≡ s .plain .held →
       (now .plain .broken ≡ false → now .plain .loose ≡ false → (d : ℕ) → 2 ≤ d → d < 32 →
-      now .plain .enabled d ≡ names d (heldQueues (s .plain .held))) →
+      now .plain .enabled d ≡ isHeldDci (s .plain) d) →
       (now .device .usable ≡ false) ⊎ Live slot (now .device) (now .plain) →
       Good slot before now
   unfolding isHeldDci plainRoute
@@ -169,3 +169,22 @@ module _ (slot : ℕ) (before : List ℕ) (s now : State) (g : Good slot before 
         control = λ z. g .control (sym c ∙ z);
         live = l;
       }
+
+-- A usable record, where plain slots hold the same.
+pub live-same :
+    (slot : ℕ) (d : Device) (p q : Plain) → q .list ≡ p .list → q .held ≡ p .held → Live slot d p → Live slot d q
+live-same slot d p q e h l =
+    record {
+      usable = l .usable;
+      is-sound = l .is-sound;
+      place = l .place;
+      list = l .list ∙ sym e;
+      held = ap pairs h ∙ l .held;
+      fits = rw h (l .fits);
+    }
+
+pub live-or :
+    (slot : ℕ) (d : Device) (p q : Plain) → q .list ≡ p .list → q .held ≡ p .held →
+    (d .usable ≡ false) ⊎ Live slot d p → (d .usable ≡ false) ⊎ Live slot d q
+live-or slot d p q e h (inl u) = inl u
+live-or slot d p q e h (inr l) = inr (live-same slot d p q e h l)

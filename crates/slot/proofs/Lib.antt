@@ -1,4 +1,5 @@
 pub mod Good
+mod Hub
 pub mod Settings
 pub mod Step
 pub mod Words
