@@ -1,4 +1,5 @@
 pub mod Good
+mod BringUp
 mod Hub
 pub mod Settings
 pub mod Step
