@@ -1,0 +1,520 @@
+-- The live rings of a record by place.
+use Prim.Native.Nat.{ℕ, zero, suc, _+_, _≤_, _<_}
+use mathlib.Core.Path.{_≡_, refl, sym, ap, _∙_}
+use mathlib.Core.Logic.{_⊎_, inl, inr, ⊎-elim}
+use mathlib.Core.Bool.{Bool, true, false, not, cond, _&&_, _||_}
+use mathlib.Core.List.{List, [], _∷_, _++_}
+use native.Mathlib.Decide.{decLt}
+use native.Mathlib.Omega.{arith}
+use borrow.Author.Tests.{eq-eqb, ne-eqb, eqb-true, eqb-false}
+use lib.Dec.{eqb}
+use lib.ListN.{length, getD, set, take, drop, replicate, length-set, length-take, List·getD-eq-default, getD-replicate}
+use lib.Seq.{getD-take, getD-set-same, getD-set-other, set-out, take-nil}
+use Rattle.laws.proofs.Tests.{and-left, and-right, and-true, not-both}
+use Rattle.laws.proofs.Cases.{Decided, decided, false-if, or-right}
+use Rattle.laws.proofs.Distinct.{elem, distinct, elem-none, elem-here, elem-cases, elem-at, elem-place, elem-append, distinct-first, distinct-rest, distinct-cons, distinct-place, distinct-append}
+use Rattle.descriptor.specs.Word.{endpointDescriptor}
+use Rattle.ring.specs.Rings.{ringOk, ringsOk}
+use Rattle.ring.proofs.Laws.{ring-at, ring-nonzero, disjoint-elem, Offered}
+use Rattle.endpoint.specs.declared.entry.Endpoint.{Endpoint}
+use Rattle.endpoint.specs.declared.cells.Cells.{Cells}
+use Rattle.endpoint.specs.declared.cells.Owner.the-variants.{Interface}
+use Rattle.endpoint.specs.Order.{placeOf}
+use Rattle.endpoint.specs.Endpoint.{blank, addresses, addressesFit}
+use Rattle.endpoint.specs.Cells.{Whole, noCells, withCell, isActive, cellsFrom, cellsOf, gathered, endpointAt, endpointsOf, isOwned, pendingFrom, pendingRings, claimedRing, claimedCells}
+use Rattle.endpoint.proofs.Laws.{no-place-low, claimed-ring}
+use Rattle.endpoint.proofs.Clean.{CleanCells, CellIs, clean-none, clean-of, cells-none, cells-at}
+use Rattle.device.specs.declared.record.Device.{Device}
+use Rattle.device.specs.Device.{cellsIn, quarantinedOf}
+use Rattle.device.specs.Sound.{ringsOf, allRings}
+use Rattle.device.proofs.Facts.{SoundFacts}
+use Rattle.device.proofs.Steps.{rings-length}
+
+-- Rings by place: each a nonzero multiple of 16, no two the same, none of them control's.
+pub record Apart (rings : List ℕ) (control : ℕ) : Type 0 where
+  pub ok : (p : ℕ) → p < 30 → (getD rings p 0 ≡ 0 → ⊥) → ringOk (getD rings p 0) ≡ true
+  pub different : (p q : ℕ) → p < 30 → q < 30 → (getD rings p 0 ≡ 0 → ⊥) → getD rings p 0 ≡ getD rings q 0 → p ≡ q
+  pub other : (p : ℕ) → p < 30 → (getD rings p 0 ≡ 0 → ⊥) → getD rings p 0 ≡ control → ⊥
+
+-- Endpoints of arrays.
+
+rings-at : (es : List Endpoint) (k : ℕ) → getD (ringsOf es) k 0 ≡ getD es k blank .ring
+unfolding ringsOf
+rings-at [] k = refl
+rings-at (e ∷ es) zero = refl
+rings-at (e ∷ es) (suc k) = rings-at es k
+
+-- Past the end of an array there is no place.
+place-blank : (eps : List Endpoint) (k : ℕ) → length eps ≤ k → placeOf (getD eps k blank .address) ≡ 30
+place-blank eps k h = rw (List·getD-eq-default eps blank h) (no-place-low 0 (omega arith))
+
+whole-cell : (c : Cells) (place ring owner : ℕ) (on : Bool) → Whole c → Whole (withCell c place ring owner on)
+unfolding withCell
+whole-cell c place ring owner on w =
+    record {
+      rings = length-set (c .rings) place ring ∙ w .rings;
+      owners = length-set (c .owners) place owner ∙ w .owners;
+      active = length-set (c .active) place on ∙ w .active;
+    }
+
+cell-out : (c : Cells) (ring owner : ℕ) (on : Bool) → Whole c → withCell c 30 ring owner on ≡ c
+unfolding withCell
+cell-out c ring owner on w =
+    rw (
+      set-out (c .rings) 30 ring (omega (arith, w .rings)),
+      set-out (c .owners) 30 owner (omega (arith, w .owners)),
+      set-out (c .active) 30 on (omega (arith, w .active)),
+    )
+
+-- Endpoints past the end of the arrays say nothing.
+cells-short :
+    (n : ℕ) (eps : List Endpoint) (owners : List ℕ) (c : Cells) → Whole c →
+    cellsFrom n eps owners c ≡ cellsFrom (length (take n eps)) eps owners c
+unfolding cellsFrom
+cells-short zero eps owners c w = refl
+cells-short (suc n) [] owners c w =
+    rw (no-place-low 0 (omega arith), cell-out c 0 (getD owners 0 0) (isActive (blank .handle)) w)
+    (cells-short n [] (drop 1 owners) c w ∙ rw (take-nil n))
+cells-short (suc n) (e ∷ eps) owners c w =
+    cells-short n eps (drop 1 owners) _ (whole-cell c _ _ _ _ w)
+
+-- Either one of n numbers is p, or none is.
+one-of : (f : ℕ → ℕ) (p n : ℕ) → ((k : ℕ) × (k < n) × (f k ≡ p)) ⊎ ((k : ℕ) → k < n → f k ≡ p → ⊥)
+one-of f p zero = inr (λ k h e. omega arith)
+one-of f p (suc n) = go (decided (eqb (f n) p)) (one-of f p n)
+  where
+    go :
+        Decided (eqb (f n) p) → ((k : ℕ) × (k < n) × (f k ≡ p)) ⊎ ((k : ℕ) → k < n → f k ≡ p → ⊥) →
+        ((k : ℕ) × (k < suc n) × (f k ≡ p)) ⊎ ((k : ℕ) → k < suc n → f k ≡ p → ⊥)
+    go (inl e) r = inl (n, omega arith, eqb-true (f n) p e)
+    go (inr e) (inl t) = inl (t .0, omega (arith, t .1), t .2)
+    go (inr e) (inr g) = inr (λ k h q. last k q (decLt k n) h)
+      where
+        last : (k : ℕ) → f k ≡ p → Dec (k < n) → k < suc n → ⊥
+        last k q (yes l) h = g k l q
+        last k q (no l) h = let s : n ≡ k = omega arith in eqb-false (f n) p e (rw s q)
+
+rings-ok-elem : (l : List ℕ) → ringsOk l ≡ true → (x : ℕ) → elem x l ≡ true → ringOk x ≡ true
+rings-ok-elem l e x h = let t = elem-place x l h in rw (← t .2) (ring-at l e (t .0) (t .1))
+
+rings-ok-append : (l m : List ℕ) → ringsOk l ≡ true → ringsOk m ≡ true → ringsOk (l ++ m) ≡ true
+unfolding ringsOk
+rings-ok-append [] m e f = f
+rings-ok-append (x ∷ l) m e f =
+    and-true (ringOk x) (ringsOk (l ++ m)) (and-left (ringOk x) (ringsOk l) e)
+    (rings-ok-append l m (and-right (ringOk x) (ringsOk l) e) f)
+
+rings-ok-left : (l m : List ℕ) → ringsOk (l ++ m) ≡ true → ringsOk l ≡ true
+unfolding ringsOk
+rings-ok-left [] m e = refl
+rings-ok-left (x ∷ l) m e =
+    and-true (ringOk x) (ringsOk l) (and-left (ringOk x) (ringsOk (l ++ m)) e)
+    (rings-ok-left l m (and-right (ringOk x) (ringsOk (l ++ m)) e))
+
+distinct-left : (l m : List ℕ) → distinct (l ++ m) ≡ true → distinct l ≡ true
+unfolding distinct
+distinct-left [] m e = refl
+distinct-left (x ∷ l) m e =
+    distinct-cons x l
+    (false-if (elem x l) (λ h. not-both (elem x (l ++ m)) (rw (elem-append x l m, h)) (distinct-first x (l ++ m) e)))
+    (distinct-left l m (distinct-rest x (l ++ m) e))
+
+distinct-apart : (l m : List ℕ) → distinct (l ++ m) ≡ true → (x : ℕ) → elem x l ≡ true → elem x m ≡ true → ⊥
+distinct-apart [] m e x h g = elem-none x h
+distinct-apart (y ∷ l) m e x h g =
+    go (elem-cases x y l h) (λ s. distinct-apart l m (distinct-rest y (l ++ m) e) x s g)
+  where
+    go : (x ≡ y) ⊎ (elem x l ≡ true) → (elem x l ≡ true → ⊥) → ⊥
+    go (inl s) f =
+        not-both (elem y (l ++ m)) (rw (elem-append y l m, ← s, g) (or-right (elem x l) true refl)) (distinct-first y (l ++ m) e)
+    go (inr s) f = f s
+
+-- The record's own.
+module _ (d : Device) (rings-ok : ringsOk (allRings d) ≡ true) where
+  live : List ℕ
+  live = ringsOf (take (d .«ep_count») (d .eps))
+
+  live-ok : ringsOk live ≡ true
+  unfolding live allRings
+  live-ok = rings-ok-left (ringsOf (take (d .«ep_count») (d .eps))) (d .control ∷ quarantinedOf d) rings-ok
+
+  pub control-ok : ringOk (d .control) ≡ true
+  unfolding allRings
+  control-ok =
+      let l = ringsOf (take (d .«ep_count») (d .eps)) in
+      let m = d .control ∷ quarantinedOf d in
+      rings-ok-elem (l ++ m) rings-ok (d .control)
+      (rw (elem-append (d .control) l m) (or-right (elem (d .control) l) (elem (d .control) m) (elem-here (d .control) (quarantinedOf d))))
+
+  live-at : (k : ℕ) → k < d .«ep_count» → getD live k 0 ≡ getD (d .eps) k blank .ring
+  unfolding live
+  live-at k h = rings-at (take (d .«ep_count») (d .eps)) k ∙ rw (getD-take (d .«ep_count») (d .eps) k blank h)
+
+  live-length : length live ≡ length (take (d .«ep_count») (d .eps))
+  unfolding live
+  live-length = rings-length (take (d .«ep_count») (d .eps))
+
+  -- The endpoints of a record whose rings are nonzero are clean.
+  pub clean-in : CleanCells (cellsIn d)
+  unfolding cellsIn cellsOf
+  clean-in =
+      let n = d .«ep_count» in
+      let m = length (take n (d .eps)) in
+      let few : m ≤ n = omega (arith, length-take n (d .eps)) in
+      let e : cellsFrom n (d .eps) (d .«ep_interfaces») noCells ≡ cellsFrom m (d .eps) (d .«ep_interfaces») noCells =
+      cells-short n (d .eps) (d .«ep_interfaces») noCells (clean-none .whole) in
+      rw e
+      (clean-of m (d .eps) (d .«ep_interfaces»)
+      (λ k h z. ring-nonzero (getD live k 0) (ring-at live live-ok k (omega (arith, live-length)))
+      (live-at k (omega arith) ∙ z)))
+
+  -- Where a nonzero ring of a place stands in the arrays.
+  record Stands (p : ℕ) : Type 0 where
+    pub at : ℕ
+    pub counted : at < d .«ep_count»
+    pub inside : at < length live
+    pub placed : placeOf (getD (d .eps) at blank .address) ≡ p
+    pub same : getD ((cellsIn d) .rings) p 0 ≡ getD live at 0
+
+  module _ (fit : addressesFit (addresses (take (d .«ep_count») (d .eps))) ≡ true) where
+    stands : (p : ℕ) → p < 30 → (getD ((cellsIn d) .rings) p 0 ≡ 0 → ⊥) → Stands p
+    unfolding cellsIn
+    stands p h z = go (one-of (λ k. placeOf (getD (d .eps) k blank .address)) p (d .«ep_count»))
+      where
+        n : ℕ
+        n = d .«ep_count»
+
+        found : (k : ℕ) → k < n → placeOf (getD (d .eps) k blank .address) ≡ p → Dec (k < length (d .eps)) → Stands p
+        found k l e (yes r) =
+            record {
+              at = k;
+              counted = l;
+              inside = omega (arith, live-length, length-take n (d .eps));
+              placed = e;
+              same =
+                  ap (λ q. getD ((cellsOf n (d .eps) (d .«ep_interfaces»)) .rings) q 0) (sym e)
+                  ∙ cells-at n (d .eps) (d .«ep_interfaces») k fit l r .rings
+                  ∙ sym (live-at k l);
+            }
+        found k l e (no r) = absurd (omega (arith, place-blank (d .eps) k (omega arith)))
+
+        go :
+            ((k : ℕ) × (k < n) × (placeOf (getD (d .eps) k blank .address) ≡ p))
+            ⊎ ((k : ℕ) → k < n → placeOf (getD (d .eps) k blank .address) ≡ p → ⊥) → Stands p
+        go (inl t) = found (t .0) (t .1) (t .2) (decLt (t .0) (length (d .eps)))
+        go (inr f) = absurd (z (cells-none n (d .eps) (d .«ep_interfaces») p h f .rings))
+
+    -- The rings of a sound record, by place.
+    pub apart-in : distinct (allRings d) ≡ true → Apart ((cellsIn d) .rings) (d .control)
+    unfolding allRings live
+    apart-in different =
+        let m = d .control ∷ quarantinedOf d in
+        let one : distinct live ≡ true = distinct-left live m different in
+        record {
+          ok = λ p h z. let t = stands p h z in rw (t .same) (ring-at live live-ok (t .at) (t .inside));
+          different = λ p q h g z e.
+              let t = stands p h z in
+              let u = stands q g (λ w. z (e ∙ w)) in
+              let s : t .at ≡ u .at =
+              distinct-place live one (t .at) (u .at) (t .inside) (u .inside) (sym (t .same) ∙ e ∙ u .same) in
+              sym (t .placed) ∙ ap (λ k. placeOf (getD (d .eps) k blank .address)) s ∙ u .placed;
+          other = λ p h z e.
+              let t = stands p h z in
+              distinct-apart live m different (d .control)
+              (rw (← e, t .same) (elem-at live (t .at) (t .inside)))
+              (elem-here (d .control) (quarantinedOf d));
+        }
+
+-- Rings offered for words.
+
+-- The ring at a place is that of a word with that place, or none.
+record From (words rings : List ℕ) (p ring : ℕ) : Type 0 where
+  pub at : ℕ
+  pub inside : at < length words
+  pub placed : placeOf ((endpointDescriptor (getD words at 0)) .address) ≡ p
+  pub same : ring ≡ getD rings at 0
+
+second : (l : List ℕ) (k : ℕ) → getD (drop 1 l) k 0 ≡ getD l (suc k) 0
+second [] k = refl
+second (x ∷ l) k = refl
+
+pending-source :
+    (words rings by : List ℕ) (p : ℕ) → p < 30 → length by ≡ 30 →
+    (getD (pendingFrom words rings by) p 0 ≡ getD by p 0) ⊎ From words rings p (getD (pendingFrom words rings by) p 0)
+unfolding pendingFrom
+pending-source [] rings by p h l = inl refl
+pending-source (w ∷ ws) rings by p h l =
+    go (pending-source ws (drop 1 rings) (set by place (getD rings 0 0)) p h (length-set by place (getD rings 0 0) ∙ l))
+    (decided (eqb place p))
+  where
+    place : ℕ
+    place = placeOf ((endpointDescriptor w) .address)
+
+    x : ℕ
+    x = getD (pendingFrom ws (drop 1 rings) (set by place (getD rings 0 0))) p 0
+
+    go :
+        (x ≡ getD (set by place (getD rings 0 0)) p 0) ⊎ From ws (drop 1 rings) p x → Decided (eqb place p) →
+        (x ≡ getD by p 0) ⊎ From (w ∷ ws) rings p x
+    go (inr t) e =
+        inr (record { at = suc (t .at); inside = omega (arith, t .inside); placed = t .placed; same = t .same ∙ second rings (t .at) })
+    go (inl s) (inl e) =
+        let q : place ≡ p = eqb-true place p e in
+        inr
+        (record {
+          at = 0;
+          inside = omega arith;
+          placed = q;
+          same = s ∙ ap (λ k. getD (set by k (getD rings 0 0)) p 0) q ∙ getD-set-same by p (getD rings 0 0) 0 (omega arith);
+        })
+    go (inl s) (inr e) =
+        inl (s ∙ getD-set-other by place p (getD rings 0 0) 0 (λ q. eqb-false place p e (sym q)))
+
+pending-from : (words rings : List ℕ) (p : ℕ) → p < 30 → (getD (pendingRings words rings) p 0 ≡ 0 → ⊥) →
+    From words rings p (getD (pendingRings words rings) p 0)
+unfolding pendingRings
+pending-from words rings p h z = go (pending-source words rings (replicate 30 0) p h refl)
+  where
+    x : ℕ
+    x = getD (pendingFrom words rings (replicate 30 0)) p 0
+
+    go : (x ≡ getD (replicate 30 0) p 0) ⊎ From words rings p x → From words rings p x
+    go (inl e) = absurd (z (e ∙ getD-replicate 30 p 0 0 h))
+    go (inr t) = t
+
+-- The rings offered, by place.
+pub apart-offered :
+    (words rings live : List ℕ) (control : ℕ) (quarantined : List ℕ) →
+    Offered (length words) rings live control quarantined → Apart (pendingRings words rings) control
+apart-offered words rings live control quarantined o =
+    record {
+      ok = λ p h z. let t = pending-from words rings p h z in rw (t .same) (ring-at rings (o .ok) (t .at) (inside p t));
+      different = λ p q h g z e.
+          let t = pending-from words rings p h z in
+          let u = pending-from words rings q g (λ w. z (e ∙ w)) in
+          let s : t .at ≡ u .at =
+          distinct-place rings (o .apart) (t .at) (u .at) (inside p t) (inside q u) (sym (t .same) ∙ e ∙ u .same) in
+          sym (t .placed) ∙ ap (λ k. placeOf ((endpointDescriptor (getD words k 0)) .address)) s ∙ u .placed;
+      other = λ p h z e.
+          let t = pending-from words rings p h z in
+          not-both (elem control rings) (rw (← e, t .same) (elem-at rings (t .at) (inside p t))) (o .not-control);
+    }
+  where
+    inside : {x : ℕ} (p : ℕ) (t : From words rings p x) → t .at < length rings
+    inside p t = omega (arith, t .inside, o .counted)
+
+-- None of them is live.
+offered-live :
+    (words rings live : List ℕ) (control : ℕ) (quarantined : List ℕ) →
+    Offered (length words) rings live control quarantined → length live ≡ 30 →
+    (p q : ℕ) → p < 30 → q < 30 → (getD (pendingRings words rings) p 0 ≡ 0 → ⊥) →
+    getD (pendingRings words rings) p 0 ≡ getD live q 0 → ⊥
+offered-live words rings live control quarantined o l p q h g z e =
+    let t = pending-from words rings p h z in
+    let r : elem (getD live q 0) rings ≡ true =
+    rw (← e, t .same) (elem-at rings (t .at) (omega (arith, t .inside, o .counted))) in
+    not-both (elem (getD live q 0) live) (elem-at live q (omega arith))
+    (disjoint-elem rings live (o .not-live) (getD live q 0) r)
+
+-- No rings.
+pub apart-none : (control : ℕ) → Apart (replicate 30 0) control
+apart-none control =
+    record {
+      ok = λ p h z. absurd (z (getD-replicate 30 p 0 0 h));
+      different = λ p q h g z e. absurd (z (getD-replicate 30 p 0 0 h));
+      other = λ p h z e. z (getD-replicate 30 p 0 0 h);
+    }
+
+-- The rings after a claim: the pending ones, and the others' as before.
+module _ (i : ℕ) (pending : List ℕ) (c : Cells) (control : ℕ)
+    (new : Apart pending control) (old : Apart (c .rings) control)
+    (cross : (p q : ℕ) → p < 30 → q < 30 → (getD pending p 0 ≡ 0 → ⊥) → getD pending p 0 ≡ getD (c .rings) q 0 → ⊥) where
+  after : ℕ → ℕ
+  after p = getD ((claimedCells i pending c) .rings) p 0
+
+  Source : ℕ → Type 0
+  Source p =
+      ((getD pending p 0 ≡ 0 → ⊥) × (after p ≡ getD pending p 0))
+      ⊎ ((getD (c .rings) p 0 ≡ 0 → ⊥) × (after p ≡ getD (c .rings) p 0))
+
+  source : (p : ℕ) → p < 30 → (after p ≡ 0 → ⊥) → Source p
+  unfolding after Source claimedRing
+  source p h z = go (decided (eqb (getD pending p 0) 0)) (isOwned (Interface i) c p) (claimed-ring i pending c p h)
+    where
+      go :
+          Decided (eqb (getD pending p 0) 0) → (own : Bool) →
+          after p ≡ cond (eqb (getD pending p 0) 0) (cond own 0 (getD (c .rings) p 0)) (getD pending p 0) → Source p
+      go (inl e) true s = absurd (z (rw e at s))
+      go (inl e) false s = let t : after p ≡ getD (c .rings) p 0 = rw e at s in inr (λ y. z (t ∙ y), t)
+      go (inr e) own s = inl (eqb-false (getD pending p 0) 0 e, rw e at s)
+
+  source-ok : (p : ℕ) → p < 30 → Source p → ringOk (after p) ≡ true
+  unfolding Source
+  source-ok p h (inl t) = rw (t .1) (new .ok p h (t .0))
+  source-ok p h (inr t) = rw (t .1) (old .ok p h (t .0))
+
+  source-different : (p q : ℕ) → p < 30 → q < 30 → after p ≡ after q → Source p → Source q → p ≡ q
+  unfolding Source
+  source-different p q h g e (inl t) (inl u) = new .different p q h g (t .0) (sym (t .1) ∙ e ∙ u .1)
+  source-different p q h g e (inl t) (inr u) = absurd (cross p q h g (t .0) (sym (t .1) ∙ e ∙ u .1))
+  source-different p q h g e (inr t) (inl u) = absurd (cross q p g h (u .0) (sym (u .1) ∙ sym e ∙ t .1))
+  source-different p q h g e (inr t) (inr u) = old .different p q h g (t .0) (sym (t .1) ∙ e ∙ u .1)
+
+  source-other : (p : ℕ) → p < 30 → after p ≡ control → Source p → ⊥
+  unfolding Source
+  source-other p h e (inl t) = new .other p h (t .0) (sym (t .1) ∙ e)
+  source-other p h e (inr t) = old .other p h (t .0) (sym (t .1) ∙ e)
+
+  apart-after : Apart ((claimedCells i pending c) .rings) control
+  unfolding after
+  apart-after =
+      record {
+        ok = λ p h z. source-ok p h (source p h z);
+        different = λ p q h g z e. source-different p q h g e (source p h z) (source q g (λ y. z (e ∙ y)));
+        other = λ p h z e. source-other p h e (source p h z);
+      }
+
+-- A claim with rings that were offered keeps them apart.
+pub apart-claimed :
+    (i : ℕ) (words rings : List ℕ) (c : Cells) (control : ℕ) (quarantined : List ℕ) → CleanCells c →
+    Offered (length words) rings (c .rings) control quarantined → Apart (c .rings) control →
+    Apart ((claimedCells i (pendingRings words rings) c) .rings) control
+apart-claimed i words rings c control quarantined clean o old =
+    apart-after i (pendingRings words rings) c control (apart-offered words rings (c .rings) control quarantined o) old
+    (offered-live words rings (c .rings) control quarantined o (clean .whole .rings))
+
+-- A release does.
+pub apart-released :
+    (i : ℕ) (c : Cells) (control : ℕ) → Apart (c .rings) control →
+    Apart ((claimedCells i (replicate 30 0) c) .rings) control
+apart-released i c control old =
+    apart-after i (replicate 30 0) c control (apart-none control) old (λ p q h g z e. z (getD-replicate 30 p 0 0 h))
+
+-- The live rings of the arrays that cells make.
+module _ (c : Cells) where
+  liveFrom : ℕ → ℕ → List ℕ
+  liveFrom k a = ringsOf (gathered (endpointAt c) (c .rings) k a)
+
+  from-few : (k a : ℕ) → length (gathered (endpointAt c) (c .rings) k a) ≤ k
+  unfolding gathered
+  from-few zero a = omega arith
+  from-few (suc k) a = go (eqb (getD (c .rings) a 0) 0) (gathered (endpointAt c) (c .rings) k (a + 1)) (from-few k (a + 1))
+    where
+      go : (t : Bool) (l : List Endpoint) → length l ≤ k → length (cond t l (endpointAt c a ∷ l)) ≤ suc k
+      go true l h = omega arith
+      go false l h = omega arith
+
+  -- There are at most 30.
+  pub endpoints-few : length (endpointsOf c) ≤ 30
+  unfolding endpointsOf
+  endpoints-few = from-few 30 0
+
+  record Live (k a x : ℕ) : Type 0 where
+    pub at : ℕ
+    pub low : a ≤ at
+    pub high : at < a + k
+    pub nonzero : getD (c .rings) at 0 ≡ 0 → ⊥
+    pub same : x ≡ getD (c .rings) at 0
+
+  live-next :
+      (k a : ℕ) →
+      liveFrom (suc k) a
+      ≡ cond (eqb (getD (c .rings) a 0) 0) (liveFrom k (a + 1)) (getD (c .rings) a 0 ∷ liveFrom k (a + 1))
+  unfolding liveFrom gathered ringsOf endpointAt
+  live-next k a = go (eqb (getD (c .rings) a 0) 0) (gathered (endpointAt c) (c .rings) k (a + 1))
+    where
+      go :
+          (t : Bool) (l : List Endpoint) →
+          ringsOf (cond t l (endpointAt c a ∷ l)) ≡ cond t (ringsOf l) (getD (c .rings) a 0 ∷ ringsOf l)
+      go true l = refl
+      go false l = refl
+
+  live-last : (a : ℕ) → liveFrom zero a ≡ []
+  unfolding liveFrom gathered ringsOf
+  live-last a = refl
+
+  later : (k a x : ℕ) → Live k (a + 1) x → Live (suc k) a x
+  later k a x t =
+      record { at = t .at; low = omega (arith, t .low); high = omega (arith, t .high); nonzero = t .nonzero; same = t .same }
+
+  from-elem : (k a x : ℕ) → elem x (liveFrom k a) ≡ true → Live k a x
+  from-elem zero a x h = elem-none x (rw (live-last a) at h)
+  from-elem (suc k) a x h =
+      go (decided (eqb (getD (c .rings) a 0) 0)) (from-elem k (a + 1) x) (rw (live-next k a) at h)
+    where
+      here : eqb (getD (c .rings) a 0) 0 ≡ false → x ≡ getD (c .rings) a 0 → Live (suc k) a x
+      here e s =
+          record { at = a; low = omega arith; high = omega arith; nonzero = eqb-false (getD (c .rings) a 0) 0 e; same = s }
+
+      go :
+          Decided (eqb (getD (c .rings) a 0) 0) → (elem x (liveFrom k (a + 1)) ≡ true → Live k (a + 1) x) →
+          elem x (cond (eqb (getD (c .rings) a 0) 0) (liveFrom k (a + 1)) (getD (c .rings) a 0 ∷ liveFrom k (a + 1))) ≡ true →
+          Live (suc k) a x
+      go (inl e) f g = later k a x (f (rw e at g))
+      go (inr e) f g =
+          ⊎-elim (λ s. here e s) (λ s. later k a x (f s))
+          (elem-cases x (getD (c .rings) a 0) (liveFrom k (a + 1)) (rw e at g))
+
+  module _ (control : ℕ) (apart : Apart (c .rings) control) where
+    from-ok : (k a : ℕ) → a + k ≤ 30 → ringsOk (liveFrom k a) ≡ true
+    unfolding ringsOk
+    from-ok zero a h = rw (live-last a)
+    from-ok (suc k) a h =
+        rw (live-next k a) (go (decided (eqb (getD (c .rings) a 0) 0)) (from-ok k (a + 1) (omega arith)))
+      where
+        go :
+            Decided (eqb (getD (c .rings) a 0) 0) → ringsOk (liveFrom k (a + 1)) ≡ true →
+            ringsOk (cond (eqb (getD (c .rings) a 0) 0) (liveFrom k (a + 1)) (getD (c .rings) a 0 ∷ liveFrom k (a + 1))) ≡ true
+        go (inl e) f = rw e f
+        go (inr e) f =
+            rw e
+            (and-true (ringOk (getD (c .rings) a 0)) (ringsOk (liveFrom k (a + 1)))
+            (apart .ok a (omega arith) (eqb-false (getD (c .rings) a 0) 0 e)) f)
+
+    from-distinct : (k a : ℕ) → a + k ≤ 30 → distinct (liveFrom k a) ≡ true
+    unfolding distinct
+    from-distinct zero a h = rw (live-last a)
+    from-distinct (suc k) a h =
+        rw (live-next k a) (go (decided (eqb (getD (c .rings) a 0) 0)) (from-distinct k (a + 1) (omega arith)))
+      where
+        again : eqb (getD (c .rings) a 0) 0 ≡ false → elem (getD (c .rings) a 0) (liveFrom k (a + 1)) ≡ true → ⊥
+        again e g =
+            let t = from-elem k (a + 1) (getD (c .rings) a 0) g in
+            omega (
+              arith,
+              t .low,
+              apart .different a (t .at) (omega arith) (omega (arith, t .high)) (eqb-false (getD (c .rings) a 0) 0 e) (t .same),
+            )
+
+        go :
+            Decided (eqb (getD (c .rings) a 0) 0) → distinct (liveFrom k (a + 1)) ≡ true →
+            distinct (cond (eqb (getD (c .rings) a 0) 0) (liveFrom k (a + 1)) (getD (c .rings) a 0 ∷ liveFrom k (a + 1))) ≡ true
+        go (inl e) f = rw e f
+        go (inr e) f =
+            rw e
+            (distinct-cons (getD (c .rings) a 0) (liveFrom k (a + 1)) (false-if (elem (getD (c .rings) a 0) (liveFrom k (a + 1))) (again e)) f)
+
+    one-ok : ringOk control ≡ true → ringsOk (control ∷ []) ≡ true
+    unfolding ringsOk
+    one-ok e = and-true (ringOk control) true e refl
+
+    one-distinct : distinct (control ∷ []) ≡ true
+    unfolding distinct elem
+    one-distinct = refl
+
+    not-control : (x : ℕ) → elem x (liveFrom 30 0) ≡ true → elem x (control ∷ []) ≡ false
+    not-control x h =
+        let t = from-elem 30 0 x h in
+        false-if (elem x (control ∷ []))
+        (λ g.
+        ⊎-elim (λ s. apart .other (t .at) (t .high) (t .nonzero) (sym (t .same) ∙ s)) (λ s. elem-none x s)
+        (elem-cases x control [] g))
+
+    -- They and control's are sound.
+    pub rings-fit : ringOk control ≡ true →
+        (ringsOk (ringsOf (endpointsOf c) ++ (control ∷ [])) ≡ true) × (distinct (ringsOf (endpointsOf c) ++ (control ∷ [])) ≡ true)
+    unfolding endpointsOf liveFrom
+    rings-fit e = (
+      rings-ok-append (liveFrom 30 0) (control ∷ []) (from-ok 30 0 (omega arith)) (one-ok e),
+      distinct-append (liveFrom 30 0) (control ∷ []) (from-distinct 30 0 (omega arith)) one-distinct not-control,
+    )
