@@ -1,6 +1,7 @@
 pub mod Good
 mod BringUp
 mod Hub
+mod Made
 pub mod Settings
 pub mod Step
 pub mod Words

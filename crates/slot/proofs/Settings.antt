@@ -1,49 +1,22 @@
 -- The plain slot's held settings: their queues, and the endpoints of a record that they fit.
 use Prim.Native.Nat.{ℕ, _<_}
-use mathlib.Core.Path.{_≡_, refl, sym, _∙_, ap}
+use mathlib.Core.Path.{_≡_, refl, sym, _∙_}
+use native.Mathlib.Omega.{arith}
 use mathlib.Core.Bool.{Bool, true, false, not, cond, _&&_, _||_}
 use mathlib.Core.List.{List, [], _∷_, _++_}
 use mathlib.Core.Logic.{inl, inr}
 use borrow.Author.Tests.{eq-eqb, ne-eqb, eqb-true, eqb-false}
 use lib.Dec.{eqb}
 use lib.ListN.{getD}
-use Rattle.laws.proofs.Tests.{not-both}
 use Rattle.laws.proofs.Cases.{Decided, decided, or-none}
-use Rattle.transfer.specs.Routes.{Queue, ringFor, names}
-use Rattle.transfer.proofs.Laws.{ringFor-none}
+use Rattle.transfer.specs.Routes.{ringFor, names}
 use Rattle.endpoint.specs.Order.{dciAt}
 use Rattle.endpoint.specs.Cells.{isOwned, owns}
 use Rattle.endpoint.specs.declared.cells.Cells.{Cells}
 use Rattle.endpoint.specs.declared.cells.Owner.the-variants.{Interface}
-use Rattle.settings.specs.Held.{Held, isHeld, withoutSetting}
+use Rattle.settings.specs.Held.{Held, isHeld, alternateOf, withoutSetting}
+use Rattle.routing.proofs.Laws.{names-append, ringFor-append, ringFor-start}
 use Rattle.slot.specs.Plain.{Setting, heldQueues, without, holds}
-
--- Queues one after the other.
-pub names-append : (d : ℕ) (x y : List Queue) → names d (x ++ y) ≡ (names d x || names d y)
-unfolding names
-names-append d [] y = refl
-names-append d (q ∷ x) y = rw (names-append d x y) (go (eqb (q .dci) d))
-  where
-    go : (a : Bool) → (a || (names d x || names d y)) ≡ ((a || names d x) || names d y)
-    go true = refl
-    go false = refl
-
-pub ring-append : (d : ℕ) (x y : List Queue) (v : ℕ) → ringFor d (x ++ y) v ≡ ringFor d y (ringFor d x v)
-unfolding ringFor
-ring-append d [] y v = refl
-ring-append d (q ∷ x) y v = ring-append d x y (cond (eqb (q .dci) d) (q .ring) v)
-
--- An endpoint that the queues name gets its ring from them, whatever its route was.
-pub ring-named : (d : ℕ) (qs : List Queue) (v w : ℕ) → names d qs ≡ true → ringFor d qs v ≡ ringFor d qs w
-unfolding ringFor names
-ring-named d [] v w e = not-both false e refl
-ring-named d (q ∷ qs) v w e = go (eqb (q .dci) d) e (ring-named d qs v w)
-  where
-    go :
-        (a : Bool) → (a || names d qs) ≡ true → (names d qs ≡ true → ringFor d qs v ≡ ringFor d qs w) →
-        ringFor d qs (cond a (q .ring) v) ≡ ringFor d qs (cond a (q .ring) w)
-    go true f h = refl
-    go false f h = h f
 
 -- A setting's queues are those of its interface's endpoints.
 pub record Fits (c : Cells) (s : Setting) : Type 0 where
@@ -51,6 +24,7 @@ pub record Fits (c : Cells) (s : Setting) : Type 0 where
   pub ring :
       (p : ℕ) → p < 30 → isOwned (Interface (s .interface)) c p ≡ true → ringFor (dciAt p) (s .queues) 0 ≡ getD (c .rings) p 0
   pub low : names 0 (s .queues) ≡ false
+  pub byte : s .alternate < 256
 
 unfoldable pub AllFit : Cells → List Setting → Type 0
 AllFit c [] = Unit {0}
@@ -100,13 +74,15 @@ held-names c (s ∷ ss) p f h =
 one-ring :
     (c : Cells) (s : Setting) (p v : ℕ) → Fits c s → p < 30 →
     ringFor (dciAt p) (s .queues) v ≡ cond (isOwned (Interface (s .interface)) c p) (getD (c .rings) p 0) v
-one-ring c s p v f h = go (decided (isOwned (Interface (s .interface)) c p))
+one-ring c s p v f h =
+    ringFor-start (dciAt p) (s .queues) v ∙ rw (f .named p h) (go (decided (isOwned (Interface (s .interface)) c p)))
   where
     go :
         Decided (isOwned (Interface (s .interface)) c p) →
-        ringFor (dciAt p) (s .queues) v ≡ cond (isOwned (Interface (s .interface)) c p) (getD (c .rings) p 0) v
-    go (inl o) = rw o (ring-named (dciAt p) (s .queues) v 0 (f .named p h ∙ o) ∙ f .ring p h o)
-    go (inr o) = rw o (ringFor-none (dciAt p) (s .queues) v (f .named p h ∙ o))
+        cond (isOwned (Interface (s .interface)) c p) (ringFor (dciAt p) (s .queues) 0) v
+        ≡ cond (isOwned (Interface (s .interface)) c p) (getD (c .rings) p 0) v
+    go (inl o) = rw (o, f .ring p h o)
+    go (inr o) = rw o
 
 -- The rings that they leave.
 pub held-ring :
@@ -115,7 +91,7 @@ pub held-ring :
 unfolding AllFit heldQueues holds ringFor
 held-ring c [] p v f h = rw (and-false (not (eqb (getD (c .rings) p 0) 0)))
 held-ring c (s ∷ ss) p v f h =
-    ring-append (dciAt p) (s .queues) (heldQueues ss) v
+    ringFor-append (dciAt p) (s .queues) (heldQueues ss) v
     ∙ held-ring c ss p (ringFor (dciAt p) (s .queues) v) (f .1) h
     ∙ rw (one-ring c s p v (f .0) h, owned-turned c (s .interface) p)
     (go (not (eqb (getD (c .rings) p 0) 0)) (eqb (s .interface) (getD (c .owners) p 0)) (holds (getD (c .owners) p 0) ss))
@@ -187,3 +163,13 @@ pub fit-append : (c : Cells) (x y : List Setting) → AllFit c x → AllFit c y 
 unfolding AllFit
 fit-append c [] y f g = g
 fit-append c (s ∷ x) y f g = (f .0, fit-append c x y (f .1) g)
+
+-- The alternate that an interface holds is a byte.
+pub alternate-byte : (c : Cells) (i : ℕ) (ss : List Setting) → AllFit c ss → alternateOf i (pairs ss) < 256
+unfolding AllFit pairs alternateOf
+alternate-byte c i [] f = omega arith
+alternate-byte c i (s ∷ ss) f = go (eqb (s .interface) i) (f .0 .byte) (alternate-byte c i ss (f .1))
+  where
+    go : (t : Bool) → s .alternate < 256 → alternateOf i (pairs ss) < 256 → cond t (s .alternate) (alternateOf i (pairs ss)) < 256
+    go true a b = a
+    go false a b = b
