@@ -1,5 +1,6 @@
 pub mod Good
 mod BringUp
+mod Claimed
 mod Hub
 mod Made
 pub mod Settings
