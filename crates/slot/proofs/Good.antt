@@ -9,6 +9,7 @@ use native.Mathlib.Decide.{decLt}
 use borrow.Author.Tests.{ne-eqb, eqb-true, eqb-false}
 use lib.Dec.{eqb}
 use lib.ListN.{length, getD}
+use Rattle.laws.proofs.Tests.{not-both}
 use Rattle.laws.proofs.Cases.{Decided, decided}
 use Rattle.transfer.specs.Routes.{ringFor, names, routeOf, Outside}
 use Rattle.transfer.proofs.Laws.{ringFor-none}
@@ -169,6 +170,24 @@ module _ (slot : ℕ) (before : List ℕ) (s now : State) (g : Good slot before 
         control = λ z. g .control (sym c ∙ z);
         live = l;
       }
+
+-- While neither mark is set, the enabled endpoints are the record's.
+pub enabled-was :
+    (slot : ℕ) (before : List ℕ) (s : State) → Good slot before s → Live slot (s .device) (s .plain) →
+    s .plain .broken ≡ false → s .plain .loose ≡ false → (q : ℕ) → q < 30 →
+    s .plain .enabled (dciAt q) ≡ not (eqb (getD ((cellsIn (s .device)) .rings) q 0) 0)
+unfolding isHeldDci
+enabled-was slot before s g l b f q h =
+    g .kept .enabled b f (dciAt q) (dci-low q h) (dci-high q h) ∙ live-tells slot (s .device) (s .plain) l .named q h
+
+-- A record that passed its checks is usable.
+pub live-here :
+    (slot : ℕ) (before : List ℕ) (s : State) → Good slot before s → s .device .usable ≡ true → Live slot (s .device) (s .plain)
+live-here slot before s g u = go (g .live)
+  where
+    go : (s .device .usable ≡ false) ⊎ Live slot (s .device) (s .plain) → Live slot (s .device) (s .plain)
+    go (inl n) = not-both (s .device .usable) u n
+    go (inr l) = l
 
 -- A usable record, where plain slots hold the same.
 pub live-same :

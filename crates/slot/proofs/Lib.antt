@@ -1,5 +1,6 @@
 pub mod Good
 mod BringUp
+mod Claim
 mod Claimed
 mod Hub
 mod Made

@@ -5,6 +5,7 @@ use mathlib.Core.Bool.{Bool, true, false, cond, _&&_, _||_, or-false}
 use mathlib.Core.List.{List, []}
 use lib.Dec.{eqb, leb}
 use lib.ListN.{length, take}
+use Rattle.laws.proofs.Tests.{not-both}
 use Rattle.answer.specs.declared.Answer.{Answer}
 use Rattle.answer.specs.declared.Answer.the-variants as answer
 use Rattle.answer.specs.Answer.{number}
@@ -44,6 +45,16 @@ use Rattle.slot.proofs.Good.{Good}
 -- An answer that is neither accepted, broken nor cut.
 abbrev pub Mild : Answer → Type 0
 Mild a = (eqb (number a) 0 ≡ false) × ((eqb (number a) 14 || eqb (number a) 15) ≡ false)
+
+-- What the numbers of answers rule out.
+pub accepted-not : {x : Answer} → eqb (number x) 0 ≡ false → x ≡ answer.Accepted → ⊥
+unfolding number
+accepted-not {x} n e = not-both (eqb (number x) 0) (rw e refl) n
+
+pub lost-not :
+    {P : Type 0} (x : Answer) → (eqb (number x) 14 || eqb (number x) 15) ≡ true →
+    (eqb (number x) 14 || eqb (number x) 15) ≡ false → P
+lost-not x t f = not-both (eqb (number x) 14 || eqb (number x) 15) t f
 
 -- A check that refuses with such answers only.
 unfoldable pub MildCheck : Check → Type 0
