@@ -4,6 +4,7 @@ mod Claim
 mod Claimed
 mod Hub
 mod Made
+mod Release
 pub mod Settings
 pub mod Step
 pub mod Words
