@@ -5,6 +5,7 @@ mod Claimed
 mod Hub
 mod Made
 mod Release
+mod SetConfiguration
 pub mod Settings
 pub mod Step
 pub mod Words
