@@ -1,0 +1,92 @@
+-- Demand 3.
+use Prim.Native.Nat.{ℕ, _+_, _*_, _<_, _≤_}
+use mathlib.Core.Path.{_≡_, refl, sym, _∙_, ap}
+use mathlib.Core.Bool.{Bool, true, false, cond}
+use mathlib.Core.List.{List, [], _∷_}
+use mathlib.Core.Logic.{inr}
+use native.Mathlib.Omega.{arith}
+use borrow.Author.Tests.{ne-eqb}
+use lib.Dec.{eqb}
+use lib.ListN.{length, getD}
+use Rattle.answer.specs.declared.Answer.the-variants as answer
+use Rattle.ring.proofs.Laws.{ring-nonzero}
+use Rattle.transfer.specs.Routes.{names, ringFor, routeIndex, routeOf, withRoute, Outside, published}
+use Rattle.transfer.proofs.Laws.{published-at}
+use Rattle.device.specs.declared.record.Device.{Device}
+use Rattle.device.specs.Left.{Left}
+use Rattle.bring_up.specs.BringUp.{BringUp, bringUp}
+use Rattle.bring_up.proofs.Laws.{BroughtUp, bring-up-accepted, bring-up-length, bring-up-outside}
+use Rattle.slot.specs.Call.{Lent, Asked, bringsUp, claims, releases, configures, updatesHub, Call, OfSlot, AllOfSlot}
+use Rattle.slot.specs.Plain.{Plain, heldQueues, plainRoute, isHeldDci, begun}
+use Rattle.slot.specs.Theorem.{State, called, after, start, Kept, Demand3}
+use Rattle.slot.proofs.Settings.{AllFit, pairs}
+use Rattle.slot.proofs.Good.{Good, Live}
+use Rattle.slot.proofs.BringUp.{bring-up-good}
+use Rattle.slot.proofs.Claim.{claim-good}
+use Rattle.slot.proofs.Release.{release-good}
+use Rattle.slot.proofs.SetConfiguration.{set-good}
+use Rattle.slot.proofs.Hub.{hub-good}
+
+-- One call.
+called-good :
+    (slot : ℕ) (before : List ℕ) (s : State) (asked : Asked) (lent : Lent) → OfSlot slot asked → Good slot before s →
+    Good slot before (called s (record { asked = asked; lent = lent }))
+unfolding OfSlot
+called-good slot before s (bringsUp a) lent o g = bring-up-good slot before s lent a o g
+called-good slot before s (claims i a rings) lent o g = claim-good slot before s lent i a rings (o .0) (o .1) g
+called-good slot before s (releases i) lent o g = release-good slot before s lent i o g
+called-good slot before s (configures value) lent o g = set-good slot before s lent value o g
+called-good slot before s (updatesHub ports multi ns) lent o g = hub-good slot before s lent ports multi ns g
+
+-- Any list of calls.
+after-good :
+    (slot : ℕ) (before : List ℕ) (s : State) (calls : List Call) → AllOfSlot slot calls → Good slot before s →
+    Good slot before (after s calls)
+unfolding AllOfSlot after
+after-good slot before s [] o g = g
+after-good slot before s (c ∷ cs) o g =
+    after-good slot before (called s c) cs (o .1) (called-good slot before s (c .asked) (c .lent) (o .0) g)
+
+-- The accepted bring-up.
+module _ (b : BringUp) (l : Lent) (routes : List ℕ) (empty : (d : ℕ) → d < 32 → routeOf routes (b .slot) d ≡ 0) where
+  left : Left
+  left = bringUp b (l .ctx) routes (l .log) (l .outcomes)
+
+  module _ (w : BroughtUp b (l .ctx) routes (l .log) left) where
+    room : 32 * b .slot + 32 ≤ length routes
+    room = omega (arith, w .pass .slot-high, w .pass .table)
+
+    own : (d : ℕ) → d < 32 → routeOf (left .routes) (b .slot) d ≡ plainRoute (begun b) d
+    unfolding plainRoute begun heldQueues ringFor published
+    own d h = {! !}
+
+    start-good : Good (b .slot) routes (start b left)
+    unfolding start begun left AllFit pairs isHeldDci heldQueues names
+    start-good =
+        record {
+          long = bring-up-length b (l .ctx) routes (l .log) (l .outcomes);
+          room = room;
+          kept =
+              record {
+                own = own;
+                others = bring-up-outside b (l .ctx) routes (l .log) (l .outcomes);
+                enabled = λ x y d two h. ne-eqb d 1 (λ e. omega arith);
+              };
+          control = {! !};
+          live =
+              inr
+              (record {
+                usable = w .usable;
+                is-sound = w .is-sound;
+                place = w .slot;
+                list = w .list;
+                held = sym (w .held);
+                fits = tt;
+              });
+        }
+
+pub demand-three : Demand3
+unfolding left
+demand-three b l routes calls empty accepted all =
+    after-good (b .slot) routes _ calls all
+    (start-good b l routes empty (bring-up-accepted b (l .ctx) routes (l .log) (l .outcomes) accepted)) .kept
