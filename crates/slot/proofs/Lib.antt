@@ -1,9 +1,11 @@
+pub mod Demand3
 pub mod Good
 mod BringUp
 mod Claim
 mod Claimed
 mod Hub
 mod Made
+pub mod Outside
 mod Release
 mod SetConfiguration
 pub mod Settings

@@ -112,19 +112,6 @@ mild-release d ctx routes log i =
 pub mild-set : (d : Device) (ctx routes log : ℕ) → MildCheck (recordCheck d ctx routes log Pass)
 mild-set d ctx routes log = mild-record d ctx routes log Pass mild-pass
 
-pub mild-bring-up : (a : BringUp) (ctx : ℕ) (routes : List ℕ) (log : ℕ) → MildCheck (bringUpCheck a ctx routes log)
-unfolding bringUpCheck number
-mild-bring-up a ctx routes log =
-    mild-unless (leb 1 (a .slot) && (leb (a .slot) (a .n) && leb (a .n) 255)) answer.SlotLimitReached _ (refl, refl)
-    (mild-unless (eqb ctx 1056 || eqb ctx 2112) answer.ContextLength _ (refl, refl)
-    (mild-unless (eqb (length routes) (32 * (a .n + 1))) answer.RoutesLength _ (refl, refl)
-    (mild-unless (leb 64 log) answer.LogTooShort _ (refl, refl)
-    (mild-unless (speedKnown (a .speed)) answer.Speed _ (refl, refl)
-    (mild-unless (validList (a .list)) answer.DescriptorList _ (refl, refl)
-    (mild-unless (chainOk (a .hubs) (a .hasParent) (a .parent)) answer.HubChain _ (refl, refl)
-    (mild-unless (ringOk (a .ring)) answer.Rings _ (refl, refl)
-    (mild-unless (eqb (routeOf routes (a .slot) 1) 0) answer.QueueFull _ (refl, refl) mild-pass))))))))
-
 -- A refused call logs nothing, and the plain slot stays.
 pub observed-refused :
     (asked : Asked) (lent : Lent) (a : Answer) (contexts : ℕ → List ℕ) (p : Plain) → Mild a →
