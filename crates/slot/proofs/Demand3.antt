@@ -10,7 +10,7 @@ use lib.Dec.{eqb}
 use lib.ListN.{length, getD}
 use Rattle.answer.specs.declared.Answer.the-variants as answer
 use Rattle.ring.proofs.Laws.{ring-nonzero}
-use Rattle.transfer.specs.Routes.{names, ringFor, routeIndex, routeOf, withRoute, Outside, published}
+use Rattle.transfer.specs.Routes.{Queue, names, ringFor, routeIndex, routeOf, withRoute, Outside, published}
 use Rattle.transfer.proofs.Laws.{published-at}
 use Rattle.device.specs.declared.record.Device.{Device}
 use Rattle.device.specs.Left.{Left}
@@ -19,7 +19,7 @@ use Rattle.bring_up.proofs.Laws.{BroughtUp, bring-up-accepted, bring-up-length,
 use Rattle.slot.specs.Call.{Lent, Asked, bringsUp, claims, releases, configures, updatesHub, Call, OfSlot, AllOfSlot}
 use Rattle.slot.specs.Plain.{Plain, heldQueues, plainRoute, isHeldDci, begun}
 use Rattle.slot.specs.Theorem.{State, called, after, start, Kept, Demand3}
-use Rattle.slot.proofs.Settings.{AllFit, pairs}
+use Rattle.slot.proofs.Settings.{eqb-turned, AllFit, pairs}
 use Rattle.slot.proofs.Good.{Good, Live}
 use Rattle.slot.proofs.BringUp.{bring-up-good}
 use Rattle.slot.proofs.Claim.{claim-good}
@@ -57,8 +57,12 @@ module _ (b : BringUp) (l : Lent) (routes : List ℕ) (empty : (d : ℕ) → d <
     room = omega (arith, w .pass .slot-high, w .pass .table)
 
     own : (d : ℕ) → d < 32 → routeOf (left .routes) (b .slot) d ≡ plainRoute (begun b) d
-    unfolding plainRoute begun heldQueues ringFor published
-    own d h = {! !}
+    unfolding plainRoute begun heldQueues ringFor published routeIndex
+    own d h =
+        let q : List Queue = record { dci = 1; ring = b .ring } ∷ [] in
+        ap (λ r. routeOf r (b .slot) d) (w .table)
+        ∙ published-at routes (b .slot) q d (omega (arith, room))
+        ∙ rw (empty d h, eqb-turned 1 d) refl
 
     start-good : Good (b .slot) routes (start b left)
     unfolding start begun left AllFit pairs isHeldDci heldQueues names
@@ -72,7 +76,7 @@ module _ (b : BringUp) (l : Lent) (routes : List ℕ) (empty : (d : ℕ) → d <
                 others = bring-up-outside b (l .ctx) routes (l .log) (l .outcomes);
                 enabled = λ x y d two h. ne-eqb d 1 (λ e. omega arith);
               };
-          control = {! !};
+          control = ring-nonzero (b .ring) (w .pass .ring);
           live =
               inr
               (record {

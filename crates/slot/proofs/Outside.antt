@@ -67,7 +67,7 @@ module _ (d : Device) (routes o ctx : List ℕ) where
   unfolding claimIn
   claimed i a rings =
       let v = claim-moved (claimIn d i a rings) ctx routes o 0 in
-      untouched-end (d .slot .0) routes _ _ _ (queues-small _) (queues-small _) (v .routed) (v .kept)
+      untouched-end (d .slot .0) routes (result o 0 (claimCourse (claimIn d i a rings) ctx routes)) _ _ (queues-small _) (queues-small _) (v .routed) (v .kept)
 
   released : (i : ℕ) → Untouched (d .slot .0) routes ((result o 0 (releaseCourse (releaseIn d i) ctx routes)) .routes)
   unfolding releaseIn
@@ -81,7 +81,7 @@ module _ (d : Device) (routes o ctx : List ℕ) where
   unfolding settingsIn
   configured value =
       let v = set-moved (settingsIn d value) routes o ctx 0 in
-      untouched-end (d .slot .0) routes _ _ [] (queues-small _) none-small (λ t. v .gone t .2) (v .kept)
+      untouched-end (d .slot .0) routes (result o 0 (setCourse (settingsIn d value) ctx routes)) _ [] (queues-small _) none-small (λ t. v .gone t .2) (v .kept)
 
 each : (asked : Asked) (lent : Lent) (d : Device) (routes : List ℕ) → Untouched (slotOf asked d) routes ((left asked lent d routes) .routes)
 unfolding slotOf left hubUpdate hubLeft claim release setConfiguration ended refused played

@@ -36,7 +36,7 @@ unfolding AllFit heldQueues names
 held-low c [] f = refl
 held-low c (s ∷ ss) f = names-append 0 (s .queues) (heldQueues ss) ∙ rw (f .0 .low, held-low c ss (f .1))
 
-eqb-turned : (a b : ℕ) → eqb a b ≡ eqb b a
+pub eqb-turned : (a b : ℕ) → eqb a b ≡ eqb b a
 eqb-turned a b = go (decided (eqb b a))
   where
     go : Decided (eqb b a) → eqb a b ≡ eqb b a
