@@ -1,10 +1,11 @@
 -- A claim keeps the invariant.
-use Prim.Native.Nat.{ℕ, _≤_, _<_}
+use Prim.Native.Nat.{ℕ, _+_, _≤_, _<_}
 use mathlib.Core.Path.{_≡_, refl, sym, _∙_, ap}
 use mathlib.Core.Bool.{Bool, true, false, not, cond, _&&_, _||_}
 use mathlib.Core.List.{List, [], _∷_, _++_}
 use mathlib.Core.Logic.{_⊎_, inl, inr, _↔_}
 use native.Mathlib.Omega.{arith}
+use borrow.Author.Tests.{ne-eqb}
 use lib.Dec.{eqb}
 use lib.ListN.{length, getD}
 use Rattle.laws.proofs.Tests.{not-both}
@@ -14,11 +15,14 @@ use Rattle.ring.specs.Rings.{offerOk}
 use Rattle.answer.specs.declared.Answer.{Answer}
 use Rattle.answer.specs.declared.Answer.the-variants as answer
 use Rattle.answer.specs.Answer.{number}
+use Rattle.command.specs.declared.Sent.the-variants as sent
+use Rattle.command.specs.Command.{outcomeAt}
 use Rattle.command.specs.Course.{Course, words, result, played}
 use Rattle.command.proofs.Operations.{ByteOperands, EachCommand}
 use Rattle.block.specs.Promises.{someDci}
 use Rattle.context.specs.Place.{Spaced}
-use Rattle.transfer.specs.Routes.{withReplaced}
+use Rattle.context.specs.Steps.{wordDcis}
+use Rattle.transfer.specs.Routes.{routeOf, queues, ringFor, replaced, withReplaced}
 use Rattle.endpoint.specs.Order.{dciAt}
 use Rattle.endpoint.specs.Cells.{isOwned, ownedRings, queuesOf, pendingRings, claimedCells, withActive}
 use Rattle.endpoint.specs.declared.cells.Cells.{Cells}
@@ -27,11 +31,12 @@ use Rattle.endpoint.proofs.Laws.{queues-fit, dci-low, dci-high}
 use Rattle.settings.specs.Held.{isHeld, alternateOf, isFound, settingWords, withSetting}
 use Rattle.settings.specs.Match.{hasPlace, addressesFree}
 use Rattle.settings.proofs.Laws.{match-facts, match-unheld}
-use Rattle.routing.proofs.Laws.{each-dci, offer-places, offer-routed}
+use Rattle.routing.specs.Routing.{Rerouted}
+use Rattle.routing.proofs.Laws.{each-dci, words-dci, offer-places, offer-routed}
 use Rattle.phase.specs.End.{End}
 use Rattle.controller.proofs.Laws.{followed}
 use Rattle.claim.specs.Claim.{Claim, claimCourse}
-use Rattle.claim.proofs.Laws.{claim-words, claim-answers, claim-moved, claim-cuts, Refused}
+use Rattle.claim.proofs.Laws.{claim-accepted, claim-words, claim-answers, claim-moved, claim-cuts, Refused}
 use Rattle.claim.proofs.Controlled.{claim-operands, claim-accepted-enabled, claim-failed-enabled}
 use Rattle.device.specs.declared.check.Check.{Check}
 use Rattle.device.specs.declared.check.Check.the-variants.{Pass, Refuse}
@@ -39,13 +44,14 @@ use Rattle.device.specs.declared.record.Device.{Device}
 use Rattle.device.specs.Device.{listOf, cellsIn, heldOf, quarantinedOf}
 use Rattle.device.specs.Left.{Left, refused, ended}
 use Rattle.device.specs.Check.{recordCheck}
+use Rattle.device.specs.Calls.{onCheck}
 use Rattle.device.specs.Claim.{claimCheck, pendingOf, claimIn, claimRecord, claim}
 use Rattle.device.proofs.Laws.{Passed, passed, pass-if}
 use Rattle.device.proofs.Kept.{isLost, Made, claim-moves, claim-stays}
 use Rattle.slot.specs.Call.{Lent, Asked, claims, left}
-use Rattle.slot.specs.Plain.{Setting, Plain, isHeldDci, without, settingOf, heldAfter, isLoose, anew}
+use Rattle.slot.specs.Plain.{Setting, Plain, plainRoute, isHeldDci, without, settingOf, heldAfter, anew, observed}
 use Rattle.slot.specs.Theorem.{State, cutAt, contextCut, called}
-use Rattle.slot.proofs.Settings.{AllFit, pairs, pairs-append, pairs-without, fit-without, fit-append, alternate-byte}
+use Rattle.slot.proofs.Settings.{last-ring, AllFit, pairs, pairs-append, pairs-without, fit-without, fit-append, alternate-byte}
 use Rattle.slot.proofs.Good.{Good, Live, Tells, live-tells, routed-from, enabled-was, live-here}
 use Rattle.slot.proofs.Step.{accepted-not, lost-not, checked, good-checked, mild-claim, seen, ran, checked-ran}
 use Rattle.slot.proofs.Made.{fit-active, now-tells, made-moved, made-same, byte-dcis}
@@ -136,6 +142,14 @@ module _ (slot : ℕ) (before : List ℕ) (s : State) (lent : Lent) (i a : ℕ) 
     places : (q : ℕ) → q < 30 → eqb (getD pending q 0) 0 ≡ not (hasPlace q newWords)
     places = offer-places newWords rings ((cellsIn d) .rings) (d .control) (quarantinedOf d) (tests .offer)
 
+    rerouted :
+        Rerouted (s .routes) slot (queuesOf (ownedRings (Interface i) (cellsIn d))) (queuesOf pending)
+        (claimedCells i pending (cellsIn d))
+    rerouted =
+        offer-routed (s .routes) slot i newWords rings (d .control) (quarantinedOf d) (cellsIn d)
+        (routed-from slot (s .routes) p (cellsIn d) (g .kept .own) (live-tells slot d p l)) (rw (g .long) (g .room)) (tests .free)
+        (tests .offer)
+
     was :
         p .broken ≡ false → p .loose ≡ false → (q : ℕ) → q < 30 →
         p .enabled (dciAt q) ≡ not (eqb (getD ((cellsIn d) .rings) q 0) 0)
@@ -182,9 +196,6 @@ module _ (slot : ℕ) (before : List ℕ) (s : State) (lent : Lent) (i a : ℕ) 
         let m = claim-moves d _ _ _ i a rings k end moved in
         let n : isLost (end .answer) ≡ false = rw e refl in
         let held : now .plain .held ≡ settings = rw e refl in
-        let rerouted =
-        offer-routed (s .routes) slot i newWords rings (d .control) (quarantinedOf d) (cellsIn d)
-        (routed-from slot (s .routes) p (cellsIn d) (g .kept .own) (live-tells slot d p l)) (rw (g .long) (g .room)) (tests .free) (tests .offer) in
         made-moved slot before s now g l (withSetting i a (heldOf d)) (claimedCells i pending (cellsIn d)) (isLost (end .answer)) m refl refl
         (ap pairs held ∙ settings-pairs) (rw held settings-fit) (ownedRings (Interface i) (cellsIn d)) pending
         (v .routed moved
@@ -273,3 +284,40 @@ module _ (slot : ℕ) (before : List ℕ) (s : State) (lent : Lent) (i a : ℕ) 
   claim-good =
       good-checked slot before s asked lent run (lent .ctx) (lent .log) _ (mild-claim d _ _ _ i a rings) g
       (λ k. run-good k (live-here slot before s g (passed d _ _ _ _ k .0 .usable)))
+
+  -- With every outcome done it is accepted.
+  module _ (k : recordCheck d (length (lent .ctx)) (length (s .routes)) (length (lent .log)) (claimCheck d i a rings) ≡ Pass)
+      (done : (n : ℕ) → n < 32 → outcomeAt (lent .outcomes) n ≡ sent.Done) where
+    claimed : left asked lent d (s .routes) ≡ run (lent .outcomes)
+    unfolding left claim run course onCheck
+    claimed = rw k refl
+
+    end-accepted : end .answer ≡ answer.Accepted
+    unfolding end course claimIn pendingOf
+    end-accepted =
+        let l = live-here slot before s g (passed d _ _ _ _ k .0 .usable) in
+        let old = ownedRings (Interface i) (cellsIn d) in
+        ap (λ (e : End). e .answer)
+        (claim-accepted (claimIn d i a rings) (lent .ctx) (s .routes) (lent .outcomes) 0
+        (λ n h.
+        let z : 0 + n ≡ n = omega arith in
+        rw z (done n (omega (arith, h, queues-fit old))))
+        (ap (λ x. replaced (s .routes) x (queuesOf old) (queuesOf pending)) (l .place) ∙ rerouted k l .done))
+
+    pub claim-done : (left asked lent d (s .routes)) .answer ≡ answer.Accepted
+    unfolding run ended played end
+    claim-done = ap (λ (x : Left). x .answer) claimed ∙ end-accepted
+
+  -- An accepted claim's rings are routed.
+  pub claim-routes :
+      (left asked lent d (s .routes)) .answer ≡ answer.Accepted → (x : ℕ) → x < 32 →
+      someDci x (settingWords (p .list) i a) ≡ true → someDci 1 (settingWords (p .list) i a) ≡ false →
+      routeOf ((left asked lent d (s .routes)) .routes) slot x
+      ≡ ringFor x (queues (wordDcis (settingWords (p .list) i a)) rings) 0
+  unfolding called observed anew heldAfter number plainRoute settingOf
+  claim-routes e x h w z =
+      let ws = settingWords (p .list) i a in
+      let next = called s (record { asked = asked; lent = lent }) in
+      let held : next .plain .held ≡ without i (p .held) ++ (settingOf (p .list) i a rings ∷ []) = rw e refl in
+      let n : eqb x 1 ≡ false = ne-eqb x 1 (λ q. not-both (someDci 1 ws) (rw q at w) z) in
+      claim-good .kept .own x h ∙ rw (n, held) (last-ring x (without i (p .held)) (settingOf (p .list) i a rings) (words-dci x ws rings ∙ w))

@@ -10,19 +10,31 @@ use lib.Dec.{eqb}
 use lib.ListN.{length, getD}
 use Rattle.answer.specs.declared.Answer.the-variants as answer
 use Rattle.ring.proofs.Laws.{ring-nonzero}
+use Rattle.command.specs.declared.Sent.the-variants.{Done}
+use Rattle.command.specs.Command.{outcomeAt}
+use Rattle.configuration.specs.Valid.{validList}
+use Rattle.block.specs.Promises.{someDci}
+use Rattle.settings.specs.Held.{settingWords}
+use Rattle.settings.proofs.Laws.{setting-word}
+use Rattle.routing.proofs.Laws.{words-dci, words-low-name}
 use Rattle.transfer.specs.Routes.{Queue, names, ringFor, routeIndex, routeOf, withRoute, Outside, published}
 use Rattle.transfer.proofs.Laws.{published-at}
 use Rattle.device.specs.declared.record.Device.{Device}
+use Rattle.device.specs.declared.check.Check.the-variants.{Pass}
 use Rattle.device.specs.Left.{Left}
+use Rattle.device.specs.Check.{recordCheck}
+use Rattle.device.specs.Claim.{claimCheck}
+use Rattle.device.proofs.Laws.{passed}
 use Rattle.bring_up.specs.BringUp.{BringUp, bringUp}
 use Rattle.bring_up.proofs.Laws.{BroughtUp, bring-up-accepted, bring-up-length, bring-up-outside}
 use Rattle.slot.specs.Call.{Lent, Asked, bringsUp, claims, releases, configures, updatesHub, Call, OfSlot, AllOfSlot}
+use Rattle.slot.specs.Call as call
 use Rattle.slot.specs.Plain.{Plain, heldQueues, plainRoute, isHeldDci, begun}
-use Rattle.slot.specs.Theorem.{State, called, after, start, Kept, Demand3}
+use Rattle.slot.specs.Theorem.{State, called, after, start, AfterBringUp, Demand3, SoundWhileUsable, Claimed, ClaimsAccepted}
 use Rattle.slot.proofs.Settings.{eqb-turned, AllFit, pairs}
-use Rattle.slot.proofs.Good.{Good, Live}
+use Rattle.slot.proofs.Good.{Good, Live, live-here}
 use Rattle.slot.proofs.BringUp.{bring-up-good}
-use Rattle.slot.proofs.Claim.{claim-good}
+use Rattle.slot.proofs.Claim.{claim-good, claim-done, claim-routes}
 use Rattle.slot.proofs.Release.{release-good}
 use Rattle.slot.proofs.SetConfiguration.{set-good}
 use Rattle.slot.proofs.Hub.{hub-good}
@@ -89,8 +101,35 @@ module _ (b : BringUp) (l : Lent) (routes : List ℕ) (empty : (d : ℕ) → d <
               });
         }
 
-pub demand-three : Demand3
+-- The invariant holds after any calls.
+all-good : AfterBringUp Good
 unfolding left
-demand-three b l routes calls empty accepted all =
+all-good b l routes calls empty accepted all =
     after-good (b .slot) routes _ calls all
-    (start-good b l routes empty (bring-up-accepted b (l .ctx) routes (l .log) (l .outcomes) accepted)) .kept
+    (start-good b l routes empty (bring-up-accepted b (l .ctx) routes (l .log) (l .outcomes) accepted))
+
+pub demand-three : Demand3
+demand-three b l routes calls empty accepted all = all-good b l routes calls empty accepted all .kept
+
+pub sound-while-usable : SoundWhileUsable
+sound-while-usable b l routes calls empty accepted all u =
+    live-here (b .slot) routes _ (all-good b l routes calls empty accepted all) u .is-sound
+
+-- A claim of a usable record.
+claimed-good :
+    (slot : ℕ) (before : List ℕ) (s : State) → Good slot before s → (i a : ℕ) (rings : List ℕ) (l : Lent) → i < 256 → a < 256 →
+    recordCheck (s .device) (length (l .ctx)) (length (s .routes)) (length (l .log)) (claimCheck (s .device) i a rings) ≡ Pass →
+    ((k : ℕ) → k < 32 → outcomeAt (l .outcomes) k ≡ Done) →
+    Claimed slot (settingWords (s .plain .list) i a) rings (call.left (claims i a rings) l (s .device) (s .routes))
+claimed-good slot before s g i a rings l x y k done =
+    let e = claim-done slot before s l i a rings x y g k done in
+    let p = passed (s .device) _ _ _ _ k .0 in
+    let v = live-here slot before s g (p .usable) in
+    let valid : validList (s .plain .list) ≡ true = rw (← v .list) (p .facts .list) in
+    let ws = settingWords (s .plain .list) i a in
+    let low : someDci 1 ws ≡ false = sym (words-dci 1 ws rings) ∙ words-low-name ws rings (setting-word (s .plain .list) valid i a) 1 (omega arith) in
+    record { accepted = e; routed = λ d h w. claim-routes slot before s l i a rings x y g e d h w low }
+
+pub claims-accepted : ClaimsAccepted
+claims-accepted b l routes calls empty accepted all =
+    claimed-good (b .slot) routes _ (all-good b l routes calls empty accepted all)

@@ -3,7 +3,7 @@ use Prim.Native.Nat.{ℕ, _<_}
 use mathlib.Core.Path.{_≡_, refl, sym, _∙_}
 use native.Mathlib.Omega.{arith}
 use mathlib.Core.Bool.{Bool, true, false, not, cond, _&&_, _||_}
-use mathlib.Core.List.{List, [], _∷_, _++_}
+use mathlib.Core.List.{List, [], _∷_, _++_, append-assoc, append-nil}
 use mathlib.Core.Logic.{inl, inr}
 use borrow.Author.Tests.{eq-eqb, ne-eqb, eqb-true, eqb-false}
 use lib.Dec.{eqb}
@@ -104,6 +104,20 @@ held-ring c (s ∷ ss) p v f h =
     go true false true = refl
     go true false false = refl
     go false b k = refl
+
+held-append : (x y : List Setting) → heldQueues (x ++ y) ≡ heldQueues x ++ heldQueues y
+unfolding heldQueues
+held-append [] y = refl
+held-append (s ∷ x) y = rw (held-append x y, append-assoc)
+
+-- Of an endpoint that the last setting names, its ring.
+pub last-ring :
+    (d : ℕ) (ss : List Setting) (s : Setting) → names d (s .queues) ≡ true →
+    ringFor d (heldQueues (ss ++ (s ∷ []))) 0 ≡ ringFor d (s .queues) 0
+unfolding heldQueues
+last-ring d ss s n =
+    rw (held-append ss (s ∷ []), append-nil, ringFor-append d (heldQueues ss) (s .queues) 0)
+    (ringFor-start d (s .queues) (ringFor d (heldQueues ss) 0) ∙ rw n)
 
 -- Interfaces with their alternates, as a record keeps them.
 unfoldable pub pairs : List Setting → List Held
