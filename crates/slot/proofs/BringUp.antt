@@ -1,21 +1,14 @@
 -- A bring-up of a slot that was brought up is refused, and keeps the invariant.
 use Prim.Native.Nat.{ℕ}
 use mathlib.Core.Path.{_≡_, refl, sym, _∙_, ap}
-use mathlib.Core.Bool.{false, _||_}
-use mathlib.Core.List.{List, []}
+use mathlib.Core.List.{List}
 use mathlib.Core.Logic.{inl}
 use native.Mathlib.Omega.{arith}
-use lib.Dec.{eqb}
-use lib.ListN.{take}
 use Rattle.transfer.specs.Routes.{routeOf}
 use Rattle.answer.specs.declared.Answer.{Answer}
-use Rattle.answer.specs.Answer.{number}
-use Rattle.device.specs.declared.record.Device.{Device}
-use Rattle.device.specs.Left.{Left}
 use Rattle.bring_up.specs.BringUp.{BringUp, noDevice, bringUp}
 use Rattle.bring_up.proofs.Laws.{Refusal, Refused, bring-up-full}
 use Rattle.slot.specs.Call.{Lent, bringsUp, left}
-use Rattle.slot.specs.Plain.{observed}
 use Rattle.slot.specs.Theorem.{State, contextCut, called}
 use Rattle.slot.proofs.Good.{Good, good-same, route-one}
 use Rattle.slot.proofs.Step.{Mild, observed-refused}

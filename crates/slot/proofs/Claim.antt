@@ -1,7 +1,7 @@
 -- A claim keeps the invariant.
 use Prim.Native.Nat.{ℕ, _+_, _≤_, _<_}
 use mathlib.Core.Path.{_≡_, refl, sym, _∙_, ap}
-use mathlib.Core.Bool.{Bool, true, false, not, cond, _&&_, _||_}
+use mathlib.Core.Bool.{true, false, not, cond}
 use mathlib.Core.List.{List, [], _∷_, _++_}
 use mathlib.Core.Logic.{_⊎_, inl, inr, _↔_}
 use native.Mathlib.Omega.{arith}
@@ -25,7 +25,6 @@ use Rattle.context.specs.Steps.{wordDcis}
 use Rattle.transfer.specs.Routes.{routeOf, queues, ringFor, replaced, withReplaced}
 use Rattle.endpoint.specs.Order.{dciAt}
 use Rattle.endpoint.specs.Cells.{isOwned, ownedRings, queuesOf, pendingRings, claimedCells, withActive}
-use Rattle.endpoint.specs.declared.cells.Cells.{Cells}
 use Rattle.endpoint.specs.declared.cells.Owner.the-variants.{Interface}
 use Rattle.endpoint.proofs.Laws.{queues-fit, dci-low, dci-high}
 use Rattle.settings.specs.Held.{isHeld, alternateOf, isFound, settingWords, withSetting}
@@ -35,11 +34,10 @@ use Rattle.routing.specs.Routing.{Rerouted}
 use Rattle.routing.proofs.Laws.{each-dci, words-dci, offer-places, offer-routed}
 use Rattle.phase.specs.End.{End}
 use Rattle.controller.proofs.Laws.{followed}
-use Rattle.claim.specs.Claim.{Claim, claimCourse}
+use Rattle.claim.specs.Claim.{claimCourse}
 use Rattle.claim.proofs.Laws.{claim-accepted, claim-words, claim-answers, claim-moved, claim-cuts, Refused}
 use Rattle.claim.proofs.Controlled.{claim-operands, claim-accepted-enabled, claim-failed-enabled}
-use Rattle.device.specs.declared.check.Check.{Check}
-use Rattle.device.specs.declared.check.Check.the-variants.{Pass, Refuse}
+use Rattle.device.specs.declared.check.Check.the-variants.{Pass}
 use Rattle.device.specs.declared.record.Device.{Device}
 use Rattle.device.specs.Device.{listOf, cellsIn, heldOf, quarantinedOf}
 use Rattle.device.specs.Left.{Left, refused, ended}
@@ -47,12 +45,12 @@ use Rattle.device.specs.Check.{recordCheck}
 use Rattle.device.specs.Calls.{onCheck}
 use Rattle.device.specs.Claim.{claimCheck, pendingOf, claimIn, claimRecord, claim}
 use Rattle.device.proofs.Laws.{Passed, passed, pass-if}
-use Rattle.device.proofs.Kept.{isLost, Made, claim-moves, claim-stays}
+use Rattle.device.proofs.Kept.{isLost, claim-moves, claim-stays}
 use Rattle.slot.specs.Call.{Lent, Asked, claims, left}
 use Rattle.slot.specs.Plain.{Setting, Plain, plainRoute, isHeldDci, without, settingOf, heldAfter, anew, observed}
 use Rattle.slot.specs.Theorem.{State, cutAt, contextCut, called}
 use Rattle.slot.proofs.Settings.{last-ring, AllFit, pairs, pairs-append, pairs-without, fit-without, fit-append, alternate-byte}
-use Rattle.slot.proofs.Good.{Good, Live, Tells, live-tells, routed-from, enabled-was, live-here}
+use Rattle.slot.proofs.Good.{Good, Live, live-tells, routed-from, enabled-was, live-here}
 use Rattle.slot.proofs.Step.{accepted-not, lost-not, checked, good-checked, mild-claim, seen, ran, checked-ran}
 use Rattle.slot.proofs.Made.{fit-active, now-tells, made-moved, made-same, byte-dcis}
 use Rattle.slot.proofs.Claimed.{some-place, owned-ring, free-ring, fits-other, fits-own, pending-free, claimed-some}
@@ -254,9 +252,12 @@ module _ (slot : ℕ) (before : List ℕ) (s : State) (lent : Lent) (i a : ℕ) 
     few : length (words (lent .outcomes) 0 course) ≤ length (lent .log)
     unfolding course claimIn
     few =
-        omega (arith,
+        omega (
+          arith,
           claim-words (claimIn d i a rings) (lent .ctx) (s .routes) (lent .outcomes) 0
-          (queues-fit (ownedRings (Interface i) (cellsIn d))), pass .room)
+              (queues-fit (ownedRings (Interface i) (cellsIn d))),
+          pass .room,
+        )
 
     bytes : EachCommand ByteOperands course
     unfolding course claimIn

@@ -1,13 +1,12 @@
 -- Demand 3.
 use Prim.Native.Nat.{ℕ, _+_, _*_, _<_, _≤_}
 use mathlib.Core.Path.{_≡_, refl, sym, _∙_, ap}
-use mathlib.Core.Bool.{Bool, true, false, cond}
+use mathlib.Core.Bool.{true, false}
 use mathlib.Core.List.{List, [], _∷_}
 use mathlib.Core.Logic.{inr}
 use native.Mathlib.Omega.{arith}
 use borrow.Author.Tests.{ne-eqb}
-use lib.Dec.{eqb}
-use lib.ListN.{length, getD}
+use lib.ListN.{length}
 use Rattle.answer.specs.declared.Answer.the-variants as answer
 use Rattle.ring.proofs.Laws.{ring-nonzero}
 use Rattle.command.specs.declared.Sent.the-variants.{Done}
@@ -17,9 +16,8 @@ use Rattle.block.specs.Promises.{someDci}
 use Rattle.settings.specs.Held.{settingWords}
 use Rattle.settings.proofs.Laws.{setting-word}
 use Rattle.routing.proofs.Laws.{words-dci, words-low-name}
-use Rattle.transfer.specs.Routes.{Queue, names, ringFor, routeIndex, routeOf, withRoute, Outside, published}
+use Rattle.transfer.specs.Routes.{Queue, names, ringFor, routeIndex, routeOf, published}
 use Rattle.transfer.proofs.Laws.{published-at}
-use Rattle.device.specs.declared.record.Device.{Device}
 use Rattle.device.specs.declared.check.Check.the-variants.{Pass}
 use Rattle.device.specs.Left.{Left}
 use Rattle.device.specs.Check.{recordCheck}
@@ -29,10 +27,10 @@ use Rattle.bring_up.specs.BringUp.{BringUp, bringUp}
 use Rattle.bring_up.proofs.Laws.{BroughtUp, bring-up-accepted, bring-up-length, bring-up-outside}
 use Rattle.slot.specs.Call.{Lent, Asked, bringsUp, claims, releases, configures, updatesHub, Call, OfSlot, AllOfSlot}
 use Rattle.slot.specs.Call as call
-use Rattle.slot.specs.Plain.{Plain, heldQueues, plainRoute, isHeldDci, begun}
+use Rattle.slot.specs.Plain.{heldQueues, plainRoute, isHeldDci, begun}
 use Rattle.slot.specs.Theorem.{State, called, after, start, AfterBringUp, Demand3, SoundWhileUsable, Claimed, ClaimsAccepted}
 use Rattle.slot.proofs.Settings.{eqb-turned, AllFit, pairs}
-use Rattle.slot.proofs.Good.{Good, Live, live-here}
+use Rattle.slot.proofs.Good.{Good, live-here}
 use Rattle.slot.proofs.BringUp.{bring-up-good}
 use Rattle.slot.proofs.Claim.{claim-good, claim-done, claim-routes}
 use Rattle.slot.proofs.Release.{release-good}

@@ -1,11 +1,10 @@
 -- What holds of record, table and plain slot before and after each call.
 use Prim.Native.Nat.{ℕ, zero, suc, _+_, _*_, _≤_, _<_}
 use mathlib.Core.Path.{_≡_, refl, sym, _∙_, ap}
-use mathlib.Core.Bool.{Bool, true, false, not, cond, _&&_}
-use mathlib.Core.List.{List, []}
+use mathlib.Core.Bool.{true, false, not, cond}
+use mathlib.Core.List.{List}
 use mathlib.Core.Logic.{_⊎_, inl, inr}
 use native.Mathlib.Omega.{arith}
-use native.Mathlib.Decide.{decLt}
 use borrow.Author.Tests.{ne-eqb, eqb-true, eqb-false}
 use lib.Dec.{eqb}
 use lib.ListN.{length, getD}
@@ -14,18 +13,17 @@ use Rattle.laws.proofs.Cases.{Decided, decided}
 use Rattle.transfer.specs.Routes.{ringFor, names, routeOf, Outside}
 use Rattle.transfer.proofs.Laws.{ringFor-none}
 use Rattle.endpoint.specs.Order.{dciAt}
-use Rattle.endpoint.specs.Cells.{noCells}
 use Rattle.endpoint.specs.declared.cells.Cells.{Cells}
 use Rattle.endpoint.proofs.Laws.{dci-low, dci-high}
-use Rattle.settings.specs.Held.{Held, isHeld}
+use Rattle.settings.specs.Held.{isHeld}
 use Rattle.settings.proofs.Laws.{match-facts}
 use Rattle.routing.specs.Routing.{RoutedBy}
 use Rattle.routing.proofs.Laws.{each-dci}
 use Rattle.device.specs.declared.record.Device.{Device}
 use Rattle.device.specs.Device.{listOf, cellsIn, heldOf}
 use Rattle.device.specs.Sound.{sound}
-use Rattle.device.proofs.Facts.{SoundFacts, sound-facts}
-use Rattle.slot.specs.Plain.{Setting, Plain, plainRoute, isHeldDci, heldQueues, holds}
+use Rattle.device.proofs.Facts.{sound-facts}
+use Rattle.slot.specs.Plain.{Plain, plainRoute, isHeldDci, heldQueues, holds}
 use Rattle.slot.specs.Theorem.{State, Kept, Untouched}
 use Rattle.slot.proofs.Settings.{AllFit, heldAt, held-low, held-names, held-ring, pairs, pairs-holds}
 
@@ -65,7 +63,7 @@ live-tells slot d p l =
         pairs-holds (getD ((cellsIn d) .owners) q 0) (p .held)
         ∙ ap (isHeld (getD ((cellsIn d) .owners) q 0)) (l .held)
         ∙ match-facts (listOf d) (heldOf d) (cellsIn d) (sound-facts d (l .is-sound) .endpoints) .held q h
-          (eqb-false (getD ((cellsIn d) .rings) q 0) 0 e)
+        (eqb-false (getD ((cellsIn d) .rings) q 0) 0 e)
 
     ring-all :
         (q : ℕ) → q < 30 → Decided (eqb (getD ((cellsIn d) .rings) q 0) 0) →

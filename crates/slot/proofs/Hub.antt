@@ -1,12 +1,11 @@
 -- A hub update keeps the invariant.
-use Prim.Native.Nat.{ℕ, _≤_, _<_}
-use mathlib.Core.Path.{_≡_, refl, sym, _∙_, ap}
-use mathlib.Core.Bool.{Bool, true, false, cond, _||_}
+use Prim.Native.Nat.{ℕ, _≤_}
+use mathlib.Core.Path.{_≡_, refl}
+use mathlib.Core.Bool.{Bool, false}
 use mathlib.Core.List.{List, [], _∷_}
-use mathlib.Core.Logic.{_⊎_, inl, inr}
+use mathlib.Core.Logic.{_⊎_, inl}
 use native.Mathlib.Omega.{arith}
-use lib.Dec.{eqb}
-use lib.ListN.{length, take}
+use lib.ListN.{length}
 use Rattle.laws.proofs.Cases.{or-left-false}
 use Rattle.answer.specs.declared.Answer.{Answer}
 use Rattle.answer.specs.Answer.{number}
@@ -17,17 +16,13 @@ use Rattle.command.specs.Command.{commandWord, outcomeAt}
 use Rattle.command.specs.Course.{words, result, played}
 use Rattle.phase.specs.End.{answerOf}
 use Rattle.controller.specs.Controller.{controlled, isDoneWord}
-use Rattle.device.specs.declared.check.Check.{Check}
 use Rattle.device.specs.declared.check.Check.the-variants.{Pass}
-use Rattle.device.specs.declared.record.Device.{Device}
-use Rattle.device.specs.Device.{unusable}
-use Rattle.device.specs.Left.{Left, refused, isBroken, isCut, marked}
-use Rattle.device.specs.Check.{recordCheck, hubCheck}
+use Rattle.device.specs.Left.{Left, refused, marked}
 use Rattle.device.specs.Calls.{onCheck, hubContext, hubCourse, hubLeft, hubUpdate}
 use Rattle.device.proofs.Facts.{unusable-not}
 use Rattle.device.proofs.Laws.{passed}
 use Rattle.slot.specs.Call.{Lent, Asked, updatesHub, left}
-use Rattle.slot.specs.Plain.{Plain, heldAfter, isLoose, anew, observed}
+use Rattle.slot.specs.Plain.{heldAfter, anew, observed}
 use Rattle.slot.specs.Theorem.{State, cutAt, contextCut, called}
 use Rattle.slot.proofs.Good.{Good, Live, good-same, live-or}
 use Rattle.slot.proofs.Step.{checked, good-checked, mild-hub, seen}

@@ -1,14 +1,14 @@
 -- A call whose course has ended: what it makes of record, table and plain slot keeps the invariant.
 use Prim.Native.Nat.{ℕ, zero, suc, _≤_, _<_}
-use mathlib.Core.Path.{_≡_, refl, sym, _∙_, ap}
+use mathlib.Core.Path.{_≡_, sym, _∙_, ap}
 use mathlib.Core.Bool.{Bool, true, false, not}
 use mathlib.Core.List.{List, [], _∷_}
 use mathlib.Core.Logic.{_⊎_, inl, inr}
 use native.Mathlib.Omega.{arith}
 use lib.Dec.{eqb}
-use lib.ListN.{length, getD}
+use lib.ListN.{getD}
 use Rattle.laws.proofs.Cases.{Decided, decided}
-use Rattle.transfer.specs.Routes.{Queue, routeOf, withReplaced, Outside, Small}
+use Rattle.transfer.specs.Routes.{Queue, withReplaced, Small}
 use Rattle.endpoint.specs.Order.{dciAt}
 use Rattle.endpoint.specs.Cells.{isOwned, withActive, queuesOf, queueDcis}
 use Rattle.endpoint.specs.declared.cells.Cells.{Cells}
@@ -18,11 +18,11 @@ use Rattle.settings.specs.Held.{Held}
 use Rattle.routing.specs.Routing.{RoutedBy}
 use Rattle.routing.proofs.Laws.{low-kept, outside-kept, length-kept}
 use Rattle.device.specs.declared.record.Device.{Device}
-use Rattle.device.specs.Device.{listOf, cellsIn, heldOf}
+use Rattle.device.specs.Device.{cellsIn}
 use Rattle.device.proofs.Kept.{Made}
 use Rattle.slot.specs.Plain.{Setting, Plain, isHeldDci}
-use Rattle.slot.specs.Theorem.{State, Untouched}
-use Rattle.slot.proofs.Settings.{Fits, AllFit, fit-other, pairs}
+use Rattle.slot.specs.Theorem.{State}
+use Rattle.slot.proofs.Settings.{AllFit, fit-other, pairs}
 use Rattle.slot.proofs.Good.{Good, Live, Tells, live-tells, good-moved, good-same}
 
 -- Which endpoints are active does not matter.

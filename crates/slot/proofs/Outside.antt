@@ -1,15 +1,13 @@
 -- Every call leaves every word outside its slot as it was.
 use Prim.Native.Nat.{ℕ}
 use mathlib.Core.Path.{_≡_, refl}
-use mathlib.Core.Bool.{Bool, true, false}
+use mathlib.Core.Bool.{true, false}
 use mathlib.Core.List.{List, []}
-use mathlib.Core.Logic.{_⊎_, inl, inr}
-use lib.ListN.{length}
+use mathlib.Core.Logic.{inl, inr}
 use Rattle.laws.proofs.Cases.{Decided, decided}
 use Rattle.command.specs.Course.{result, played}
 use Rattle.transfer.specs.Routes.{Queue, withReplaced, Small}
 use Rattle.transfer.proofs.Laws.{replaced-length, replaced-outside}
-use Rattle.endpoint.specs.Cells.{queuesOf}
 use Rattle.endpoint.proofs.Laws.{queues-small}
 use Rattle.phase.specs.End.{End}
 use Rattle.claim.specs.Claim.{claimCourse}

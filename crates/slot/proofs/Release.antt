@@ -1,9 +1,9 @@
 -- A release keeps the invariant.
-use Prim.Native.Nat.{ℕ, suc, _+_, _≤_, _<_}
+use Prim.Native.Nat.{ℕ, _≤_, _<_}
 use mathlib.Core.Path.{_≡_, refl, sym, _∙_, ap}
-use mathlib.Core.Bool.{Bool, true, false, not, cond, _&&_, _||_}
-use mathlib.Core.List.{List, [], _∷_}
-use mathlib.Core.Logic.{_⊎_, inl, inr}
+use mathlib.Core.Bool.{Bool, true, false, not, _&&_, _||_}
+use mathlib.Core.List.{List, []}
+use mathlib.Core.Logic.{inl, inr}
 use native.Mathlib.Omega.{arith}
 use borrow.Author.Tests.{eq-eqb, ne-eqb, lt-ltb}
 use lib.Dec.{eqb, ltb}
@@ -21,17 +21,15 @@ use Rattle.transfer.specs.declared.Replaced.the-variants as replace
 use Rattle.transfer.specs.Routes.{replaced, withReplaced}
 use Rattle.endpoint.specs.Order.{PLACES, dciAt}
 use Rattle.endpoint.specs.Cells.{isOwned, ownedRings, queuesOf, claimedCells, withActive}
-use Rattle.endpoint.specs.declared.cells.Cells.{Cells}
 use Rattle.endpoint.specs.declared.cells.Owner.the-variants.{Interface}
 use Rattle.endpoint.proofs.Laws.{queues-fit, dci-low, dci-high}
 use Rattle.settings.specs.Held.{isHeld, alternateOf, settingWords, withoutSetting}
-use Rattle.settings.specs.Match.{hasPlace}
 use Rattle.settings.proofs.Laws.{match-facts, match-unheld}
 use Rattle.routing.specs.Routing.{Rerouted}
-use Rattle.routing.proofs.Laws.{each-dci, no-queues, release-routed}
+use Rattle.routing.proofs.Laws.{no-queues, release-routed}
 use Rattle.phase.specs.End.{End}
 use Rattle.controller.proofs.Laws.{followed}
-use Rattle.release.specs.Release.{Release, releaseCourse}
+use Rattle.release.specs.Release.{releaseCourse}
 use Rattle.release.proofs.Laws.{release-words, release-cuts, Gone, Stayed, Says, release-says, OneAnswer, release-answers}
 use Rattle.release.proofs.Controlled.{release-operands, release-accepted-enabled, release-failed-enabled}
 use Rattle.device.specs.declared.check.Check.the-variants.{Pass}
@@ -41,13 +39,13 @@ use Rattle.device.specs.Left.{Left, refused, ended}
 use Rattle.device.specs.Check.{recordCheck}
 use Rattle.device.specs.Release.{releaseCheck, releaseIn, releaseRecord, release}
 use Rattle.device.proofs.Laws.{Passed, passed}
-use Rattle.device.proofs.Kept.{isLost, Made, release-moves, release-stays}
+use Rattle.device.proofs.Kept.{isLost, release-moves, release-stays}
 use Rattle.slot.specs.Call.{Lent, Asked, releases, left}
-use Rattle.slot.specs.Plain.{Setting, Plain, isHeldDci, without, holds, heldAfter, isLoose, anew}
+use Rattle.slot.specs.Plain.{Plain, isHeldDci, without, holds, heldAfter, isLoose, anew}
 use Rattle.slot.specs.Theorem.{State, cutAt, contextCut, called}
 use Rattle.slot.proofs.Settings.{AllFit, pairs, pairs-holds, pairs-without, fit-without}
 use Rattle.slot.proofs.Good.{Good, Live, live-tells, routed-from, enabled-was, live-here}
-use Rattle.slot.proofs.Step.{accepted-not, lost-not, checked, good-checked, mild-release, seen, ran, checked-ran}
+use Rattle.slot.proofs.Step.{lost-not, checked, good-checked, mild-release, seen, ran, checked-ran}
 use Rattle.slot.proofs.Made.{fit-active, now-tells, made-moved, made-same, byte-dcis}
 use Rattle.slot.proofs.Claimed.{some-place, fits-other, claimed-some}
 
@@ -242,9 +240,11 @@ module _ (slot : ℕ) (before : List ℕ) (s : State) (lent : Lent) (i : ℕ) (b
     few : length (words (lent .outcomes) 0 course) ≤ length (lent .log)
     unfolding course releaseIn
     few =
-        omega (arith,
+        omega (
+          arith,
           release-words (releaseIn d i) (s .routes) (lent .outcomes) (lent .ctx) 0 (queues-fit (ownedRings (Interface i) (cellsIn d))),
-          pass .room)
+          pass .room,
+        )
 
     bytes : EachCommand ByteOperands course
     unfolding course releaseIn

@@ -1,7 +1,7 @@
 -- A set configuration keeps the invariant.
 use Prim.Native.Nat.{ℕ, _≤_, _<_}
 use mathlib.Core.Path.{_≡_, refl, sym, _∙_, ap}
-use mathlib.Core.Bool.{Bool, true, false, not, cond, _&&_, _||_}
+use mathlib.Core.Bool.{Bool, true, false, not, _&&_, _||_}
 use mathlib.Core.List.{List, [], _∷_, _++_}
 use mathlib.Core.Logic.{_⊎_, inl, inr}
 use native.Mathlib.Omega.{arith}
@@ -33,7 +33,7 @@ use Rattle.routing.proofs.Laws.{each-dci, no-queues, bare-routed}
 use Rattle.phase.specs.End.{End}
 use Rattle.controller.specs.Controller.{configurationSet}
 use Rattle.controller.proofs.Laws.{followed}
-use Rattle.set_configuration.specs.SetConfiguration.{Settings, setCourse}
+use Rattle.set_configuration.specs.SetConfiguration.{setCourse}
 use Rattle.set_configuration.proofs.Laws.{set-words, set-cuts, OneAnswer, Answered, set-answers, set-moved, set-operands, set-out}
 use Rattle.set_configuration.proofs.Controlled.{set-accepted-enabled, set-failed-enabled}
 use Rattle.device.specs.declared.check.Check.the-variants.{Pass}
@@ -43,9 +43,9 @@ use Rattle.device.specs.Left.{Left, refused, ended}
 use Rattle.device.specs.Check.{recordCheck}
 use Rattle.device.specs.SetConfiguration.{settingsIn, setRecord, setConfiguration}
 use Rattle.device.proofs.Laws.{Passed, passed}
-use Rattle.device.proofs.Kept.{isLost, Made, set-moves, set-stays}
+use Rattle.device.proofs.Kept.{isLost, set-moves, set-stays}
 use Rattle.slot.specs.Call.{Lent, Asked, configures, left}
-use Rattle.slot.specs.Plain.{Setting, Plain, heldQueues, isHeldDci, heldAfter, isLoose, anew}
+use Rattle.slot.specs.Plain.{Plain, heldQueues, isHeldDci, heldAfter, anew}
 use Rattle.slot.specs.Theorem.{State, cutAt, contextCut, called}
 use Rattle.slot.proofs.Settings.{AllFit, pairs}
 use Rattle.slot.proofs.Good.{Good, Live, Tells, live-tells, routed-from, enabled-was, live-here}

@@ -1,6 +1,6 @@
 -- One call, by what its check answers: what a refusal leaves, and what a course leaves.
 use Prim.Native.Nat.{ℕ, _+_, _*_, _≤_}
-use mathlib.Core.Path.{_≡_, refl, sym, _∙_, ap}
+use mathlib.Core.Path.{_≡_, refl}
 use mathlib.Core.Bool.{Bool, true, false, cond, _&&_, _||_, or-false}
 use mathlib.Core.List.{List, []}
 use lib.Dec.{eqb, leb}
@@ -12,12 +12,9 @@ use Rattle.answer.specs.Answer.{number}
 use Rattle.hub.specs.declared.think.ThinkTime.{ThinkTime}
 use Rattle.hub.specs.declared.think.ThinkTime.the-variants as think
 use Rattle.hub.specs.ThinkTime.{thinkTime}
-use Rattle.hub.specs.Chain.{chainOk}
-use Rattle.def.specs.Speed.{HIGH, speedKnown}
+use Rattle.def.specs.Speed.{HIGH}
 use Rattle.configuration.specs.Lookup.{findEndpoints}
-use Rattle.configuration.specs.Valid.{validList}
-use Rattle.ring.specs.Rings.{ringOk, offerOk}
-use Rattle.transfer.specs.Routes.{routeOf}
+use Rattle.ring.specs.Rings.{offerOk}
 use Rattle.settings.specs.Held.{isHeld, isFound, settingWords}
 use Rattle.settings.specs.Match.{addressesFree}
 use Rattle.device.specs.Device.{listOf, cellsIn, heldOf, quarantinedOf}
@@ -35,7 +32,6 @@ use Rattle.device.specs.Check.{unless, recordCheck, isThought, hubCheck}
 use Rattle.device.specs.Calls.{onCheck}
 use Rattle.device.specs.Claim.{claimCheck}
 use Rattle.device.specs.Release.{releaseCheck}
-use Rattle.bring_up.specs.BringUp.{BringUp, bringUpCheck}
 use Rattle.slot.specs.Call.{Lent, Asked, bringsUp, claims, releases, configures, updatesHub}
 use Rattle.slot.specs.Plain.{Plain, heldAfter, isLoose, anew, observed}
 use Rattle.slot.specs.Theorem.{State}

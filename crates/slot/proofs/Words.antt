@@ -1,9 +1,9 @@
 -- The words that a call logged.
 use Prim.Native.Nat.{ℕ, _+_, _≤_, _<_}
-use mathlib.Core.Path.{_≡_, refl, sym, _∙_}
+use mathlib.Core.Path.{_≡_, _∙_}
 use mathlib.Core.List.{List}
 use native.Mathlib.Omega.{arith}
-use lib.ListN.{length, take, getD, length-take}
+use lib.ListN.{length, take, length-take}
 use lib.Seq.{sets, length-sets, getD-take, ext-getD}
 use Rattle.command.specs.Course.{Course, words, played}
 use Rattle.command.proofs.Laws.{sets-there}
