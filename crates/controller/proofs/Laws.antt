@@ -2,12 +2,12 @@
 use Prim.Native.Nat.{ℕ, zero, suc, _+_, _<_, _≤_}
 use mathlib.Core.Path.{_≡_, refl, sym, ap, _∙_}
 use mathlib.Core.Bool.{Bool, true, false, not, cond, _&&_, _||_}
-use mathlib.Core.List.{List}
+use mathlib.Core.List.{List, [], _∷_}
 use native.Mathlib.Nat.{add-zero, mul-zero}
 use native.Mathlib.Omega.{arith}
 use borrow.Author.Tests.{le-leb, lt-ltb}
 use lib.Dec.{eqb}
-use lib.ListN.{length, take}
+use lib.ListN.{length, take, getD}
 use Rattle.laws.proofs.Tests.{not-both}
 use Rattle.answer.specs.declared.Answer.{Answer}
 use Rattle.answer.specs.declared.Answer.the-variants as answer
@@ -27,7 +27,7 @@ use Rattle.field.specs.Field.{readField}
 use Rattle.block.specs.Fields.{DROP-FLAG, ADD-FLAG}
 use Rattle.block.specs.Promises.{someDci}
 use Rattle.context.specs.Place.{blockAt, readAt, written, CONTROL, Spaced}
-use Rattle.context.specs.Steps.{configureWrites}
+use Rattle.context.specs.Steps.{highestDci, configureWrites}
 use Rattle.context.proofs.Laws.{written-length}
 use Rattle.context.proofs.Added.{drop-flag-reads, add-flag-reads}
 use Rattle.transfer.specs.Routes.{Queue}
@@ -45,7 +45,7 @@ followed outcomes n (sends c ctx k) enabled =
     followed outcomes (n + 1) (k (outcomeAt outcomes n)) (applied c ctx (outcomeAt outcomes n) enabled)
 
 -- the log tells them, with the contexts of its commands
-controlled-by : {A : Type 0} (contexts : ℕ → List ℕ) (o : List ℕ) (n : ℕ) (c : Course A) (enabled : ℕ → Bool) →
+pub controlled-by : {A : Type 0} (contexts : ℕ → List ℕ) (o : List ℕ) (n : ℕ) (c : Course A) (enabled : ℕ → Bool) →
     ((i : ℕ) → i < length (words o n c) → contexts (n + i) ≡ contextAt o n i c) → EachCommand ByteOperands c →
     controlled contexts o n (words o n c) enabled ≡ followed o n c enabled
 unfolding controlled followed applied words contextAt EachCommand
@@ -66,6 +66,25 @@ pub controlled-course : {A : Type 0} (contextOf : A → List ℕ) (o : List ℕ)
     controlled (λ i. contextOf (result (take i o) n c)) o n (words o n c) enabled ≡ followed o n c enabled
 controlled-course contextOf o n c enabled t b =
     controlled-by (λ i. contextOf (result (take i o) n c)) o n c enabled (λ i h. cut-context contextOf o n i c t h) b
+
+-- whatever the contexts are, a log without a Configure changes nothing
+pub controlled-none : {A : Type 0} (contexts : ℕ → List ℕ) (o : List ℕ) (n : ℕ) (c : Course A) (enabled : ℕ → Bool) →
+    NoneOf CONFIGURE c → EachCommand ByteOperands c → controlled contexts o n (words o n c) enabled ≡ enabled
+unfolding controlled words EachCommand isDoneCommand
+controlled-none contexts o n (ends a) enabled e b = refl
+controlled-none contexts o n (sends c ctx k) enabled e b =
+    let none : isDoneCommand CONFIGURE c (outcomeAt o n) ≡ false = rw (e .0) in
+    let ws : List ℕ = words o (n + 1) (k (outcomeAt o n)) in
+    ap (λ x. controlled contexts o (n + 1) ws (cond x (configured (contexts n) enabled) enabled))
+    (done-word CONFIGURE o n c (b .0) ∙ none)
+    ∙ controlled-none contexts o (n + 1) (k (outcomeAt o n)) enabled (e .1 (outcomeAt o n)) (b .1 (outcomeAt o n))
+
+-- Dcis up to 31 are bytes
+pub dcis-bytes : (ds : List ℕ) → highestDci ds ≤ 31 → (k : ℕ) → getD ds k 0 < 256
+unfolding highestDci
+dcis-bytes [] h k = omega arith
+dcis-bytes (d ∷ ds) h zero = omega arith
+dcis-bytes (d ∷ ds) h (suc k) = dcis-bytes ds (omega arith) k
 
 -- one course after the other
 pub followed-then : {A B : Type 0} (o : List ℕ) (n : ℕ) (c : Course A) (f : A → Course B) (enabled : ℕ → Bool) →
@@ -136,7 +155,7 @@ module _ (s : ℕ) (ctx : List ℕ) (spaced : Spaced s (length ctx)) (d : ℕ) (
       first-block s after (ADD-FLAG d) ∙ add-flag-reads speed interface alternate dropped added qs dcis s ctx spaced d two h in
       rw (le-leb 2 d two, lt-ltb d 32 h, drops, adds, flag-set (someDci d dropped), flag-set (someDci d added))
 
--- dropped only
+-- a Configure that adds none
 pub drops-only : (was dropped : Bool) → ((was && not dropped) || false) ≡ (was && not dropped)
 drops-only true true = refl
 drops-only true false = refl
@@ -228,21 +247,21 @@ module _ {A : Type 0} (Q : A → (ℕ → Bool) → Type 0) (enabled : ℕ → B
   follows-other c e ctx done failed cut d f u =
       follows-sends c ctx done failed cut (rw (other-applied c ctx Done enabled e) d) f u
 
--- What an answer tells of an endpoint that was enabled or not: it is as an accepted call makes it, or, where that is undone, as it was.
-pub record Told (was made : Bool) (Undone : Type 0) (x : Answer) (now : Bool) : Type 0 where
+-- What an answer tells of whether an endpoint is enabled: accepted, it is as `made`; failed, it is as it `was`, given what an undoing needs.
+pub record Told (was made : Bool) (Given : Type 0) (x : Answer) (now : Bool) : Type 0 where
   pub accepted : x ≡ answer.Accepted → now ≡ made
-  pub failed : (code : ℕ) → x ≡ answer.Failed code → Undone → now ≡ was
+  pub failed : (code : ℕ) → x ≡ answer.Failed code → Given → now ≡ was
 
-module _ {was made : Bool} {Undone : Type 0} where
-  pub told-accepted : {now : Bool} → now ≡ made → Told was made Undone answer.Accepted now
+module _ {was made : Bool} {Given : Type 0} where
+  pub told-accepted : {now : Bool} → now ≡ made → Told was made Given answer.Accepted now
   unfolding number
   told-accepted e = record { accepted = λ a. e; failed = λ code f. absurd (omega (arith, ap number f)) }
 
-  pub told-failed : {code : ℕ} {now : Bool} → (Undone → now ≡ was) → Told was made Undone (answer.Failed code) now
+  pub told-failed : {code : ℕ} {now : Bool} → (Given → now ≡ was) → Told was made Given (answer.Failed code) now
   unfolding number
   told-failed u = record { accepted = λ a. absurd (omega (arith, ap number a)); failed = λ code f. u }
 
-  told-nothing : {x : Answer} {now : Bool} → 13 < number x → Told was made Undone x now
+  told-nothing : {x : Answer} {now : Bool} → 13 < number x → Told was made Given x now
   unfolding number
   told-nothing h =
       record {
@@ -251,14 +270,14 @@ module _ {was made : Bool} {Undone : Type 0} where
       }
 
   -- the other answers tell nothing
-  pub told-broken : {now : Bool} → Told was made Undone answer.InterfaceBroken now
+  pub told-broken : {now : Bool} → Told was made Given answer.InterfaceBroken now
   unfolding number
   told-broken = told-nothing (omega arith)
 
-  pub told-cut : {now : Bool} → Told was made Undone answer.Cut now
+  pub told-cut : {now : Bool} → Told was made Given answer.Cut now
   unfolding number
   told-cut = told-nothing (omega arith)
 
-  pub told-invalid : {now : Bool} → Told was made Undone answer.InvalidEndpoint now
+  pub told-invalid : {now : Bool} → Told was made Given answer.InvalidEndpoint now
   unfolding number
   told-invalid = told-nothing (omega arith)
