@@ -1,11 +1,10 @@
 -- The record of an accepted bring-up.
-use Prim.Native.Nat.{ℕ, _+_, _-_, _*_, _≤_}
-use mathlib.Core.Path.{_≡_, refl, ap, _∙_}
-use mathlib.Core.Bool.{Bool, true, false, not, _&&_, _||_}
-use mathlib.Core.List.{List, [], _∷_, _++_}
-use native.Mathlib.Omega.{arith}
+use Prim.Native.Nat.{ℕ, _-_, _≤_}
+use mathlib.Core.Path.{_≡_, refl, _∙_}
+use mathlib.Core.Bool.{Bool, true, false, not, _||_}
+use mathlib.Core.List.{[], _∷_}
 use borrow.Author.Tests.{eq-eqb, eqb-true, le-leb}
-use lib.Dec.{eqb, leb}
+use lib.Dec.{eqb}
 use lib.ListN.{length, take, replicate}
 use lib.Seq.{take-append-seam}
 use Rattle.laws.proofs.Distinct.{elem, distinct}
@@ -14,14 +13,14 @@ use Rattle.configuration.specs.Valid.{validList}
 use Rattle.ring.specs.Rings.{ringsOk}
 use Rattle.answer.specs.Answer.{number}
 use Rattle.endpoint.specs.Cells.{cellsFrom, cellsOf, noCells}
-use Rattle.endpoint.specs.Endpoint.{blank, addresses, addressesFit, padded}
+use Rattle.endpoint.specs.Endpoint.{addresses, addressesFit, padded}
 use Rattle.settings.specs.Held.{heldIn, interfacesOf, eachSetting, allFound, settingsSound}
 use Rattle.settings.specs.Match.{endpointsMatch}
 use Rattle.settings.proofs.Laws.{match-none}
 use Rattle.device.specs.declared.record.Device.{Device}
 use Rattle.device.specs.Device.{listOf, cellsIn, heldOf, quarantinedOf}
 use Rattle.device.specs.Sound.{placeSound, countsFit, ringsOf, allRings, ringsSound, sound}
-use Rattle.bring_up.specs.BringUp.{BringUp, Brought, spacingOf, broughtRecord, noDevice}
+use Rattle.bring_up.specs.BringUp.{BringUp, Brought, spacingOf, broughtRecord}
 use Rattle.bring_up.proofs.Checks.{Passed}
 use Rattle.bring_up.proofs.Lists.{valid-facts}
 

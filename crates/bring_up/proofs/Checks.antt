@@ -20,7 +20,7 @@ use Rattle.context.specs.Place.{Spaced}
 use Rattle.device.specs.declared.check.Check.{Check}
 use Rattle.device.specs.declared.check.Check.the-variants.{Pass, Refuse}
 use Rattle.device.proofs.Laws.{andThen}
-use Rattle.bring_up.specs.BringUp.{BringUp, spacingOf, lentCheck, deviceCheck, queueCheck, bringUpCheck}
+use Rattle.bring_up.specs.BringUp.{BringUp, spacingOf, slotCheck, deviceCheck, queueCheck, bringUpCheck}
 
 then-if : (b : Bool) (x y : Check) (a : Answer) (next : Check) → x ≡ andThen y next →
     cond b x (Refuse a) ≡ andThen (cond b y (Refuse a)) next
@@ -35,10 +35,10 @@ then-then (Refuse a) y z = refl
 
 module _ (a : BringUp) where
   -- what follows 11, 1, 2, 3
-  pub lent-then : (ctx routes log : ℕ) (next : Check) →
-      lentCheck a ctx routes log next ≡ andThen (lentCheck a ctx routes log Pass) next
-  unfolding lentCheck andThen
-  lent-then ctx routes log next =
+  pub slot-then : (ctx routes log : ℕ) (next : Check) →
+      slotCheck a ctx routes log next ≡ andThen (slotCheck a ctx routes log Pass) next
+  unfolding slotCheck andThen
+  slot-then ctx routes log next =
       then-if (leb 1 (a .slot) && (leb (a .slot) (a .n) && leb (a .n) 255)) _ _ answer.SlotLimitReached next
       (then-if (eqb ctx 1056 || eqb ctx 2112) _ _ answer.ContextLength next
       (then-if (eqb routes (32 * (a .n + 1))) _ _ answer.RoutesLength next
@@ -55,15 +55,15 @@ module _ (a : BringUp) where
 
   -- 17 comes after all others
   pub check-then : (ctx : ℕ) (routes : List ℕ) (log : ℕ) →
-      bringUpCheck a ctx routes log ≡ andThen (lentCheck a ctx (length routes) log (deviceCheck a Pass)) (queueCheck a routes)
+      bringUpCheck a ctx routes log ≡ andThen (slotCheck a ctx (length routes) log (deviceCheck a Pass)) (queueCheck a routes)
   unfolding bringUpCheck
   check-then ctx routes log =
       let q = queueCheck a routes in
       let n = length routes in
-      lent-then ctx n log (deviceCheck a q)
-      ∙ ap (λ x. andThen (lentCheck a ctx n log Pass) x) (device-then q)
-      ∙ then-then (lentCheck a ctx n log Pass) (deviceCheck a Pass) q
-      ∙ ap (λ x. andThen x q) (sym (lent-then ctx n log (deviceCheck a Pass)))
+      slot-then ctx n log (deviceCheck a q)
+      ∙ ap (λ x. andThen (slotCheck a ctx n log Pass) x) (device-then q)
+      ∙ then-then (slotCheck a ctx n log Pass) (deviceCheck a Pass) q
+      ∙ ap (λ x. andThen x q) (sym (slot-then ctx n log (deviceCheck a Pass)))
 
 -- What the checks before 17 say.
 pub record Passed (a : BringUp) (ctx routes log : ℕ) : Type 0 where
@@ -99,9 +99,9 @@ pass-if false x a e = let z : _≡_ {A = ℕ} 0 1 = cc in absurd (omega arith)
 
 module _ (a : BringUp) where
   -- what it says that they passed
-  pub passed : (ctx routes log : ℕ) (next : Check) → lentCheck a ctx routes log (deviceCheck a next) ≡ Pass →
+  pub passed : (ctx routes log : ℕ) (next : Check) → slotCheck a ctx routes log (deviceCheck a next) ≡ Pass →
       Passed a ctx routes log × (next ≡ Pass)
-  unfolding lentCheck deviceCheck
+  unfolding slotCheck deviceCheck
   passed ctx routes log next e =
       let s = leb 1 (a .slot) in
       let t = leb (a .slot) (a .n) in

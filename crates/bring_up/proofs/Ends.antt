@@ -1,8 +1,8 @@
 -- How the course of a bring-up ends.
-use Prim.Native.Nat.{ℕ, zero, suc, _+_, _<_, _≤_}
+use Prim.Native.Nat.{ℕ, zero, suc, _+_}
 use mathlib.Core.Path.{_≡_, refl, ap, _∙_}
 use mathlib.Core.Bool.{Bool, true, false, cond}
-use mathlib.Core.List.{List, [], _∷_}
+use mathlib.Core.List.{List, []}
 use native.Mathlib.Omega.{arith}
 use borrow.Author.Tests.{eqb-true, eq-eqb}
 use lib.Dec.{eqb}
@@ -17,7 +17,7 @@ use Rattle.command.specs.declared.Command.{Command}
 use Rattle.command.specs.declared.Sent.{Sent}
 use Rattle.command.specs.declared.Sent.the-variants as sent
 use Rattle.command.specs.Command.{outcomeAt}
-use Rattle.command.specs.Course.{Course, ends, onSent, words, result}
+use Rattle.command.specs.Course.{Course, ends, onSent, result}
 use Rattle.command.proofs.Cuts.{on-sent}
 use Rattle.command.proofs.Laws.{result-then}
 use Rattle.phase.specs.End.{End}

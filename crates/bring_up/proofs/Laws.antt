@@ -1,25 +1,26 @@
 -- What a bring-up leaves: refused, or with control's route registered.
-use Prim.Native.Nat.{ℕ, _+_, _*_, _<_, _≤_}
+use Prim.Native.Nat.{ℕ, _+_, _*_}
 use mathlib.Core.Path.{_≡_, refl, sym, ap, _∙_}
 use mathlib.Core.Bool.{Bool, true, false, cond, _&&_, _||_}
-use mathlib.Core.List.{List, [], _∷_}
+use mathlib.Core.List.{List, []}
 use mathlib.Core.Logic.{_⊎_, inl, inr}
 use native.Mathlib.Omega.{arith}
-use borrow.Author.Tests.{eqb-true, eq-eqb, ne-eqb}
+use borrow.Author.Tests.{eqb-true, eq-eqb, not-true}
 use lib.Dec.{eqb, leb}
 use lib.ListN.{length, getD, length-set}
 use lib.Seq.{getD-set-same, getD-set-other}
-use Rattle.laws.proofs.Tests.{not-both}
+use Rattle.laws.proofs.Tests.{not-both, and-left}
 use Rattle.def.specs.Speed.{speedKnown}
 use Rattle.configuration.specs.Valid.{configurations, validList}
 use Rattle.hub.specs.Chain.{chainOk}
 use Rattle.ring.specs.Rings.{ringOk}
-use Rattle.transfer.specs.Routes.{routeIndex, routeOf, withRoute, names, published, ringFor, Small, Outside}
+use Rattle.transfer.specs.Routes.{routeIndex, routeOf, withRoute, Outside}
 use Rattle.transfer.proofs.Laws.{index-inside}
 use Rattle.answer.specs.declared.Answer.{Answer}
 use Rattle.answer.specs.declared.Answer.the-variants as answer
 use Rattle.answer.specs.Answer.{number}
-use Rattle.command.specs.Course.{Played, played, result}
+use Rattle.command.specs.Course.{played, result}
+use Rattle.set_configuration.proofs.Laws.{AllDone}
 use Rattle.endpoint.specs.Cells.{noCells}
 use Rattle.device.specs.declared.check.Check.{Check}
 use Rattle.device.specs.declared.check.Check.the-variants.{Pass, Refuse}
@@ -28,9 +29,9 @@ use Rattle.device.specs.Device.{listOf, cellsIn, heldOf, quarantinedOf}
 use Rattle.device.specs.Left.{Left, refused, isAccepted, isBroken, isCut}
 use Rattle.device.specs.Sound.{sound}
 use Rattle.device.specs.Calls.{onCheck}
-use Rattle.bring_up.specs.BringUp.{BringUp, Brought, spacingOf, lentCheck, deviceCheck, queueCheck, bringUpCheck, bringUpCourse, broughtRecord, noDevice, broughtLeft, bringUp}
+use Rattle.bring_up.specs.BringUp.{BringUp, Brought, spacingOf, slotCheck, deviceCheck, queueCheck, bringUpCheck, bringUpCourse, broughtRecord, noDevice, broughtLeft, bringUp}
 use Rattle.bring_up.proofs.Checks.{Passed, passed, pass-if}
-use Rattle.bring_up.proofs.Ends.{EndFacts, course-facts}
+use Rattle.bring_up.proofs.Ends.{EndFacts, course-facts, course-done}
 use Rattle.bring_up.proofs.Accepted.{record-held, record-cells, record-quarantined, record-list, record-usable, usable-accepted, record-sound}
 
 -- An answer before any command: neither accepted nor 14 nor 15.
@@ -50,7 +51,7 @@ refuses-if false x next r h = r
 
 -- every refusal of a bring-up is one
 check-refuses : (a : BringUp) (ctx : ℕ) (routes : List ℕ) (log : ℕ) → Refuses (bringUpCheck a ctx routes log)
-unfolding bringUpCheck lentCheck deviceCheck queueCheck Refuses number
+unfolding bringUpCheck slotCheck deviceCheck queueCheck Refuses number
 check-refuses a ctx routes log =
     refuses-if (leb 1 (a .slot) && (leb (a .slot) (a .n) && leb (a .n) 255)) answer.SlotLimitReached _ (record { accepted = refl; broken = refl; cut = refl })
     (refuses-if (eqb ctx 1056 || eqb ctx 2112) answer.ContextLength _ (record { accepted = refl; broken = refl; cut = refl })
@@ -159,6 +160,10 @@ module _ (a : BringUp) (ctx routes log outcomes : List ℕ) where
   unfolding spacing end run broughtLeft played
   run-answer = refl
 
+  run-device : (run a ctx routes log outcomes) .device ≡ broughtRecord a (spacingOf (length ctx)) end
+  unfolding spacing end run broughtLeft played
+  run-device = refl
+
   run-table : (run a ctx routes log outcomes) .routes ≡ withRoute routes (a .slot) 1 (a .ring)
   unfolding spacing end run broughtLeft played
   run-table = facts .table
@@ -221,3 +226,46 @@ module _ (a : BringUp) (ctx routes log outcomes : List ℕ) where
       go r (inr e) =
           ap (λ x. getD x k 0) e
           ∙ getD-set-other routes (routeIndex (a .slot) 1) k (a .ring) 0 (λ p. index-inside (a .slot) 1 k (omega arith) h (sym p))
+
+  sound-of : (l : Left) → Refused ctx routes log l ⊎ Run l → (l .device .usable ≡ false) ⊎ (sound (l .device) ≡ true)
+  unfolding run broughtLeft noDevice
+  sound-of l (inl r) = inl (ap (λ (d : Device). d .usable) (r .device))
+  sound-of l (inr r) = go (l .device .usable) refl
+    where
+      go : (b : Bool) → l .device .usable ≡ b → (l .device .usable ≡ false) ⊎ (sound (l .device) ≡ true)
+      go false e = inl e
+      go true e =
+          let same : l .device ≡ broughtRecord a (spacingOf (length ctx)) end = ap (λ (x : Left). x .device) (r .left) ∙ run-device in
+          let yes : number (end .answer) ≡ 0 =
+          usable-accepted a (spacingOf (length ctx)) end (sym (ap (λ (d : Device). d .usable) same) ∙ e) in
+          inr (ap sound (ap (λ (x : Left). x .device) (r .left)) ∙ run-accepted (r .pass) (r .free) yes .is-sound)
+
+  -- the record is sound or not usable
+  pub bring-up-sound :
+      ((bringUp a ctx routes log outcomes) .device .usable ≡ false) ⊎ (sound ((bringUp a ctx routes log outcomes) .device) ≡ true)
+  bring-up-sound = sound-of (bringUp a ctx routes log outcomes) (bring-up-cases a ctx routes log outcomes)
+
+  -- with the checks passed, a header of eight bytes and every outcome done it is accepted
+  pub bring-up-done : bringUpCheck a (length ctx) routes (length log) ≡ Pass → a .header ≡ 8 →
+      AllDone outcomes 0 (8 + configurations (a .list)) → (bringUp a ctx routes log outcomes) .answer ≡ answer.Accepted
+  unfolding bringUp onCheck broughtLeft played
+  bring-up-done p e h = rw p (course-done a (spacingOf (length ctx)) ctx routes outcomes e h)
+
+-- the slot's own words after an accepted bring-up
+module _ (a : BringUp) (ctx routes log : List ℕ) (l : Left) (b : BroughtUp a ctx routes log l) where
+  -- control's
+  pub brought-control : routeOf (l .routes) (a .slot) 1 ≡ a .ring
+  unfolding routeOf withRoute routeIndex
+  brought-control =
+      rw (b .table) (getD-set-same routes (32 * a .slot + 1) (a .ring) 0 (omega (arith, b .pass .table, b .pass .slot-high)))
+
+  -- and the others
+  pub brought-others : (d : ℕ) → (d ≡ 1 → ⊥) → routeOf (l .routes) (a .slot) d ≡ routeOf routes (a .slot) d
+  unfolding routeOf withRoute routeIndex
+  brought-others d n =
+      rw (b .table) (getD-set-other routes (32 * a .slot + 1) (32 * a .slot + d) (a .ring) 0 (λ p. n (omega arith)))
+
+  -- control's ring is none that is 0
+  pub brought-ring : a .ring ≡ 0 → ⊥
+  unfolding ringOk
+  brought-ring e = not-both (eqb (a .ring) 0) (eq-eqb (a .ring) 0 e) (not-true (eqb (a .ring) 0) (and-left _ _ (b .pass .ring)))

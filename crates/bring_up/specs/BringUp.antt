@@ -54,8 +54,8 @@ unfoldable pub spacingOf : ℕ → ℕ
 spacingOf len = cond (eqb len 1056) 32 (cond (eqb len 2112) 64 0)
 
 -- 11, 1, 2, 3, then what follows.
-unfoldable pub lentCheck : BringUp → ℕ → ℕ → ℕ → Check → Check
-lentCheck a ctx routes log next =
+unfoldable pub slotCheck : BringUp → ℕ → ℕ → ℕ → Check → Check
+slotCheck a ctx routes log next =
     unless (leb 1 (a .slot) && (leb (a .slot) (a .n) && leb (a .n) 255)) answer.SlotLimitReached
     (unless (eqb ctx 1056 || eqb ctx 2112) answer.ContextLength
     (unless (eqb routes (32 * (a .n + 1))) answer.RoutesLength
@@ -75,7 +75,7 @@ queueCheck a routes = unless (eqb (routeOf routes (a .slot) 1) 0) answer.QueueFu
 
 -- 11, 1, 2, 3, 6, 4, 5, 10, 17.
 unfoldable pub bringUpCheck : BringUp → ℕ → List ℕ → ℕ → Check
-bringUpCheck a ctx routes log = lentCheck a ctx (length routes) log (deviceCheck a (queueCheck a routes))
+bringUpCheck a ctx routes log = slotCheck a ctx (length routes) log (deviceCheck a (queueCheck a routes))
 
 -- What was read of the device, or set: the configuration value, if any, and the words of the list.
 pub record Reading : Type 0 where

@@ -9,7 +9,7 @@ ghost use Prim.Native.Nat.{ℕ};
 ghost use lib.Dec.{eqb};
 ghost use Rattle.ring.specs.Rings.{ringOk};
 ghost use Rattle.device.specs.declared.check.Check.the-variants.{Pass};
-ghost use Rattle.bring_up.specs.BringUp.{bringUpOf, lentCheck, deviceCheck};
+ghost use Rattle.bring_up.specs.BringUp.{bringUpOf, slotCheck, deviceCheck};
 
 fn context_known(ctx: usize) -> bool
     ensures { λ r. ⌜ r ≡ (eqb ctx 1056 || eqb ctx 2112) ⌝ }
@@ -30,8 +30,8 @@ fn ring_ok(ring: u64) -> bool
 }
 
 // 11, 1, 2, 3.
-fn lent_check(a: BringUpArgs, ctx: usize, routes: usize, log: usize) -> Check
-    ensures { λ r. ⌜ ((hubs list : List ℕ) → r ≡ lentCheck (bringUpOf a hubs list) ctx routes log Pass) ⌝ }
+fn slot_check(a: BringUpArgs, ctx: usize, routes: usize, log: usize) -> Check
+    ensures { λ r. ⌜ ((hubs list : List ℕ) → r ≡ slotCheck (bringUpOf a hubs list) ctx routes log Pass) ⌝ }
 {
     let slot = a.slot.0 as usize;
     if slot < 1 {
@@ -83,9 +83,9 @@ pub fn bring_up_check(
     hubs: &[u64],
     list: &[u32],
 ) -> Check
-    ensures { λ r. ⌜ r ≡ lentCheck (bringUpOf a (now (hubs .entry)) (now (list .entry))) ctx routes log (deviceCheck (bringUpOf a (now (hubs .entry)) (now (list .entry))) Pass) ⌝ }
+    ensures { λ r. ⌜ (let b = bringUpOf a (now (hubs .entry)) (now (list .entry)) in r ≡ slotCheck b ctx routes log (deviceCheck b Pass)) ⌝ }
 {
-    let check = lent_check(a, ctx, routes, log);
+    let check = slot_check(a, ctx, routes, log);
     match check {
         Check::Refuse(x) => Check::Refuse(x),
         Check::Pass => device_check(a, hubs, list),

@@ -11,7 +11,7 @@ use device::Check;
 use transfer::Registered;
 ghost use mathlib.Core.Path.{_≡_};
 ghost use mathlib.Core.Bool.{true};
-ghost use Prim.Native.Nat.{ℕ, _≤_};
+ghost use Prim.Native.Nat.{_≤_};
 ghost use lib.ListN.{length};
 ghost use Rattle.configuration.specs.Valid.{validList};
 ghost use Rattle.command.specs.Course.{played};
@@ -63,7 +63,7 @@ fn register(
     requires { ⌜ Spaced (spacingOf (length (now ctx))) (length (now ctx)) ⌝ }
     requires { ⌜ (a .n ≤ 255) × (64 ≤ length (now log)) ⌝ }
     requires { ⌜ validList (now list) ≡ true ⌝ }
-    ensures { λ r. ⌜ leaves r (now (ctx .exit)) (now (routes .exit)) (now (log .exit)) ≡ onCheck (queueCheck (bringUpOf a (now (hubs .entry)) (now (list .entry))) (now (routes .entry))) (broughtLeft (bringUpOf a (now (hubs .entry)) (now (list .entry))) (spacingOf (length (now (ctx .entry)))) (played (now (outcomes .entry)) 0 (bringUpCourse (bringUpOf a (now (hubs .entry)) (now (list .entry))) (spacingOf (length (now (ctx .entry)))) (now (ctx .entry)) (now (routes .entry))) (now (log .entry)))) (λ x. refused noDevice x (now (ctx .entry)) (now (routes .entry)) (now (log .entry))) ⌝ }
+    ensures { λ r. ⌜ (let b = bringUpOf a (now (hubs .entry)) (now (list .entry)) in let spacing = spacingOf (length (now (ctx .entry))) in leaves r (now (ctx .exit)) (now (routes .exit)) (now (log .exit)) ≡ onCheck (queueCheck b (now (routes .entry))) (broughtLeft b spacing (played (now (outcomes .entry)) 0 (bringUpCourse b spacing (now (ctx .entry)) (now (routes .entry))) (now (log .entry)))) (λ x. refused noDevice x (now (ctx .entry)) (now (routes .entry)) (now (log .entry)))) ⌝ }
 {
     let r = transfer::register_queue(routes, a.slot, Dci(1), a.ring);
     match r {
@@ -97,7 +97,7 @@ fn run_bring_up(
     requires { ⌜ Spaced (spacingOf (length (now ctx))) (length (now ctx)) ⌝ }
     requires { ⌜ (a .n ≤ 255) × (64 ≤ length (now log)) ⌝ }
     requires { ⌜ validList (now list) ≡ true ⌝ }
-    ensures { λ r. ⌜ leaves r (now (ctx .exit)) (now (routes .exit)) (now (log .exit)) ≡ broughtLeft (bringUpOf a (now (hubs .entry)) (now (list .entry))) (spacingOf (length (now (ctx .entry)))) (played (now (outcomes .entry)) 0 (bringUpAddress (bringUpOf a (now (hubs .entry)) (now (list .entry))) (spacingOf (length (now (ctx .entry)))) (now (ctx .entry)) (now (routes .entry))) (now (log .entry))) ⌝ }
+    ensures { λ r. ⌜ (let b = bringUpOf a (now (hubs .entry)) (now (list .entry)) in let spacing = spacingOf (length (now (ctx .entry))) in leaves r (now (ctx .exit)) (now (routes .exit)) (now (log .exit)) ≡ broughtLeft b spacing (played (now (outcomes .entry)) 0 (bringUpAddress b spacing (now (ctx .entry)) (now (routes .entry))) (now (log .entry)))) ⌝ }
 {
     let spacing = spacing_of(ctx.len());
     let e = run::address(ctx, routes, log, outcomes, a, spacing, hubs, list);

@@ -1,6 +1,6 @@
 // The configurations of a descriptor list.
 ghost use mathlib.Core.Path.{_≡_};
-ghost use Prim.Native.Nat.{ℕ, _≤_};
+ghost use Prim.Native.Nat.{_≤_};
 ghost use lib.ListN.{length, getD, take};
 ghost use Rattle.descriptor.specs.Word.{configurationValue};
 ghost use Rattle.configuration.specs.Valid.{configurations};
@@ -23,7 +23,7 @@ pub fn count_configurations(list: &[u32]) -> usize
 }
 
 // How many words the first k configurations have.
-pub fn first_configurations(list: &[u32], k: usize) -> usize
+pub fn count_words(list: &[u32], k: usize) -> usize
     ensures { λ r. ⌜ (r ≤ length (now (list .entry))) × (firstConfigurations k (now (list .entry)) ≡ take r (now (list .entry))) ⌝ }
 {
     let mut left = k;

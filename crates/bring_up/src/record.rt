@@ -1,26 +1,17 @@
 // The record of a brought up device, and the empty one.
 use super::list;
+use super::run;
 use super::run::BringUpArgs;
 use super::run::Ended;
-use answer::Answer;
 use def::SlotId;
-use device::Called;
 use device::Device;
 use endpoint::Endpoint;
 use endpoint::Handle;
 ghost use mathlib.Core.Path.{_≡_};
 ghost use mathlib.Core.List.{List};
 ghost use Prim.Native.Nat.{ℕ, _≤_};
-ghost use lib.Dec.{eqb};
 ghost use lib.ListN.{length};
-ghost use Rattle.device.specs.Left.{isAccepted};
 ghost use Rattle.bring_up.specs.BringUp.{bringUpOf, leavesRead, broughtRecord, noDevice};
-
-fn accepted(answer: Answer) -> bool
-    ensures { λ r. ⌜ r ≡ isAccepted answer ⌝ }
-{
-    answer::answer_number(answer) == 0
-}
 
 // Unusable and otherwise empty.
 pub fn no_device() -> Device
@@ -59,12 +50,12 @@ pub fn brought_device(a: BringUpArgs, spacing: usize, e: Ended, list: &[u32]) ->
     requires { ⌜ (a .n ≤ 255) × (length (now list) ≤ 256) ⌝ }
     ensures { λ r. ⌜ ((hubs ctx routes log : List ℕ) → r ≡ broughtRecord (bringUpOf a hubs (now (list .entry))) spacing (leavesRead e (now (list .entry)) ctx routes log .end)) ⌝ }
 {
-    let words = list::first_configurations(list, e.configurations);
+    let words = list::count_words(list, e.configurations);
     let answer = e.answer;
     let slot = a.slot;
     let kept = list::first_words(list, words);
     let mut d = no_device();
-    d.usable = accepted(answer);
+    d.usable = run::accepted(answer);
     d.slot = slot;
     d.n = a.n as u8;
     d.spacing = spacing;

@@ -97,14 +97,14 @@ pub fn address(
     );
     let s = command::send(log, outcomes, 0, Command::Address);
     match s {
-        Sent::Done => header(ctx, routes, log, outcomes, a, spacing, list),
+        Sent::Done => read_header(ctx, routes, log, outcomes, a, spacing, list),
         Sent::Failed(code) => before_reading(Answer::Failed(code), 1),
         Sent::Cut => before_reading(Answer::Cut, 1),
     }
 }
 
 // Reads eight bytes of the device descriptor, the packet size among them.
-fn header(
+fn read_header(
     ctx: &mut [u8],
     routes: &mut [u64],
     log: &mut [u32],
@@ -124,7 +124,7 @@ fn header(
             if a.header != 8 {
                 return before_reading(Answer::ShortHeader, 2);
             }
-            packet(ctx, routes, log, outcomes, a, spacing, list)
+            max_packet(ctx, routes, log, outcomes, a, spacing, list)
         }
         Sent::Failed(code) => before_reading(Answer::Failed(code), 2),
         Sent::Cut => before_reading(Answer::Cut, 2),
@@ -132,7 +132,7 @@ fn header(
 }
 
 // Tells the controller the control endpoint's packet size.
-fn packet(
+fn max_packet(
     ctx: &mut [u8],
     routes: &mut [u64],
     log: &mut [u32],
@@ -149,14 +149,14 @@ fn packet(
     address_context::setup_max_packet(ctx, spacing, a.packet);
     let s = command::send(log, outcomes, 2, Command::Evaluate);
     match s {
-        Sent::Done => configuration(ctx, routes, log, outcomes, a, spacing, list),
+        Sent::Done => read_configuration(ctx, routes, log, outcomes, a, spacing, list),
         Sent::Failed(code) => before_reading(Answer::Failed(code), 3),
         Sent::Cut => before_reading(Answer::Cut, 3),
     }
 }
 
 // Reads the value of the configuration that is set now.
-fn configuration(
+fn read_configuration(
     ctx: &mut [u8],
     routes: &mut [u64],
     log: &mut [u32],
@@ -172,14 +172,14 @@ fn configuration(
 {
     let s = command::send(log, outcomes, 3, Command::ReadConfiguration);
     match s {
-        Sent::Done => device(ctx, routes, log, outcomes, a, spacing, list),
+        Sent::Done => read_device(ctx, routes, log, outcomes, a, spacing, list),
         Sent::Failed(code) => before_reading(Answer::Failed(code), 4),
         Sent::Cut => before_reading(Answer::Cut, 4),
     }
 }
 
 // Reads the device descriptor; a device without configurations is brought up then.
-fn device(
+fn read_device(
     ctx: &mut [u8],
     routes: &mut [u64],
     log: &mut [u32],
@@ -199,7 +199,7 @@ fn device(
             if list.len() == 0 {
                 return after_reading(Answer::Accepted, 5, a.value, 0);
             }
-            configurations(ctx, routes, log, outcomes, a, spacing, list)
+            read_configs(ctx, routes, log, outcomes, a, spacing, list)
         }
         Sent::Failed(code) => after_reading(Answer::Failed(code), 5, a.value, 0),
         Sent::Cut => after_reading(Answer::Cut, 5, a.value, 0),
@@ -207,7 +207,7 @@ fn device(
 }
 
 // Reads each configuration descriptor.
-fn configurations(
+fn read_configs(
     ctx: &mut [u8],
     routes: &mut [u64],
     log: &mut [u32],
@@ -240,11 +240,17 @@ fn configurations(
     set_first(ctx, routes, log, outcomes, 5 + i, a, spacing, list)
 }
 
-// The value of the first configuration, once it is set.
+pub fn accepted(answer: Answer) -> bool
+    ensures { λ r. ⌜ r ≡ isAccepted answer ⌝ }
+{
+    answer::answer_number(answer) == 0
+}
+
+// The configuration value after an answer: the first configuration's once it is set, else the one that was read.
 fn value_after(answer: Answer, first: u8, read: u8) -> u8
     ensures { λ r. ⌜ r ≡ cond (isAccepted answer) first read ⌝ }
 {
-    if answer::answer_number(answer) == 0 {
+    if accepted(answer) {
         return first;
     }
     read

@@ -11,7 +11,7 @@ use Rattle.bring_up.proofs.run.address.Reads as reads
 use Rattle.bring_up.proofs.run.address.Lts as lts
 use Rattle.address_context.proofs.address_context.Reads as address-context-reads
 use Rattle.bring_up.proofs.run.before_reading.Reads as before-reading-reads
-use Rattle.bring_up.proofs.run.header.Reads as header-reads
+use Rattle.bring_up.proofs.run.read_header.Reads as header-reads
 use Rattle.command.proofs.send.Reads as send-reads
 use Rattle.hub.proofs.route_string.Reads as route-string-reads
 use Rattle.hub.proofs.transaction_translator.Reads as transaction-translator-reads
@@ -31,8 +31,8 @@ send-requires c κs = search needs
 enum-told : tie.Need-enum-told
 enum-told c = search needs
 
-header-requires : tie.Need-header-requires
-header-requires c κs = (spaced-same (c .before .before .before .before .before .before .before .before .before .before .before .before .before .before .before .before .before .before .before .before .before .pre .0) (c .before .before .before .before .before .before .before .before .before .before .before .address-context .kept .0), (omega (arith, c .before .before .before .before .before .before .before .send .kept .0, c .before .before .before .before .before .before .before .before .before .before .before .before .before .before .before .before .before .before .before .before .before .pre .1 .0), c .before .before .before .before .before .before .before .before .before .before .before .before .before .before .before .before .before .before .before .before .before .pre .1 .1))
+read-header-requires : tie.Need-read-header-requires
+read-header-requires c κs = (spaced-same (c .before .before .before .before .before .before .before .before .before .before .before .before .before .before .before .before .before .before .before .before .before .pre .0) (c .before .before .before .before .before .before .before .before .before .before .before .address-context .kept .0), (omega (arith, c .before .before .before .before .before .before .before .send .kept .0, c .before .before .before .before .before .before .before .before .before .before .before .before .before .before .before .before .before .before .before .before .before .pre .1 .0), c .before .before .before .before .before .before .before .before .before .before .before .before .before .before .before .before .before .before .before .before .before .pre .1 .1))
 
 enum-known-s : tie.Need-enum-known-s
 enum-known-s c = search needs
@@ -57,7 +57,7 @@ same-length-3 c = search needs
 
 returns : tie.Need-returns
 unfolding bringUpAddress step onSent nothingRead
-returns c = rw (played-sends, ← c .before .before .before .before .before .before .before .before .before .before .before .before .before .before .send .ensures .1, ← c .before .before .before .before .before .before .before .before .before .before .before .before .before .before .send .ensures .0, c .before .before .before .before .before .before .before .before .before .before .enum-told .given .1, ← c .before .before .before .before .before .before .before .before .before .before .before .before .before .before .before .before .before .before .before .before .before .route-string .ensures, ← c .before .before .before .before .before .before .before .before .before .before .before .before .before .before .before .before .before .before .before .before .transaction-translator .ensures, ← c .before .before .before .before .before .before .before .before .before .before .before .before .before .before .before .before .before .before .address-context .ensures) (c .before .before .before .before .before .before .header .ensures (c .before .before .before .before .before .before .before .before .before .before .before .before .before .before .before .before .before .before .before .before .before .before .before .before .before .before .before .before .args .hubs .now))
+returns c = rw (played-sends, ← c .before .before .before .before .before .before .before .before .before .before .before .before .before .before .send .ensures .1, ← c .before .before .before .before .before .before .before .before .before .before .before .before .before .before .send .ensures .0, c .before .before .before .before .before .before .before .before .before .before .enum-told .given .1, ← c .before .before .before .before .before .before .before .before .before .before .before .before .before .before .before .before .before .before .before .before .before .route-string .ensures, ← c .before .before .before .before .before .before .before .before .before .before .before .before .before .before .before .before .before .before .before .before .transaction-translator .ensures, ← c .before .before .before .before .before .before .before .before .before .before .before .before .before .before .before .before .before .before .address-context .ensures) (c .before .before .before .before .before .before .read-header .ensures (c .before .before .before .before .before .before .before .before .before .before .before .before .before .before .before .before .before .before .before .before .before .before .before .before .before .before .before .before .args .hubs .now))
 
 same-length-4 : tie.Need-same-length-4
 same-length-4 c = search needs
@@ -88,7 +88,7 @@ address-spec =
     address-context-requires
     send-requires
     enum-told
-    header-requires
+    read-header-requires
     enum-known-s
     before-reading-requires
     enum-told-2

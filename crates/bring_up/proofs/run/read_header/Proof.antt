@@ -5,12 +5,12 @@ use Rattle.command.specs.Course.{onSent}
 use Rattle.command.proofs.Laws.{played-ends, played-sends}
 use borrow.Author.Tests.{eq-eqb, ne-eqb}
 use borrow.Author.Needs.{needs}
-use Rattle.bring_up.proofs.run.header.Statement.{statement}
-use Rattle.bring_up.proofs.run.header.Tie as tie
-use Rattle.bring_up.proofs.run.header.Reads as reads
-use Rattle.bring_up.proofs.run.header.Lts as lts
+use Rattle.bring_up.proofs.run.read_header.Statement.{statement}
+use Rattle.bring_up.proofs.run.read_header.Tie as tie
+use Rattle.bring_up.proofs.run.read_header.Reads as reads
+use Rattle.bring_up.proofs.run.read_header.Lts as lts
 use Rattle.bring_up.proofs.run.before_reading.Reads as before-reading-reads
-use Rattle.bring_up.proofs.run.packet.Reads as packet-reads
+use Rattle.bring_up.proofs.run.max_packet.Reads as packet-reads
 use Rattle.command.proofs.send.Reads as send-reads
 
 send-requires : tie.Need-send-requires
@@ -29,8 +29,8 @@ returns : tie.Need-returns
 unfolding bringUpHeader step onSent nothingRead
 returns c = λ hubs. rw (played-sends, ← c .before .before .before .before .before .before .before .send .ensures .1, ← c .before .before .before .before .before .before .before .send .ensures .0, c .before .before .before .enum-told .given .1, ne-eqb _ _ (c .before .if1 .taken), played-ends, c .before-reading .ensures, valid-facts _ (c .before .before .before .before .before .before .before .before .before .before .before .before .before .before .pre .1 .1) .none)
 
-packet-requires : tie.Need-packet-requires
-packet-requires c κs = (c .before .before .before .before .before .before .before .before .before .before .before .before .before .before .before .before .pre .0, (omega (arith, c .before .before .before .before .before .before .before .before .before .send .kept .0, c .before .before .before .before .before .before .before .before .before .before .before .before .before .before .before .before .pre .1 .0), c .before .before .before .before .before .before .before .before .before .before .before .before .before .before .before .before .pre .1 .1))
+max-packet-requires : tie.Need-max-packet-requires
+max-packet-requires c κs = (c .before .before .before .before .before .before .before .before .before .before .before .before .before .before .before .before .pre .0, (omega (arith, c .before .before .before .before .before .before .before .before .before .send .kept .0, c .before .before .before .before .before .before .before .before .before .before .before .before .before .before .before .before .pre .1 .0), c .before .before .before .before .before .before .before .before .before .before .before .before .before .before .before .before .pre .1 .1))
 
 enum-known-s : tie.Need-enum-known-s
 enum-known-s c = search needs
@@ -55,7 +55,7 @@ same-length-4 c = search needs
 
 returns-2 : tie.Need-returns-2
 unfolding bringUpHeader step onSent nothingRead
-returns-2 c = λ hubs. rw (played-sends, ← c .before .before .before .before .before .before .before .before .before .before .before .before .before .before .before .before .send .ensures .1, ← c .before .before .before .before .before .before .before .before .before .before .before .before .before .before .before .before .send .ensures .0, c .before .before .before .before .before .before .before .before .before .before .before .before .enum-told .given .1, eq-eqb _ _ (c .before .before .before .before .before .before .before .before .before .before .if1 .left)) (c .before .before .before .before .before .before .packet .ensures hubs)
+returns-2 c = λ hubs. rw (played-sends, ← c .before .before .before .before .before .before .before .before .before .before .before .before .before .before .before .before .send .ensures .1, ← c .before .before .before .before .before .before .before .before .before .before .before .before .before .before .before .before .send .ensures .0, c .before .before .before .before .before .before .before .before .before .before .before .before .enum-told .given .1, eq-eqb _ _ (c .before .before .before .before .before .before .before .before .before .before .if1 .left)) (c .before .before .before .before .before .before .max-packet .ensures hubs)
 
 same-length-5 : tie.Need-same-length-5
 same-length-5 c = search needs
@@ -71,8 +71,8 @@ returns-4 : tie.Need-returns-4
 unfolding bringUpHeader step onSent nothingRead
 returns-4 c = λ hubs. rw (played-sends, ← c .before .before .before .before .before .send .ensures .1, ← c .before .before .before .before .before .send .ensures .0, c .before .enum-told2 .given .1, played-ends, c .before-reading3 .ensures, valid-facts _ (c .before .before .before .before .before .before .before .before .before .before .before .before .pre .1 .1) .none)
 
-pub header-spec : {M : Type 1} → statement M
-header-spec =
+pub read-header-spec : {M : Type 1} → statement M
+read-header-spec =
     tie.close
     (tie.spec
     send-requires
@@ -80,7 +80,7 @@ header-spec =
     before-reading-requires
     same-length
     returns
-    packet-requires
+    max-packet-requires
     enum-known-s
     before-reading-requires-2
     enum-told-2

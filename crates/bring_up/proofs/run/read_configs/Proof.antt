@@ -10,10 +10,10 @@ use mathlib.Core.List.{List}
 use mathlib.Core.Path.{_≡_, sym, _∙_}
 use Prim.Native.Nat.{ℕ, _≤_, _-_, _+_}
 use native.Mathlib.Omega.{arith}
-use Rattle.bring_up.proofs.run.configurations.Statement.{statement}
-use Rattle.bring_up.proofs.run.configurations.Tie as tie
-use Rattle.bring_up.proofs.run.configurations.Reads as reads
-use Rattle.bring_up.proofs.run.configurations.Lts as lts
+use Rattle.bring_up.proofs.run.read_configs.Statement.{statement}
+use Rattle.bring_up.proofs.run.read_configs.Tie as tie
+use Rattle.bring_up.proofs.run.read_configs.Reads as reads
+use Rattle.bring_up.proofs.run.read_configs.Lts as lts
 use Rattle.bring_up.proofs.list.count_configurations.Reads as count-configurations-reads
 use Rattle.bring_up.proofs.run.after_reading.Reads as after-reading-reads
 use Rattle.bring_up.proofs.run.set_first.Reads as set-first-reads
@@ -103,8 +103,8 @@ same-length-5 c = search needs
 returns-3 : tie.Need-returns-3 Inv-loop μ-loop
 returns-3 c = λ hubs. c .before .before .before .before .before .before .set-first .ensures hubs ∙ sym (rw (← c .before .before .before .before .before .before .before .before .before .before .before .before .count-configurations .ensures) (c .before .before .before .before .before .before .before .before .before .before .before .loop .inv .3 hubs ∙ configs-end _ _ _ _ _ _ _ _ (c .before .before .before .before .before .before .before .before .before .before .loop-test .left)))
 
-pub configurations-spec : {M : Type 1} → statement M
-configurations-spec =
+pub read-configs-spec : {M : Type 1} → statement M
+read-configs-spec =
     tie.close
     (tie.spec
     Inv-loop

@@ -4,12 +4,12 @@ use native.Mathlib.Omega.{arith}
 use Rattle.command.specs.Course.{onSent}
 use Rattle.command.proofs.Laws.{played-ends, played-sends}
 use borrow.Author.Needs.{needs}
-use Rattle.bring_up.proofs.run.configuration.Statement.{statement}
-use Rattle.bring_up.proofs.run.configuration.Tie as tie
-use Rattle.bring_up.proofs.run.configuration.Reads as reads
-use Rattle.bring_up.proofs.run.configuration.Lts as lts
+use Rattle.bring_up.proofs.run.read_configuration.Statement.{statement}
+use Rattle.bring_up.proofs.run.read_configuration.Tie as tie
+use Rattle.bring_up.proofs.run.read_configuration.Reads as reads
+use Rattle.bring_up.proofs.run.read_configuration.Lts as lts
 use Rattle.bring_up.proofs.run.before_reading.Reads as before-reading-reads
-use Rattle.bring_up.proofs.run.device.Reads as device-reads
+use Rattle.bring_up.proofs.run.read_device.Reads as device-reads
 use Rattle.command.proofs.send.Reads as send-reads
 
 send-requires : tie.Need-send-requires
@@ -18,8 +18,8 @@ send-requires c κs = search needs
 enum-told : tie.Need-enum-told
 enum-told c = search needs
 
-device-requires : tie.Need-device-requires
-device-requires c κs = (c .before .before .before .before .before .before .before .before .before .before .before .before .before .before .pre .0, (omega (arith, c .before .before .before .before .before .before .before .send .kept .0, c .before .before .before .before .before .before .before .before .before .before .before .before .before .before .pre .1 .0), c .before .before .before .before .before .before .before .before .before .before .before .before .before .before .pre .1 .1))
+read-device-requires : tie.Need-read-device-requires
+read-device-requires c κs = (c .before .before .before .before .before .before .before .before .before .before .before .before .before .before .pre .0, (omega (arith, c .before .before .before .before .before .before .before .send .kept .0, c .before .before .before .before .before .before .before .before .before .before .before .before .before .before .pre .1 .0), c .before .before .before .before .before .before .before .before .before .before .before .before .before .before .pre .1 .1))
 
 enum-known-s : tie.Need-enum-known-s
 enum-known-s c = search needs
@@ -44,7 +44,7 @@ same-length-3 c = search needs
 
 returns : tie.Need-returns
 unfolding bringUpConfiguration step onSent nothingRead
-returns c = λ hubs. rw (played-sends, ← c .before .before .before .before .before .before .before .before .before .before .before .before .before .before .send .ensures .1, ← c .before .before .before .before .before .before .before .before .before .before .before .before .before .before .send .ensures .0, c .before .before .before .before .before .before .before .before .before .before .enum-told .given .1) (c .before .before .before .before .before .before .device .ensures hubs)
+returns c = λ hubs. rw (played-sends, ← c .before .before .before .before .before .before .before .before .before .before .before .before .before .before .send .ensures .1, ← c .before .before .before .before .before .before .before .before .before .before .before .before .before .before .send .ensures .0, c .before .before .before .before .before .before .before .before .before .before .enum-told .given .1) (c .before .before .before .before .before .before .read-device .ensures hubs)
 
 same-length-4 : tie.Need-same-length-4
 same-length-4 c = search needs
@@ -60,13 +60,13 @@ returns-3 : tie.Need-returns-3
 unfolding bringUpConfiguration step onSent nothingRead
 returns-3 c = λ hubs. rw (played-sends, ← c .before .before .before .before .before .send .ensures .1, ← c .before .before .before .before .before .send .ensures .0, c .before .enum-told2 .given .1, played-ends, c .before-reading2 .ensures, valid-facts _ (c .before .before .before .before .before .before .before .before .before .before .before .before .pre .1 .1) .none)
 
-pub configuration-spec : {M : Type 1} → statement M
-configuration-spec =
+pub read-configuration-spec : {M : Type 1} → statement M
+read-configuration-spec =
     tie.close
     (tie.spec
     send-requires
     enum-told
-    device-requires
+    read-device-requires
     enum-known-s
     before-reading-requires
     enum-told-2

@@ -1,8 +1,8 @@
 use borrow.Author.Needs.{needs}
-use Rattle.bring_up.proofs.record.accepted.Statement.{statement}
-use Rattle.bring_up.proofs.record.accepted.Tie as tie
-use Rattle.bring_up.proofs.record.accepted.Reads as reads
-use Rattle.bring_up.proofs.record.accepted.Lts as lts
+use Rattle.bring_up.proofs.run.accepted.Statement.{statement}
+use Rattle.bring_up.proofs.run.accepted.Tie as tie
+use Rattle.bring_up.proofs.run.accepted.Reads as reads
+use Rattle.bring_up.proofs.run.accepted.Lts as lts
 use Rattle.answer.proofs.answer_number.Reads as answer-number-reads
 
 answer-number-requires : tie.Need-answer-number-requires

@@ -4,12 +4,12 @@ use Rattle.command.specs.Course.{onSent}
 use Rattle.command.proofs.Laws.{played-ends, played-sends}
 use borrow.Author.Tests.{eq-eqb, ne-eqb}
 use borrow.Author.Needs.{needs}
-use Rattle.bring_up.proofs.run.device.Statement.{statement}
-use Rattle.bring_up.proofs.run.device.Tie as tie
-use Rattle.bring_up.proofs.run.device.Reads as reads
-use Rattle.bring_up.proofs.run.device.Lts as lts
+use Rattle.bring_up.proofs.run.read_device.Statement.{statement}
+use Rattle.bring_up.proofs.run.read_device.Tie as tie
+use Rattle.bring_up.proofs.run.read_device.Reads as reads
+use Rattle.bring_up.proofs.run.read_device.Lts as lts
 use Rattle.bring_up.proofs.run.after_reading.Reads as after-reading-reads
-use Rattle.bring_up.proofs.run.configurations.Reads as configurations-reads
+use Rattle.bring_up.proofs.run.read_configs.Reads as configurations-reads
 use Rattle.command.proofs.send.Reads as send-reads
 
 send-requires : tie.Need-send-requires
@@ -28,8 +28,8 @@ returns : tie.Need-returns
 unfolding bringUpDevice step onSent readUpTo
 returns c = λ hubs. rw (played-sends, ← c .before .before .before .before .before .before .send .ensures .1, ← c .before .before .before .before .before .before .send .ensures .0, c .before .before .enum-told .given .1, eq-eqb _ _ (c .before .if1 .taken), played-ends, c .after-reading .ensures)
 
-configurations-requires : tie.Need-configurations-requires
-configurations-requires c κs = (c .before .before .before .before .before .before .before .before .before .before .before .before .before .before .before .pre .0, (omega (arith, c .before .before .before .before .before .before .before .before .send .kept .0, c .before .before .before .before .before .before .before .before .before .before .before .before .before .before .before .pre .1 .0), c .before .before .before .before .before .before .before .before .before .before .before .before .before .before .before .pre .1 .1))
+read-configs-requires : tie.Need-read-configs-requires
+read-configs-requires c κs = (c .before .before .before .before .before .before .before .before .before .before .before .before .before .before .before .pre .0, (omega (arith, c .before .before .before .before .before .before .before .before .send .kept .0, c .before .before .before .before .before .before .before .before .before .before .before .before .before .before .before .pre .1 .0), c .before .before .before .before .before .before .before .before .before .before .before .before .before .before .before .pre .1 .1))
 
 enum-known-s : tie.Need-enum-known-s
 enum-known-s c = search needs
@@ -54,7 +54,7 @@ same-length-4 c = search needs
 
 returns-2 : tie.Need-returns-2
 unfolding bringUpDevice step onSent readUpTo
-returns-2 c = λ hubs. rw (played-sends, ← c .before .before .before .before .before .before .before .before .before .before .before .before .before .before .before .send .ensures .1, ← c .before .before .before .before .before .before .before .before .before .before .before .before .before .before .before .send .ensures .0, c .before .before .before .before .before .before .before .before .before .before .before .enum-told .given .1, ne-eqb _ _ (c .before .before .before .before .before .before .before .before .before .before .if1 .left)) (c .before .before .before .before .before .before .configurations .ensures hubs)
+returns-2 c = λ hubs. rw (played-sends, ← c .before .before .before .before .before .before .before .before .before .before .before .before .before .before .before .send .ensures .1, ← c .before .before .before .before .before .before .before .before .before .before .before .before .before .before .before .send .ensures .0, c .before .before .before .before .before .before .before .before .before .before .before .enum-told .given .1, ne-eqb _ _ (c .before .before .before .before .before .before .before .before .before .before .if1 .left)) (c .before .before .before .before .before .before .read-configs .ensures hubs)
 
 same-length-5 : tie.Need-same-length-5
 same-length-5 c = search needs
@@ -70,8 +70,8 @@ returns-4 : tie.Need-returns-4
 unfolding bringUpDevice step onSent readUpTo
 returns-4 c = λ hubs. rw (played-sends, ← c .before .before .before .before .before .send .ensures .1, ← c .before .before .before .before .before .send .ensures .0, c .before .enum-told2 .given .1, played-ends, c .after-reading3 .ensures)
 
-pub device-spec : {M : Type 1} → statement M
-device-spec =
+pub read-device-spec : {M : Type 1} → statement M
+read-device-spec =
     tie.close
     (tie.spec
     send-requires
@@ -79,7 +79,7 @@ device-spec =
     after-reading-requires
     same-length
     returns
-    configurations-requires
+    read-configs-requires
     enum-known-s
     after-reading-requires-2
     enum-told-2

@@ -5,13 +5,13 @@ use native.Mathlib.Omega.{arith}
 use Rattle.command.specs.Course.{onSent}
 use Rattle.command.proofs.Laws.{played-ends, played-sends}
 use borrow.Author.Needs.{needs}
-use Rattle.bring_up.proofs.run.packet.Statement.{statement}
-use Rattle.bring_up.proofs.run.packet.Tie as tie
-use Rattle.bring_up.proofs.run.packet.Reads as reads
-use Rattle.bring_up.proofs.run.packet.Lts as lts
+use Rattle.bring_up.proofs.run.max_packet.Statement.{statement}
+use Rattle.bring_up.proofs.run.max_packet.Tie as tie
+use Rattle.bring_up.proofs.run.max_packet.Reads as reads
+use Rattle.bring_up.proofs.run.max_packet.Lts as lts
 use Rattle.address_context.proofs.setup_max_packet.Reads as setup-max-packet-reads
 use Rattle.bring_up.proofs.run.before_reading.Reads as before-reading-reads
-use Rattle.bring_up.proofs.run.configuration.Reads as configuration-reads
+use Rattle.bring_up.proofs.run.read_configuration.Reads as configuration-reads
 use Rattle.command.proofs.send.Reads as send-reads
 
 setup-max-packet-requires : tie.Need-setup-max-packet-requires
@@ -23,8 +23,8 @@ send-requires c κs = search needs
 enum-told : tie.Need-enum-told
 enum-told c = search needs
 
-configuration-requires : tie.Need-configuration-requires
-configuration-requires c κs = (spaced-same (c .before .before .before .before .before .before .before .before .before .before .before .before .before .before .before .before .before .before .pre .0) (c .before .before .before .before .before .before .before .before .before .before .before .setup-max-packet .kept .0), (omega (arith, c .before .before .before .before .before .before .before .send .kept .0, c .before .before .before .before .before .before .before .before .before .before .before .before .before .before .before .before .before .before .pre .1 .0), c .before .before .before .before .before .before .before .before .before .before .before .before .before .before .before .before .before .before .pre .1 .1))
+read-configuration-requires : tie.Need-read-configuration-requires
+read-configuration-requires c κs = (spaced-same (c .before .before .before .before .before .before .before .before .before .before .before .before .before .before .before .before .before .before .pre .0) (c .before .before .before .before .before .before .before .before .before .before .before .setup-max-packet .kept .0), (omega (arith, c .before .before .before .before .before .before .before .send .kept .0, c .before .before .before .before .before .before .before .before .before .before .before .before .before .before .before .before .before .before .pre .1 .0), c .before .before .before .before .before .before .before .before .before .before .before .before .before .before .before .before .before .before .pre .1 .1))
 
 enum-known-s : tie.Need-enum-known-s
 enum-known-s c = search needs
@@ -49,7 +49,7 @@ same-length-3 c = search needs
 
 returns : tie.Need-returns
 unfolding bringUpPacket step onSent nothingRead
-returns c = λ hubs. rw (played-sends, ← c .before .before .before .before .before .before .before .before .before .before .before .before .before .before .send .ensures .1, ← c .before .before .before .before .before .before .before .before .before .before .before .before .before .before .send .ensures .0, c .before .before .before .before .before .before .before .before .before .before .enum-told .given .1, ← c .before .before .before .before .before .before .before .before .before .before .before .before .before .before .before .before .before .before .setup-max-packet .ensures) (c .before .before .before .before .before .before .configuration .ensures hubs)
+returns c = λ hubs. rw (played-sends, ← c .before .before .before .before .before .before .before .before .before .before .before .before .before .before .send .ensures .1, ← c .before .before .before .before .before .before .before .before .before .before .before .before .before .before .send .ensures .0, c .before .before .before .before .before .before .before .before .before .before .enum-told .given .1, ← c .before .before .before .before .before .before .before .before .before .before .before .before .before .before .before .before .before .before .setup-max-packet .ensures) (c .before .before .before .before .before .before .read-configuration .ensures hubs)
 
 same-length-4 : tie.Need-same-length-4
 same-length-4 c = search needs
@@ -71,14 +71,14 @@ returns-3 : tie.Need-returns-3
 unfolding bringUpPacket step onSent nothingRead
 returns-3 c = λ hubs. rw (played-sends, ← c .before .before .before .before .before .send .ensures .1, ← c .before .before .before .before .before .send .ensures .0, c .before .enum-told2 .given .1, ← c .before .before .before .before .before .before .before .before .before .setup-max-packet .ensures, played-ends, c .before-reading2 .ensures, valid-facts _ (c .before .before .before .before .before .before .before .before .before .before .before .before .before .before .before .before .pre .1 .1) .none)
 
-pub packet-spec : {M : Type 1} → statement M
-packet-spec =
+pub max-packet-spec : {M : Type 1} → statement M
+max-packet-spec =
     tie.close
     (tie.spec
     setup-max-packet-requires
     send-requires
     enum-told
-    configuration-requires
+    read-configuration-requires
     enum-known-s
     before-reading-requires
     enum-told-2

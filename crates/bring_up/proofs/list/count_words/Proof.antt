@@ -6,10 +6,10 @@ use borrow.Author.Needs.{needs}
 use Rattle.bring_up.proofs.Lists.{Counted}
 use lib.ListN.{length}
 use Prim.Native.Nat.{_-_, _+_}
-use Rattle.bring_up.proofs.list.first_configurations.Statement.{statement}
-use Rattle.bring_up.proofs.list.first_configurations.Tie as tie
-use Rattle.bring_up.proofs.list.first_configurations.Reads as reads
-use Rattle.bring_up.proofs.list.first_configurations.Lts as lts
+use Rattle.bring_up.proofs.list.count_words.Statement.{statement}
+use Rattle.bring_up.proofs.list.count_words.Tie as tie
+use Rattle.bring_up.proofs.list.count_words.Reads as reads
+use Rattle.bring_up.proofs.list.count_words.Lts as lts
 use Rattle.descriptor.proofs.word_kind.Reads as word-kind-reads
 
 abbrev Inv-loop : tie.InvT-loop
@@ -57,8 +57,8 @@ loop-again-2 c = counted-other _ _ _ _ (c .before .before .before .loop-test .ta
 returns-2 : tie.Need-returns-2 Inv-loop μ-loop
 returns-2 c = (c .before .loop .inv .inside, counted-end _ _ _ _ (c .before .loop .inv) (c .loop-test .left))
 
-pub first-configurations-spec : {M : Type 1} → statement M
-first-configurations-spec =
+pub count-words-spec : {M : Type 1} → statement M
+count-words-spec =
     tie.close
     (tie.spec
     Inv-loop
