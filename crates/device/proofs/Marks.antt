@@ -52,12 +52,17 @@ marked-kept a d n e h =
     other (inl l) g = omega arith
     other (inr l) g = omega arith
 
--- what holds of a call that runs and of each refusal holds of the call
+-- what holds of a call that runs after its checks, and of each refusal, holds of the call
+pub on-pass : (P : Left → Type 0) (k : Check) (run : Left) (refuse : Answer → Left) → (k ≡ Pass → P run) →
+    ((a : Answer) → P (refuse a)) → P (onCheck k run refuse)
+unfolding onCheck
+on-pass P Pass run refuse p q = p refl
+on-pass P (Refuse a) run refuse p q = q a
+
+-- and what holds of it whatever its checks say
 pub on-check : (P : Left → Type 0) (k : Check) (run : Left) (refuse : Answer → Left) → P run → ((a : Answer) → P (refuse a)) →
     P (onCheck k run refuse)
-unfolding onCheck
-on-check P Pass run refuse p q = p
-on-check P (Refuse a) run refuse p q = q a
+on-check P k run refuse p q = on-pass P k run refuse (λ e. p) q
 
 -- a hub update returns the record as it came, or marked unusable
 pub hub-update-sound : (d : Device) (ctx routes log outcomes : List ℕ) (ports : ℕ) (multi : Bool) (ns : ℕ) →

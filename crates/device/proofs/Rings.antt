@@ -2,13 +2,13 @@
 use Prim.Native.Nat.{ℕ, zero, suc, _+_, _≤_, _<_}
 use mathlib.Core.Path.{_≡_, refl, sym, ap, _∙_}
 use mathlib.Core.Logic.{_⊎_, inl, inr, ⊎-elim}
-use mathlib.Core.Bool.{Bool, true, false, not, cond, _&&_, _||_}
+use mathlib.Core.Bool.{Bool, true, false, cond}
 use mathlib.Core.List.{List, [], _∷_, _++_}
 use native.Mathlib.Decide.{decLt}
 use native.Mathlib.Omega.{arith}
-use borrow.Author.Tests.{eq-eqb, ne-eqb, eqb-true, eqb-false}
+use borrow.Author.Tests.{eqb-true, eqb-false}
 use lib.Dec.{eqb}
-use lib.ListN.{length, getD, set, take, drop, replicate, length-set, length-take, List·getD-eq-default, getD-replicate}
+use lib.ListN.{length, getD, set, take, drop, replicate, length-append, length-set, length-take, List·getD-eq-default, getD-replicate}
 use lib.Seq.{getD-take, getD-set-same, getD-set-other, set-out, take-nil}
 use Rattle.laws.proofs.Tests.{and-left, and-right, and-true, not-both}
 use Rattle.laws.proofs.Cases.{Decided, decided, false-if, or-right}
@@ -16,18 +16,18 @@ use Rattle.laws.proofs.Distinct.{elem, distinct, elem-none, elem-here, elem-cas
 use Rattle.descriptor.specs.Word.{endpointDescriptor}
 use Rattle.ring.specs.Rings.{ringOk, ringsOk}
 use Rattle.ring.proofs.Laws.{ring-at, ring-nonzero, disjoint-elem, Offered}
+use Rattle.transfer.specs.Routes.{Queue}
 use Rattle.endpoint.specs.declared.entry.Endpoint.{Endpoint}
 use Rattle.endpoint.specs.declared.cells.Cells.{Cells}
 use Rattle.endpoint.specs.declared.cells.Owner.the-variants.{Interface}
-use Rattle.endpoint.specs.Order.{placeOf}
+use Rattle.endpoint.specs.Order.{placeOf, dciAt}
 use Rattle.endpoint.specs.Endpoint.{blank, addresses, addressesFit}
-use Rattle.endpoint.specs.Cells.{Whole, noCells, withCell, isActive, cellsFrom, cellsOf, gathered, endpointAt, endpointsOf, isOwned, pendingFrom, pendingRings, claimedRing, claimedCells}
+use Rattle.endpoint.specs.Cells.{Whole, noCells, withCell, isActive, cellsFrom, cellsOf, gathered, endpointAt, endpointsOf, isOwned, pendingFrom, pendingRings, claimedRing, claimedCells, queuesOf, queueRings}
 use Rattle.endpoint.proofs.Laws.{no-place-low, claimed-ring}
-use Rattle.endpoint.proofs.Clean.{CleanCells, CellIs, clean-none, clean-of, cells-none, cells-at}
+use Rattle.endpoint.proofs.Clean.{CleanCells, clean-none, clean-of, cells-none, cells-at}
 use Rattle.device.specs.declared.record.Device.{Device}
 use Rattle.device.specs.Device.{cellsIn, quarantinedOf}
 use Rattle.device.specs.Sound.{ringsOf, allRings}
-use Rattle.device.proofs.Facts.{SoundFacts}
 use Rattle.device.proofs.Steps.{rings-length}
 
 -- Rings by place: each a nonzero multiple of 16, no two the same, none of them control's.
@@ -35,6 +35,10 @@ pub record Apart (rings : List ℕ) (control : ℕ) : Type 0 where
   pub ok : (p : ℕ) → p < 30 → (getD rings p 0 ≡ 0 → ⊥) → ringOk (getD rings p 0) ≡ true
   pub different : (p q : ℕ) → p < 30 → q < 30 → (getD rings p 0 ≡ 0 → ⊥) → getD rings p 0 ≡ getD rings q 0 → p ≡ q
   pub other : (p : ℕ) → p < 30 → (getD rings p 0 ≡ 0 → ⊥) → getD rings p 0 ≡ control → ⊥
+
+-- No place of one list has the ring of a place of another.
+abbrev pub Disjoint : List ℕ → List ℕ → Type 0
+Disjoint rings by = (p q : ℕ) → p < 30 → q < 30 → (getD rings p 0 ≡ 0 → ⊥) → getD rings p 0 ≡ getD by q 0 → ⊥
 
 -- Endpoints of arrays.
 
@@ -304,11 +308,10 @@ apart-offered words rings live control quarantined o =
     inside p t = omega (arith, t .inside, o .counted)
 
 -- None of them is live.
-offered-live :
+pub offered-live :
     (words rings live : List ℕ) (control : ℕ) (quarantined : List ℕ) →
     Offered (length words) rings live control quarantined → length live ≡ 30 →
-    (p q : ℕ) → p < 30 → q < 30 → (getD (pendingRings words rings) p 0 ≡ 0 → ⊥) →
-    getD (pendingRings words rings) p 0 ≡ getD live q 0 → ⊥
+    Disjoint (pendingRings words rings) live
 offered-live words rings live control quarantined o l p q h g z e =
     let t = pending-from words rings p h z in
     let r : elem (getD live q 0) rings ≡ true =
@@ -328,7 +331,7 @@ apart-none control =
 -- The rings after a claim: the pending ones, and the others' as before.
 module _ (i : ℕ) (pending : List ℕ) (c : Cells) (control : ℕ)
     (new : Apart pending control) (old : Apart (c .rings) control)
-    (cross : (p q : ℕ) → p < 30 → q < 30 → (getD pending p 0 ≡ 0 → ⊥) → getD pending p 0 ≡ getD (c .rings) q 0 → ⊥) where
+    (cross : Disjoint pending (c .rings)) where
   after : ℕ → ℕ
   after p = getD ((claimedCells i pending c) .rings) p 0
 
@@ -390,131 +393,189 @@ pub apart-released :
 apart-released i c control old =
     apart-after i (replicate 30 0) c control (apart-none control) old (λ p q h g z e. z (getD-replicate 30 p 0 0 h))
 
--- The live rings of the arrays that cells make.
-module _ (c : Cells) where
-  liveFrom : ℕ → ℕ → List ℕ
-  liveFrom k a = ringsOf (gathered (endpointAt c) (c .rings) k a)
+-- Rings by place as a list, by rising address.
+module _ (rings : List ℕ) where
+  placedFrom : ℕ → ℕ → List ℕ
+  placedFrom k a = gathered (λ p. getD rings p 0) rings k a
 
-  from-few : (k a : ℕ) → length (gathered (endpointAt c) (c .rings) k a) ≤ k
-  unfolding gathered
-  from-few zero a = omega arith
-  from-few (suc k) a = go (eqb (getD (c .rings) a 0) 0) (gathered (endpointAt c) (c .rings) k (a + 1)) (from-few k (a + 1))
-    where
-      go : (t : Bool) (l : List Endpoint) → length l ≤ k → length (cond t l (endpointAt c a ∷ l)) ≤ suc k
-      go true l h = omega arith
-      go false l h = omega arith
-
-  -- There are at most 30.
-  pub endpoints-few : length (endpointsOf c) ≤ 30
-  unfolding endpointsOf
-  endpoints-few = from-few 30 0
-
-  record Live (k a x : ℕ) : Type 0 where
+  -- Where a ring of the list stands.
+  record Placed (k a x : ℕ) : Type 0 where
     pub at : ℕ
     pub low : a ≤ at
     pub high : at < a + k
-    pub nonzero : getD (c .rings) at 0 ≡ 0 → ⊥
-    pub same : x ≡ getD (c .rings) at 0
+    pub nonzero : getD rings at 0 ≡ 0 → ⊥
+    pub same : x ≡ getD rings at 0
 
-  live-next :
-      (k a : ℕ) →
-      liveFrom (suc k) a
-      ≡ cond (eqb (getD (c .rings) a 0) 0) (liveFrom k (a + 1)) (getD (c .rings) a 0 ∷ liveFrom k (a + 1))
-  unfolding liveFrom gathered ringsOf endpointAt
-  live-next k a = go (eqb (getD (c .rings) a 0) 0) (gathered (endpointAt c) (c .rings) k (a + 1))
-    where
-      go :
-          (t : Bool) (l : List Endpoint) →
-          ringsOf (cond t l (endpointAt c a ∷ l)) ≡ cond t (ringsOf l) (getD (c .rings) a 0 ∷ ringsOf l)
-      go true l = refl
-      go false l = refl
+  placed-next :
+      (k a : ℕ) → placedFrom (suc k) a ≡ cond (eqb (getD rings a 0) 0) (placedFrom k (a + 1)) (getD rings a 0 ∷ placedFrom k (a + 1))
+  unfolding placedFrom gathered
+  placed-next k a = refl
 
-  live-last : (a : ℕ) → liveFrom zero a ≡ []
-  unfolding liveFrom gathered ringsOf
-  live-last a = refl
+  placed-last : (a : ℕ) → placedFrom zero a ≡ []
+  unfolding placedFrom gathered
+  placed-last a = refl
 
-  later : (k a x : ℕ) → Live k (a + 1) x → Live (suc k) a x
+  later : (k a x : ℕ) → Placed k (a + 1) x → Placed (suc k) a x
   later k a x t =
       record { at = t .at; low = omega (arith, t .low); high = omega (arith, t .high); nonzero = t .nonzero; same = t .same }
 
-  from-elem : (k a x : ℕ) → elem x (liveFrom k a) ≡ true → Live k a x
-  from-elem zero a x h = elem-none x (rw (live-last a) at h)
+  from-elem : (k a x : ℕ) → elem x (placedFrom k a) ≡ true → Placed k a x
+  from-elem zero a x h = elem-none x (rw (placed-last a) at h)
   from-elem (suc k) a x h =
-      go (decided (eqb (getD (c .rings) a 0) 0)) (from-elem k (a + 1) x) (rw (live-next k a) at h)
+      go (decided (eqb (getD rings a 0) 0)) (from-elem k (a + 1) x) (rw (placed-next k a) at h)
     where
-      here : eqb (getD (c .rings) a 0) 0 ≡ false → x ≡ getD (c .rings) a 0 → Live (suc k) a x
+      here : eqb (getD rings a 0) 0 ≡ false → x ≡ getD rings a 0 → Placed (suc k) a x
       here e s =
-          record { at = a; low = omega arith; high = omega arith; nonzero = eqb-false (getD (c .rings) a 0) 0 e; same = s }
+          record { at = a; low = omega arith; high = omega arith; nonzero = eqb-false (getD rings a 0) 0 e; same = s }
 
       go :
-          Decided (eqb (getD (c .rings) a 0) 0) → (elem x (liveFrom k (a + 1)) ≡ true → Live k (a + 1) x) →
-          elem x (cond (eqb (getD (c .rings) a 0) 0) (liveFrom k (a + 1)) (getD (c .rings) a 0 ∷ liveFrom k (a + 1))) ≡ true →
-          Live (suc k) a x
+          Decided (eqb (getD rings a 0) 0) → (elem x (placedFrom k (a + 1)) ≡ true → Placed k (a + 1) x) →
+          elem x (cond (eqb (getD rings a 0) 0) (placedFrom k (a + 1)) (getD rings a 0 ∷ placedFrom k (a + 1))) ≡ true →
+          Placed (suc k) a x
       go (inl e) f g = later k a x (f (rw e at g))
       go (inr e) f g =
           ⊎-elim (λ s. here e s) (λ s. later k a x (f s))
-          (elem-cases x (getD (c .rings) a 0) (liveFrom k (a + 1)) (rw e at g))
+          (elem-cases x (getD rings a 0) (placedFrom k (a + 1)) (rw e at g))
 
-  module _ (control : ℕ) (apart : Apart (c .rings) control) where
-    from-ok : (k a : ℕ) → a + k ≤ 30 → ringsOk (liveFrom k a) ≡ true
+  from-few : (k a : ℕ) → length (placedFrom k a) ≤ k
+  from-few zero a = rw (placed-last a) (omega arith)
+  from-few (suc k) a =
+      rw (placed-next k a) (go (eqb (getD rings a 0) 0) (placedFrom k (a + 1)) (from-few k (a + 1)))
+    where
+      go : (t : Bool) (l : List ℕ) → length l ≤ k → length (cond t l (getD rings a 0 ∷ l)) ≤ suc k
+      go true l h = omega arith
+      go false l h = omega arith
+
+  unfoldable pub placedRings : List ℕ
+  placedRings = gathered (λ p. getD rings p 0) rings 30 0
+
+  -- There are at most 30.
+  pub placed-few : length placedRings ≤ 30
+  unfolding placedRings placedFrom
+  placed-few = from-few 30 0
+
+  placed-elem : (x : ℕ) → elem x placedRings ≡ true → Placed 30 0 x
+  unfolding placedRings placedFrom
+  placed-elem x h = from-elem 30 0 x h
+
+  module _ (control : ℕ) (apart : Apart rings control) where
+    from-ok : (k a : ℕ) → a + k ≤ 30 → ringsOk (placedFrom k a) ≡ true
     unfolding ringsOk
-    from-ok zero a h = rw (live-last a)
+    from-ok zero a h = rw (placed-last a)
     from-ok (suc k) a h =
-        rw (live-next k a) (go (decided (eqb (getD (c .rings) a 0) 0)) (from-ok k (a + 1) (omega arith)))
+        rw (placed-next k a) (go (decided (eqb (getD rings a 0) 0)) (from-ok k (a + 1) (omega arith)))
       where
         go :
-            Decided (eqb (getD (c .rings) a 0) 0) → ringsOk (liveFrom k (a + 1)) ≡ true →
-            ringsOk (cond (eqb (getD (c .rings) a 0) 0) (liveFrom k (a + 1)) (getD (c .rings) a 0 ∷ liveFrom k (a + 1))) ≡ true
+            Decided (eqb (getD rings a 0) 0) → ringsOk (placedFrom k (a + 1)) ≡ true →
+            ringsOk (cond (eqb (getD rings a 0) 0) (placedFrom k (a + 1)) (getD rings a 0 ∷ placedFrom k (a + 1))) ≡ true
         go (inl e) f = rw e f
         go (inr e) f =
             rw e
-            (and-true (ringOk (getD (c .rings) a 0)) (ringsOk (liveFrom k (a + 1)))
-            (apart .ok a (omega arith) (eqb-false (getD (c .rings) a 0) 0 e)) f)
+            (and-true (ringOk (getD rings a 0)) (ringsOk (placedFrom k (a + 1)))
+            (apart .ok a (omega arith) (eqb-false (getD rings a 0) 0 e)) f)
 
-    from-distinct : (k a : ℕ) → a + k ≤ 30 → distinct (liveFrom k a) ≡ true
+    from-distinct : (k a : ℕ) → a + k ≤ 30 → distinct (placedFrom k a) ≡ true
     unfolding distinct
-    from-distinct zero a h = rw (live-last a)
+    from-distinct zero a h = rw (placed-last a)
     from-distinct (suc k) a h =
-        rw (live-next k a) (go (decided (eqb (getD (c .rings) a 0) 0)) (from-distinct k (a + 1) (omega arith)))
+        rw (placed-next k a) (go (decided (eqb (getD rings a 0) 0)) (from-distinct k (a + 1) (omega arith)))
       where
-        again : eqb (getD (c .rings) a 0) 0 ≡ false → elem (getD (c .rings) a 0) (liveFrom k (a + 1)) ≡ true → ⊥
+        again : eqb (getD rings a 0) 0 ≡ false → elem (getD rings a 0) (placedFrom k (a + 1)) ≡ true → ⊥
         again e g =
-            let t = from-elem k (a + 1) (getD (c .rings) a 0) g in
+            let t = from-elem k (a + 1) (getD rings a 0) g in
             omega (
               arith,
               t .low,
-              apart .different a (t .at) (omega arith) (omega (arith, t .high)) (eqb-false (getD (c .rings) a 0) 0 e) (t .same),
+              apart .different a (t .at) (omega arith) (omega (arith, t .high)) (eqb-false (getD rings a 0) 0 e) (t .same),
             )
 
         go :
-            Decided (eqb (getD (c .rings) a 0) 0) → distinct (liveFrom k (a + 1)) ≡ true →
-            distinct (cond (eqb (getD (c .rings) a 0) 0) (liveFrom k (a + 1)) (getD (c .rings) a 0 ∷ liveFrom k (a + 1))) ≡ true
+            Decided (eqb (getD rings a 0) 0) → distinct (placedFrom k (a + 1)) ≡ true →
+            distinct (cond (eqb (getD rings a 0) 0) (placedFrom k (a + 1)) (getD rings a 0 ∷ placedFrom k (a + 1))) ≡ true
         go (inl e) f = rw e f
         go (inr e) f =
             rw e
-            (distinct-cons (getD (c .rings) a 0) (liveFrom k (a + 1)) (false-if (elem (getD (c .rings) a 0) (liveFrom k (a + 1))) (again e)) f)
+            (distinct-cons (getD rings a 0) (placedFrom k (a + 1)) (false-if (elem (getD rings a 0) (placedFrom k (a + 1))) (again e)) f)
 
-    one-ok : ringOk control ≡ true → ringsOk (control ∷ []) ≡ true
-    unfolding ringsOk
-    one-ok e = and-true (ringOk control) true e refl
+    placed-ok : ringsOk placedRings ≡ true
+    unfolding placedRings placedFrom
+    placed-ok = from-ok 30 0 (omega arith)
 
-    one-distinct : distinct (control ∷ []) ≡ true
-    unfolding distinct elem
-    one-distinct = refl
+    placed-distinct : distinct placedRings ≡ true
+    unfolding placedRings placedFrom
+    placed-distinct = from-distinct 30 0 (omega arith)
 
-    not-control : (x : ℕ) → elem x (liveFrom 30 0) ≡ true → elem x (control ∷ []) ≡ false
-    not-control x h =
-        let t = from-elem 30 0 x h in
-        false-if (elem x (control ∷ []))
-        (λ g.
-        ⊎-elim (λ s. apart .other (t .at) (t .high) (t .nonzero) (sym (t .same) ∙ s)) (λ s. elem-none x s)
-        (elem-cases x control [] g))
+    placed-control : (x : ℕ) → elem x placedRings ≡ true → x ≡ control → ⊥
+    placed-control x h e = let t = placed-elem x h in apart .other (t .at) (t .high) (t .nonzero) (sym (t .same) ∙ e)
 
-    -- They and control's are sound.
-    pub rings-fit : ringOk control ≡ true →
-        (ringsOk (ringsOf (endpointsOf c) ++ (control ∷ [])) ≡ true) × (distinct (ringsOf (endpointsOf c) ++ (control ∷ [])) ≡ true)
-    unfolding endpointsOf liveFrom
-    rings-fit e = (
-      rings-ok-append (liveFrom 30 0) (control ∷ []) (from-ok 30 0 (omega arith)) (one-ok e),
-      distinct-append (liveFrom 30 0) (control ∷ []) (from-distinct 30 0 (omega arith)) one-distinct not-control,
-    )
+-- Live rings, control's and quarantined ones together are sound.
+module _ (rings by : List ℕ) (control : ℕ) (ok : ringOk control ≡ true)
+    (live : Apart rings control) (kept : Apart by control) (cross : Disjoint by rings) where
+  -- Nonzero multiples of 16.
+  pub all-ok : ringsOk (placedRings rings ++ (control ∷ placedRings by)) ≡ true
+  unfolding ringsOk
+  all-ok =
+      rings-ok-append (placedRings rings) (control ∷ placedRings by) (placed-ok rings control live)
+      (and-true (ringOk control) (ringsOk (placedRings by)) ok (placed-ok by control kept))
+
+  -- Distinct.
+  pub all-distinct : distinct (placedRings rings ++ (control ∷ placedRings by)) ≡ true
+  all-distinct =
+      distinct-append (placedRings rings) (control ∷ placedRings by) (placed-distinct rings control live)
+      (distinct-cons control (placedRings by)
+      (false-if (elem control (placedRings by)) (λ h. placed-control by control kept control h refl)) (placed-distinct by control kept))
+      (λ x h. false-if (elem x (control ∷ placedRings by)) (λ g. ⊎-elim (placed-control rings control live x h) (both x h) (elem-cases x control (placedRings by) g)))
+    where
+      both : (x : ℕ) → elem x (placedRings rings) ≡ true → elem x (placedRings by) ≡ true → ⊥
+      both x h g =
+          let t = placed-elem rings x h in
+          let r = placed-elem by x g in
+          cross (r .at) (t .at) (r .high) (t .high) (r .nonzero) (sym (r .same) ∙ t .same)
+
+  -- At most 61.
+  pub all-few : length (placedRings rings ++ (control ∷ placedRings by)) ≤ 61
+  all-few = simp length-append (omega (arith, placed-few rings, placed-few by))
+
+-- No rings are none.
+pub placed-none : placedRings (replicate 30 0) ≡ []
+unfolding placedRings gathered
+placed-none = refl
+
+-- The rings of the arrays that cells make.
+module _ (c : Cells) where
+  from-rings : (k a : ℕ) → ringsOf (gathered (endpointAt c) (c .rings) k a) ≡ gathered (λ p. getD (c .rings) p 0) (c .rings) k a
+  unfolding gathered ringsOf endpointAt
+  from-rings zero a = refl
+  from-rings (suc k) a = go (eqb (getD (c .rings) a 0) 0) _ _ (from-rings k (a + 1))
+    where
+      go :
+          (t : Bool) (l : List Endpoint) (m : List ℕ) → ringsOf l ≡ m →
+          ringsOf (cond t l (endpointAt c a ∷ l)) ≡ cond t m (getD (c .rings) a 0 ∷ m)
+      go true l m e = e
+      go false l m e = rw e
+
+  pub endpoint-rings : ringsOf (endpointsOf c) ≡ placedRings (c .rings)
+  unfolding endpointsOf placedRings
+  endpoint-rings = from-rings 30 0
+
+  -- There are at most 30 endpoints.
+  pub endpoints-few : length (endpointsOf c) ≤ 30
+  endpoints-few = rw (← rings-length (endpointsOf c), endpoint-rings) (placed-few (c .rings))
+
+-- The rings of queues by place.
+queue-from :
+    (by : List ℕ) (k a : ℕ) →
+    queueRings (gathered (λ p. record { dci = dciAt p; ring = getD by p 0 }) by k a) ≡ gathered (λ p. getD by p 0) by k a
+unfolding gathered queueRings
+queue-from by zero a = refl
+queue-from by (suc k) a = go (eqb (getD by a 0) 0) _ _ (queue-from by k (a + 1))
+  where
+    go :
+        (t : Bool) (l : List Queue) (m : List ℕ) → queueRings l ≡ m →
+        queueRings (cond t l (record { dci = dciAt a; ring = getD by a 0 } ∷ l)) ≡ cond t m (getD by a 0 ∷ m)
+    go true l m e = e
+    go false l m e = rw e
+
+pub queue-rings : (by : List ℕ) → queueRings (queuesOf by) ≡ placedRings by
+unfolding queuesOf placedRings
+queue-rings by = queue-from by 30 0

@@ -1,7 +1,7 @@
 -- What an update makes of what a record says.
 use Prim.Native.Nat.{ℕ, _-_}
-use mathlib.Core.Path.{_≡_, refl, sym, _∙_}
-use mathlib.Core.Bool.{Bool, true, false}
+use mathlib.Core.Path.{_≡_, refl, sym, ap, _∙_}
+use mathlib.Core.Bool.{true}
 use mathlib.Core.List.{List, _++_}
 use lib.ListN.{length, take, replicate}
 use lib.Seq.{take-append-seam}
@@ -194,6 +194,10 @@ module _ (rings : List ℕ) (d : Device) where
   pub with-quarantined-quarantined : quarantinedOf (withQuarantined rings d) ≡ quarantinedOf d ++ rings
   unfolding withQuarantined quarantinedOf
   with-quarantined-quarantined = take-padded 61 0 (quarantinedOf d ++ rings)
+
+  pub with-quarantined-count-of : (withQuarantined rings d) .«quarantined_count» ≡ length (quarantinedOf (withQuarantined rings d))
+  unfolding withQuarantined
+  with-quarantined-count-of = ap length (sym (with-quarantined-quarantined))
 
 -- The mark.
 module _ (d : Device) where
