@@ -45,7 +45,8 @@ use Rattle.device.specs.Check.{recordCheck}
 use Rattle.device.specs.Calls.{onCheck}
 use Rattle.device.specs.Claim.{claimCheck, pendingOf, claimIn, claimRecord, claim}
 use Rattle.device.proofs.Laws.{Passed, passed, pass-if}
-use Rattle.device.proofs.Kept.{isLost, claim-moves, claim-stays}
+use Rattle.device.proofs.Made.{isLost}
+use Rattle.device.proofs.Kept.{claim-moves, claim-stays}
 use Rattle.slot.specs.Call.{Lent, Asked, claims, left}
 use Rattle.slot.specs.Plain.{Setting, Plain, plainRoute, isHeldDci, without, settingOf, heldAfter, anew, observed}
 use Rattle.slot.specs.Theorem.{State, cutAt, contextCut, called}

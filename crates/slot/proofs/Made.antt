@@ -19,7 +19,7 @@ use Rattle.routing.specs.Routing.{RoutedBy}
 use Rattle.routing.proofs.Laws.{low-kept, outside-kept, length-kept}
 use Rattle.device.specs.declared.record.Device.{Device}
 use Rattle.device.specs.Device.{cellsIn}
-use Rattle.device.proofs.Kept.{Made}
+use Rattle.device.proofs.Made.{Made}
 use Rattle.slot.specs.Plain.{Setting, Plain, isHeldDci}
 use Rattle.slot.specs.Theorem.{State}
 use Rattle.slot.proofs.Settings.{AllFit, fit-other, pairs}
@@ -41,7 +41,7 @@ made-live slot d e p q hs c lost m n l same held fits =
     let u : e .usable ≡ true = m .usable ∙ rw n in
     record {
       usable = u;
-      is-sound = m .is-sound u;
+      is-sound = m .is-sound;
       place = ap (λ x. x .0) (m .same .slot) ∙ l .place;
       list = m .same .list ∙ l .list ∙ sym same;
       held = held ∙ sym (m .held);

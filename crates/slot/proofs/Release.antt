@@ -39,7 +39,8 @@ use Rattle.device.specs.Left.{Left, refused, ended}
 use Rattle.device.specs.Check.{recordCheck}
 use Rattle.device.specs.Release.{releaseCheck, releaseIn, releaseRecord, release}
 use Rattle.device.proofs.Laws.{Passed, passed}
-use Rattle.device.proofs.Kept.{isLost, release-moves, release-stays}
+use Rattle.device.proofs.Made.{isLost}
+use Rattle.device.proofs.Kept.{release-moves, release-stays}
 use Rattle.slot.specs.Call.{Lent, Asked, releases, left}
 use Rattle.slot.specs.Plain.{Plain, isHeldDci, without, holds, heldAfter, isLoose, anew}
 use Rattle.slot.specs.Theorem.{State, cutAt, contextCut, called}
