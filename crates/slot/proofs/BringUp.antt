@@ -22,7 +22,7 @@ module _ (slot : ℕ) (before : List ℕ) (s : State) (lent : Lent) (a : BringUp
   now = called s (record { asked = bringsUp a; lent = lent })
 
   mild : (x : Answer) → Refusal x → Mild x
-  mild x r = (r .accepted, rw (r .broken, r .cut) refl)
+  mild x r = (r .accepted, simp (r .broken, r .cut))
 
   module _ (r : Refused (lent .ctx) (s .routes) (lent .log) (bringUp a (lent .ctx) (s .routes) (lent .log) (lent .outcomes))) where
     plain-same : now .plain ≡ s .plain

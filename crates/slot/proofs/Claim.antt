@@ -48,11 +48,11 @@ use Rattle.device.proofs.Laws.{Passed, passed, pass-if}
 use Rattle.device.proofs.Made.{isLost}
 use Rattle.device.proofs.Kept.{claim-moves, claim-stays}
 use Rattle.slot.specs.Call.{Lent, Asked, claims, left}
-use Rattle.slot.specs.Plain.{Setting, Plain, plainRoute, isHeldDci, without, settingOf, heldAfter, anew, observed}
+use Rattle.slot.specs.Plain.{Setting, Plain, plainRoute, isHeldDci, without, settingOf, heldAfter, anew, observed, seen, isAccepted}
 use Rattle.slot.specs.Theorem.{State, cutAt, contextCut, called}
 use Rattle.slot.proofs.Settings.{last-ring, AllFit, pairs, pairs-append, pairs-without, fit-without, fit-append, alternate-byte}
 use Rattle.slot.proofs.Good.{Good, Live, live-tells, routed-from, enabled-was, live-here}
-use Rattle.slot.proofs.Step.{accepted-not, lost-not, checked, good-checked, mild-claim, seen, ran, checked-ran}
+use Rattle.slot.proofs.Step.{accepted-not, lost-not, checked, good-checked, mild-claim, ran, checked-ran}
 use Rattle.slot.proofs.Made.{fit-active, now-tells, made-moved, made-same, byte-dcis}
 use Rattle.slot.proofs.Claimed.{some-place, owned-ring, free-ring, fits-other, fits-own, pending-free, claimed-some}
 
@@ -206,7 +206,7 @@ module _ (slot : ℕ) (before : List ℕ) (s : State) (lent : Lent) (i a : ℕ) 
 
     -- Otherwise it is as it was.
     stayed-good :
-        end .moved ≡ false → eqb (number (end .answer)) 0 ≡ false →
+        end .moved ≡ false → isAccepted (end .answer) ≡ false →
         (now .plain .broken ≡ false → now .plain .loose ≡ false → (x : ℕ) → 2 ≤ x → x < 32 →
         now .plain .enabled x ≡ isHeldDci p x) →
         Good slot before now
@@ -238,15 +238,15 @@ module _ (slot : ℕ) (before : List ℕ) (s : State) (lent : Lent) (i a : ℕ) 
     unfolding now ran seen end course number
     ended-good (inl e) m = accepted-good e
     ended-good (inr (inl (code, e))) m =
-        let n : eqb (number (end .answer)) 0 ≡ false = rw e refl in
+        let n : isAccepted (end .answer) ≡ false = rw e refl in
         stayed-good (false-if (end .moved) (λ t. accepted-not n (m .0 t))) n
         (λ b f. failed-enabled code e (or-left-false (p .broken) _ b) (or-left-false (p .loose) _ f))
     ended-good (inr (inr (inl e))) m =
-        let n : eqb (number (end .answer)) 0 ≡ false = rw e refl in
+        let n : isAccepted (end .answer) ≡ false = rw e refl in
         stayed-good (false-if (end .moved) (λ t. accepted-not n (m .0 t))) n
         (λ b f. lost-not (end .answer) (rw e refl) (or-right-false (p .broken) _ b))
     ended-good (inr (inr (inr e))) m =
-        let n : eqb (number (end .answer)) 0 ≡ false = rw e refl in
+        let n : isAccepted (end .answer) ≡ false = rw e refl in
         stayed-good (false-if (end .moved) (λ t. accepted-not n (m .0 t))) n
         (λ b f. lost-not (end .answer) (rw e refl) (or-right-false (p .broken) _ b))
 
@@ -316,7 +316,7 @@ module _ (slot : ℕ) (before : List ℕ) (s : State) (lent : Lent) (i a : ℕ) 
       someDci x (settingWords (p .list) i a) ≡ true → someDci 1 (settingWords (p .list) i a) ≡ false →
       routeOf ((left asked lent d (s .routes)) .routes) slot x
       ≡ ringFor x (queues (wordDcis (settingWords (p .list) i a)) rings) 0
-  unfolding called observed anew heldAfter number plainRoute settingOf
+  unfolding called observed anew seen heldAfter number plainRoute settingOf
   claim-routes e x h w z =
       let ws = settingWords (p .list) i a in
       let next = called s (record { asked = asked; lent = lent }) in

@@ -22,10 +22,10 @@ use Rattle.device.specs.Calls.{onCheck, hubContext, hubCourse, hubLeft, hubUpda
 use Rattle.device.proofs.Facts.{unusable-not}
 use Rattle.device.proofs.Laws.{passed}
 use Rattle.slot.specs.Call.{Lent, Asked, updatesHub, left}
-use Rattle.slot.specs.Plain.{heldAfter, anew, observed}
+use Rattle.slot.specs.Plain.{heldAfter, anew, observed, seen}
 use Rattle.slot.specs.Theorem.{State, cutAt, contextCut, called}
 use Rattle.slot.proofs.Good.{Good, Live, good-same, live-or}
-use Rattle.slot.proofs.Step.{checked, good-checked, mild-hub, seen}
+use Rattle.slot.proofs.Step.{checked, good-checked, mild-hub}
 use Rattle.slot.proofs.Words.{taken-words}
 
 module _ (slot : ℕ) (before : List ℕ) (s : State) (lent : Lent) (ports : ℕ) (multi : Bool) (ns : ℕ) (g : Good slot before s) where

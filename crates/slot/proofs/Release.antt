@@ -42,11 +42,11 @@ use Rattle.device.proofs.Laws.{Passed, passed}
 use Rattle.device.proofs.Made.{isLost}
 use Rattle.device.proofs.Kept.{release-moves, release-stays}
 use Rattle.slot.specs.Call.{Lent, Asked, releases, left}
-use Rattle.slot.specs.Plain.{Plain, isHeldDci, without, holds, heldAfter, isLoose, anew}
+use Rattle.slot.specs.Plain.{Plain, isHeldDci, without, holds, heldAfter, isLoose, anew, seen, isAccepted}
 use Rattle.slot.specs.Theorem.{State, cutAt, contextCut, called}
 use Rattle.slot.proofs.Settings.{AllFit, pairs, pairs-holds, pairs-without, fit-without}
 use Rattle.slot.proofs.Good.{Good, Live, live-tells, routed-from, enabled-was, live-here}
-use Rattle.slot.proofs.Step.{lost-not, checked, good-checked, mild-release, seen, ran, checked-ran}
+use Rattle.slot.proofs.Step.{lost-not, checked, good-checked, mild-release, ran, checked-ran}
 use Rattle.slot.proofs.Made.{fit-active, now-tells, made-moved, made-same, byte-dcis}
 use Rattle.slot.proofs.Claimed.{some-place, fits-other, claimed-some}
 
@@ -212,7 +212,7 @@ module _ (slot : ℕ) (before : List ℕ) (s : State) (lent : Lent) (i : ℕ) (b
     unfolding now ran seen heldAfter end course
     stayed-good v e =
         let m = release-stays d _ _ _ i k end (v .kept) in
-        let n : eqb (number (end .answer)) 0 ≡ false = ne-eqb (number (end .answer)) 0 (λ z. omega (arith, v .refused, z)) in
+        let n : isAccepted (end .answer) ≡ false = ne-eqb (number (end .answer)) 0 (λ z. omega (arith, v .refused, z)) in
         let held : now .plain .held ≡ p .held = rw n refl in
         made-same slot before s now g l (heldOf d) (withActive (Interface i) (end .active) (cellsIn d)) (isLost (end .answer)) m refl refl
         (ap pairs held ∙ l .held) (rw held (fit-active (Interface i) (end .active) (cellsIn d) (p .held) (l .fits))) (v .left)

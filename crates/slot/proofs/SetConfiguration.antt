@@ -1,7 +1,7 @@
 -- A set configuration keeps the invariant.
 use Prim.Native.Nat.{ℕ, _≤_, _<_}
 use mathlib.Core.Path.{_≡_, refl, sym, _∙_, ap}
-use mathlib.Core.Bool.{Bool, true, false, not, _&&_, _||_}
+use mathlib.Core.Bool.{Bool, true, false, not, _&&_, _||_, cond}
 use mathlib.Core.List.{List, [], _∷_, _++_}
 use mathlib.Core.Logic.{_⊎_, inl, inr}
 use native.Mathlib.Omega.{arith}
@@ -46,11 +46,11 @@ use Rattle.device.proofs.Laws.{Passed, passed}
 use Rattle.device.proofs.Made.{isLost}
 use Rattle.device.proofs.Kept.{set-moves, set-stays}
 use Rattle.slot.specs.Call.{Lent, Asked, configures, left}
-use Rattle.slot.specs.Plain.{Plain, heldQueues, isHeldDci, heldAfter, anew}
+use Rattle.slot.specs.Plain.{Plain, heldQueues, isHeldDci, heldAfter, anew, seen, isBroken}
 use Rattle.slot.specs.Theorem.{State, cutAt, contextCut, called}
 use Rattle.slot.proofs.Settings.{AllFit, pairs}
 use Rattle.slot.proofs.Good.{Good, Live, Tells, live-tells, routed-from, enabled-was, live-here}
-use Rattle.slot.proofs.Step.{lost-not, checked, good-checked, mild-set, seen, ran, checked-ran}
+use Rattle.slot.proofs.Step.{lost-not, checked, good-checked, mild-set, ran, checked-ran}
 use Rattle.slot.proofs.Made.{fit-active, made-moved, made-same, byte-dcis}
 use Rattle.slot.proofs.Claimed.{some-place, owned-ring}
 
@@ -218,7 +218,7 @@ module _ (slot : ℕ) (before : List ℕ) (s : State) (lent : Lent) (value : ℕ
     moved-good t a w =
         let v = set-moved (settingsIn d value) (s .routes) (lent .outcomes) (lent .ctx) 0 in
         let m = set-moves d _ _ _ value k end t in
-        let held : now .plain .held ≡ [] = rw (log-tells, t) refl in
+        let held : now .plain .held ≡ [] = ap (λ x. cond x [] (p .held)) (log-tells ∙ t) in
         made-moved slot before s now g l [] noCells (isLost (end .answer)) m refl refl (ap pairs held) (rw held tt) rings (replicate PLACES 0)
         (v .gone t .2 ∙ ap (λ x. withReplaced (s .routes) x (queuesOf rings) []) (l .place)
         ∙ ap (withReplaced (s .routes) slot (queuesOf rings)) (sym no-queues))
@@ -227,7 +227,7 @@ module _ (slot : ℕ) (before : List ℕ) (s : State) (lent : Lent) (value : ℕ
       where
         enabled :
             OneAnswer (end .answer) → p .broken ≡ false → p .loose ≡ false →
-            (eqb (number (end .answer)) 14 || eqb (number (end .answer)) 15) ≡ false → (q : ℕ) → q < 30 →
+            isBroken (end .answer) ≡ false → (q : ℕ) → q < 30 →
             followed (lent .outcomes) 0 (setCourse (settingsIn d value) (lent .ctx) (s .routes)) (p .enabled) (dciAt q)
             ≡ not (eqb (getD (noCells .rings) q 0) 0)
         enabled (inl e) b f n = accepted-enabled e b f
@@ -255,14 +255,14 @@ module _ (slot : ℕ) (before : List ℕ) (s : State) (lent : Lent) (value : ℕ
     stayed-good t a w =
         let v = set-moved (settingsIn d value) (s .routes) (lent .outcomes) (lent .ctx) 0 in
         let m = set-stays d _ _ _ value k end t in
-        let held : now .plain .held ≡ p .held = rw (log-tells, t) refl in
+        let held : now .plain .held ≡ p .held = ap (λ x. cond x [] (p .held)) (log-tells ∙ t) in
         made-same slot before s now g l (heldOf d) (withActive Any (end .active) (cellsIn d)) (isLost (end .answer)) m refl refl
         (ap pairs held ∙ l .held) (rw held (fit-active Any (end .active) (cellsIn d) (p .held) (l .fits))) (v .kept t) held
         (λ b f. enabled a (or-left-false (p .broken) _ b) (or-left-false (p .loose) _ f) (or-right-false (p .broken) _ b))
       where
         enabled :
             OneAnswer (end .answer) → p .broken ≡ false → p .loose ≡ false →
-            (eqb (number (end .answer)) 14 || eqb (number (end .answer)) 15) ≡ false → (x : ℕ) → 2 ≤ x → x < 32 →
+            isBroken (end .answer) ≡ false → (x : ℕ) → 2 ≤ x → x < 32 →
             followed (lent .outcomes) 0 (setCourse (settingsIn d value) (lent .ctx) (s .routes)) (p .enabled) x ≡ isHeldDci p x
         enabled (inl e) b f n = not-both (end .moved) (w .accepted e) t
         enabled (inr (inl (code, e))) b f n = failed-enabled code e b f

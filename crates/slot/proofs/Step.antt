@@ -1,6 +1,6 @@
 -- One call, by what its check answers: what a refusal leaves, and what a course leaves.
 use Prim.Native.Nat.{ℕ, _+_, _*_, _≤_}
-use mathlib.Core.Path.{_≡_, refl}
+use mathlib.Core.Path.{_≡_, refl, _∙_, ap}
 use mathlib.Core.Bool.{Bool, true, false, cond, _&&_, _||_, or-false}
 use mathlib.Core.List.{List, []}
 use lib.Dec.{eqb, leb}
@@ -33,24 +33,22 @@ use Rattle.device.specs.Calls.{onCheck}
 use Rattle.device.specs.Claim.{claimCheck}
 use Rattle.device.specs.Release.{releaseCheck}
 use Rattle.slot.specs.Call.{Lent, Asked, bringsUp, claims, releases, configures, updatesHub}
-use Rattle.slot.specs.Plain.{Plain, heldAfter, isLoose, anew, observed}
+use Rattle.slot.specs.Plain.{Plain, isAccepted, isBroken, heldAfter, isLoose, anew, seen, observed}
 use Rattle.slot.specs.Theorem.{State}
 use Rattle.slot.proofs.Words.{taken-words}
 use Rattle.slot.proofs.Good.{Good}
 
 -- An answer that is neither accepted, broken nor cut.
 abbrev pub Mild : Answer → Type 0
-Mild a = (eqb (number a) 0 ≡ false) × ((eqb (number a) 14 || eqb (number a) 15) ≡ false)
+Mild a = (isAccepted a ≡ false) × (isBroken a ≡ false)
 
 -- What the numbers of answers rule out.
-pub accepted-not : {x : Answer} → eqb (number x) 0 ≡ false → x ≡ answer.Accepted → ⊥
+pub accepted-not : {x : Answer} → isAccepted x ≡ false → x ≡ answer.Accepted → ⊥
 unfolding number
-accepted-not {x} n e = not-both (eqb (number x) 0) (rw e refl) n
+accepted-not {x} n e = not-both (isAccepted x) (rw e refl) n
 
-pub lost-not :
-    {P : Type 0} (x : Answer) → (eqb (number x) 14 || eqb (number x) 15) ≡ true →
-    (eqb (number x) 14 || eqb (number x) 15) ≡ false → P
-lost-not x t f = not-both (eqb (number x) 14 || eqb (number x) 15) t f
+pub lost-not : {P : Type 0} (x : Answer) → isBroken x ≡ true → isBroken x ≡ false → P
+lost-not x t f = not-both (isBroken x) t f
 
 -- A check that refuses with such answers only.
 unfoldable pub MildCheck : Check → Type 0
@@ -109,15 +107,34 @@ pub mild-set : (d : Device) (ctx routes log : ℕ) → MildCheck (recordCheck d 
 mild-set d ctx routes log = mild-record d ctx routes log Pass mild-pass
 
 -- A refused call logs nothing, and the plain slot stays.
+quiet : Asked → List ℕ → Plain → Bool → Bool → Plain
+quiet asked outcomes p accepted broken =
+    anew asked accepted
+    (record {
+      control = p .control;
+      list = p .list;
+      held = heldAfter asked accepted outcomes [] (p .list) (p .held);
+      enabled = p .enabled;
+      broken = p .broken || broken;
+      loose = p .loose || isLoose asked [] (p .held);
+    })
+
+quiet-same : (asked : Asked) (outcomes : List ℕ) (p : Plain) → quiet asked outcomes p false false ≡ p
+unfolding quiet anew heldAfter isLoose configurationSet
+quiet-same (bringsUp b) outcomes p = rw (or-false (p .broken), or-false (p .loose)) refl
+quiet-same (claims i x r) outcomes p = rw (or-false (p .broken), or-false (p .loose)) refl
+quiet-same (releases i) outcomes p = rw (or-false (p .broken), or-false (p .loose)) refl
+quiet-same (configures v) outcomes p = rw (or-false (p .broken), or-false (p .loose)) refl
+quiet-same (updatesHub x y z) outcomes p = rw (or-false (p .broken), or-false (p .loose)) refl
+
 pub observed-refused :
     (asked : Asked) (lent : Lent) (a : Answer) (contexts : ℕ → List ℕ) (p : Plain) → Mild a →
     observed asked lent a [] contexts p ≡ p
-unfolding observed anew heldAfter isLoose controlled configurationSet
-observed-refused (bringsUp b) lent a contexts p m = rw (m .0, m .1, or-false (p .broken), or-false (p .loose)) refl
-observed-refused (claims i x r) lent a contexts p m = rw (m .0, m .1, or-false (p .broken), or-false (p .loose)) refl
-observed-refused (releases i) lent a contexts p m = rw (m .0, m .1, or-false (p .broken), or-false (p .loose)) refl
-observed-refused (configures v) lent a contexts p m = rw (m .1, or-false (p .broken), or-false (p .loose)) refl
-observed-refused (updatesHub x y z) lent a contexts p m = rw (m .1, or-false (p .broken), or-false (p .loose)) refl
+unfolding observed seen controlled quiet
+observed-refused asked lent a contexts p m =
+    ap (λ x. quiet asked (lent .outcomes) p x (isBroken a)) (m .0)
+    ∙ ap (quiet asked (lent .outcomes) p false) (m .1)
+    ∙ quiet-same asked (lent .outcomes) p
 
 -- The state after a call that checks, and then runs or refuses.
 unfoldable pub checked : State → Asked → Lent → Check → (List ℕ → Left) → (Answer → Left) → State
@@ -141,18 +158,6 @@ module _ (slot : ℕ) (before : List ℕ) (s : State) (asked : Asked) (lent : Le
   unfolding MildCheck checked onCheck refused
   good-checked ctx log Pass m g h = h refl
   good-checked ctx log (Refuse a) m g h = rw (observed-refused asked lent a (λ i. ctx) (s .plain) m) g
-
--- The plain slot after a call on the record, by its words and by the endpoints that they leave enabled.
-unfoldable pub seen : Asked → Lent → Answer → List ℕ → (ℕ → Bool) → Plain → Plain
-seen asked lent a ws enabled p =
-    record {
-      control = p .control;
-      list = p .list;
-      held = heldAfter asked (eqb (number a) 0) (lent .outcomes) ws (p .list) (p .held);
-      enabled = enabled;
-      broken = p .broken || (eqb (number a) 14 || eqb (number a) 15);
-      loose = p .loose || isLoose asked ws (p .held);
-    }
 
 -- The state that the end of a course makes.
 unfoldable pub ran : State → Asked → Lent → (End → Device) → Course End → State
