@@ -12,7 +12,7 @@ use Rattle.answer.specs.Answer.{number}
 use Rattle.command.specs.declared.Sent.{Sent}
 use Rattle.command.specs.declared.Sent.the-variants as sent
 use Rattle.command.specs.Command.{outcomeAt}
-use Rattle.command.specs.Course.{ends, onSent, words, result, Ended, CutsTo, CutEnds}
+use Rattle.command.specs.Course.{Course, ends, onSent, words, result, Ended, CutsTo, CutEnds}
 use Rattle.command.specs.Sweep.{stopAll, resumeAll}
 use Rattle.command.proofs.Cuts.{on-sent}
 use Rattle.command.proofs.Laws.{words-then, result-then}
@@ -138,3 +138,48 @@ module _ (a : Release) (routes o : List ℕ) where
       (λ e. configure-says ctx m)
       (λ code e. stayed a (answer.Failed code) _ ctx routes (omega arith))
       (λ e. stayed a answer.Cut _ ctx routes (omega arith)))
+
+-- The answers that there are; 18 only where an old route is not its ring.
+abbrev pub OneAnswer : Release → List ℕ → Answer → Type 0
+OneAnswer a routes x =
+    (x ≡ answer.Accepted)
+    ⊎ ((code : ℕ) × (x ≡ answer.Failed code))
+    ⊎ (x ≡ answer.Cut)
+    ⊎ ((x ≡ answer.InvalidEndpoint) × (replaced routes (a .slot) (a .old) [] ≡ replace.Done → ⊥))
+
+published-answers : (a : Release) (ctx routes : List ℕ) (r : Replaced) → replaced routes (a .slot) (a .old) [] ≡ r →
+    OneAnswer a routes ((releasePublished r a ctx routes) .answer)
+unfolding releasePublished
+published-answers a ctx routes replace.Done e = inl refl
+published-answers a ctx routes replace.InvalidEndpoint e =
+    inr (inr (inr (refl, λ d. let z : _≡_ {A = ℕ} 0 1 = cc in omega arith)))
+published-answers a ctx routes replace.QueueFull e =
+    inr (inr (inr (refl, λ d. let z : _≡_ {A = ℕ} 0 1 = cc in omega arith)))
+
+failed-answers : (a : Release) (routes : List ℕ) (code : ℕ) (s : Sent) → OneAnswer a routes (configureFailed code s)
+unfolding configureFailed
+failed-answers a routes code sent.Done = inr (inl (code, refl))
+failed-answers a routes code (sent.Failed later) = inr (inl (code, refl))
+failed-answers a routes code sent.Cut = inr (inr (inl refl))
+
+module _ (a : Release) (routes o : List ℕ) where
+  configure-answers : (ctx : List ℕ) (n : ℕ) → OneAnswer a routes ((result o n (releaseConfigure a ctx routes)) .answer)
+  unfolding releaseConfigure releasePublish releaseResume result
+  configure-answers ctx n =
+      let next = releaseContext a ctx in
+      on-sent (λ (c : Course End). OneAnswer a routes ((result o (n + 1) c) .answer)) (outcomeAt o n) _ _ _
+      (λ e. published-answers a next routes _ refl)
+      (λ code e. rw result-then (failed-answers a routes code _))
+      (λ e. inr (inr (inl refl)))
+
+  -- what it answers
+  pub release-answers : (ctx : List ℕ) (n : ℕ) → OneAnswer a routes ((result o n (releaseCourse a ctx routes)) .answer)
+  unfolding releaseCourse result
+  release-answers ctx n =
+      let dcis = queueDcis (a .old) in
+      let m = n + length (words o n (stopAll ctx dcis)) in
+      rw result-then
+      (on-sent (λ (c : Course End). OneAnswer a routes ((result o m c) .answer)) ((result o n (stopAll ctx dcis)) .sent) _ _ _
+      (λ e. configure-answers ctx m)
+      (λ code e. inr (inl (code, refl)))
+      (λ e. inr (inr (inl refl))))

@@ -30,6 +30,13 @@ pub record Plain : Type 0 where
   -- whether a release sent a command though its interface held no setting
   pub loose : Bool
 
+-- An accepted answer; a broken or cut one.
+abbrev pub isAccepted : Answer → Bool
+isAccepted a = eqb (number a) 0
+
+abbrev pub isBroken : Answer → Bool
+isBroken a = eqb (number a) 14 || eqb (number a) 15
+
 -- Its routes: control's ring at Dci 1, each held endpoint's ring at its Dci, of a repeated address the last word's, 0 elsewhere.
 unfoldable pub heldQueues : List Setting → List Queue
 heldQueues [] = []
@@ -72,14 +79,14 @@ isLoose (releases i) words held = ltb 0 (length words) && not (holds i held)
 isLoose (configures value) words held = false
 isLoose (updatesHub ports multi ns) words held = false
 
--- A slot whose bring-up was accepted.
+-- A slot whose bring-up was accepted: no held setting, and nothing but control enabled.
 unfoldable pub begun : BringUp → Plain
 begun a =
     record {
       control = a .ring;
       list = a .list;
       held = [];
-      enabled = λ d. false;
+      enabled = λ d. eqb d 1;
       broken = false;
       loose = false;
     }
@@ -92,15 +99,20 @@ anew (releases i) accepted p = p
 anew (configures value) accepted p = p
 anew (updatesHub ports multi ns) accepted p = p
 
--- The plain slot after a call, from its arguments, its answer, the words that it logged and the contexts of its commands.
-unfoldable pub observed : Asked → Lent → Answer → List ℕ → (ℕ → List ℕ) → Plain → Plain
-observed asked lent answer words contexts p =
-    anew asked (eqb (number answer) 0)
-    (record {
+-- The plain slot after a call, from its arguments, its answer, the words that it logged and the endpoints that these leave enabled.
+unfoldable pub seen : Asked → Lent → Answer → List ℕ → (ℕ → Bool) → Plain → Plain
+seen asked lent answer words enabled p =
+    record {
       control = p .control;
       list = p .list;
-      held = heldAfter asked (eqb (number answer) 0) (lent .outcomes) words (p .list) (p .held);
-      enabled = controlled contexts (lent .outcomes) 0 words (p .enabled);
-      broken = p .broken || (eqb (number answer) 14 || eqb (number answer) 15);
+      held = heldAfter asked (isAccepted answer) (lent .outcomes) words (p .list) (p .held);
+      enabled = enabled;
+      broken = p .broken || isBroken answer;
       loose = p .loose || isLoose asked words (p .held);
-    })
+    }
+
+-- Its controller reads the words, and the contexts of their commands.
+unfoldable pub observed : Asked → Lent → Answer → List ℕ → (ℕ → List ℕ) → Plain → Plain
+observed asked lent answer words contexts p =
+    anew asked (isAccepted answer)
+    (seen asked lent answer words (controlled contexts (lent .outcomes) 0 words (p .enabled)) p)

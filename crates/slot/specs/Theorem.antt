@@ -1,15 +1,24 @@
 -- Demand 3: what every list of calls on a slot leaves of its routes and of its controller's endpoints.
 use Prim.Native.Nat.{ℕ, _<_, _≤_}
 use mathlib.Core.Path.{_≡_}
-use mathlib.Core.Bool.{false}
+use mathlib.Core.Bool.{true, false}
 use mathlib.Core.List.{List, [], _∷_}
-use lib.ListN.{getD, take}
+use lib.ListN.{length, getD, take}
 use Rattle.answer.specs.declared.Answer.the-variants as answer
-use Rattle.transfer.specs.Routes.{routeOf, Outside}
+use Rattle.command.specs.declared.Sent.the-variants.{Done}
+use Rattle.command.specs.Command.{outcomeAt}
+use Rattle.block.specs.Promises.{someDci}
+use Rattle.context.specs.Steps.{wordDcis}
+use Rattle.transfer.specs.Routes.{routeOf, queues, ringFor, Outside}
+use Rattle.settings.specs.Held.{settingWords}
 use Rattle.bring_up.specs.BringUp.{BringUp, bringUp}
 use Rattle.device.specs.declared.record.Device.{Device}
+use Rattle.device.specs.declared.check.Check.the-variants.{Pass}
 use Rattle.device.specs.Left.{Left}
-use Rattle.slot.specs.Call.{Lent, Call, left, AllOfSlot}
+use Rattle.device.specs.Sound.{sound}
+use Rattle.device.specs.Check.{recordCheck}
+use Rattle.device.specs.Claim.{claimCheck}
+use Rattle.slot.specs.Call.{Lent, Asked, bringsUp, claims, releases, configures, updatesHub, Call, left, AllOfSlot}
 use Rattle.slot.specs.Plain.{Plain, plainRoute, isHeldDci, begun, observed}
 
 -- The record and the table as the calls hand them on, and the plain slot beside them.
@@ -55,11 +64,53 @@ pub record Kept (slot : ℕ) (before : List ℕ) (s : State) : Type 0 where
       s .plain .broken ≡ false → s .plain .loose ≡ false → (d : ℕ) → 2 ≤ d → d < 32 →
       s .plain .enabled d ≡ isHeldDci (s .plain) d
 
--- For every slot whose routes were all 0 and every accepted bring-up of it, whatever calls follow.
-abbrev pub Demand3 : Type 0
-Demand3 =
+-- For every slot whose routes were all 0, every accepted bring-up of it and whatever calls follow: P of the slot, the table before
+-- its bring-up and the state after the calls.
+abbrev pub AfterBringUp : (ℕ → List ℕ → State → Type 0) → Type 0
+AfterBringUp P =
     (b : BringUp) (l : Lent) (routes : List ℕ) (calls : List Call) →
     ((d : ℕ) → d < 32 → routeOf routes (b .slot) d ≡ 0) →
     (bringUp b (l .ctx) routes (l .log) (l .outcomes)) .answer ≡ answer.Accepted →
     AllOfSlot (b .slot) calls →
-    Kept (b .slot) routes (after (start b (bringUp b (l .ctx) routes (l .log) (l .outcomes))) calls)
+    P (b .slot) routes (after (start b (bringUp b (l .ctx) routes (l .log) (l .outcomes))) calls)
+
+abbrev pub Demand3 : Type 0
+Demand3 = AfterBringUp Kept
+
+-- Beside it, so that calls which refuse everything do not meet it: the record is sound while it is usable,
+abbrev pub SoundWhileUsable : Type 0
+SoundWhileUsable = AfterBringUp (λ slot before s. s .device .usable ≡ true → sound (s .device) ≡ true)
+
+-- and a claim that passes its checks, with every outcome done, is accepted and its rings are routed.
+pub record Claimed (slot : ℕ) (words rings : List ℕ) (l : Left) : Type 0 where
+  pub accepted : l .answer ≡ answer.Accepted
+  pub routed :
+      (d : ℕ) → d < 32 → someDci d words ≡ true → routeOf (l .routes) slot d ≡ ringFor d (queues (wordDcis words) rings) 0
+
+abbrev pub ClaimsAccepted : Type 0
+ClaimsAccepted =
+    AfterBringUp
+    (λ slot before s.
+    (i a : ℕ) (rings : List ℕ) (l : Lent) → i < 256 → a < 256 →
+    recordCheck (s .device) (length (l .ctx)) (length (s .routes)) (length (l .log)) (claimCheck (s .device) i a rings) ≡ Pass →
+    ((k : ℕ) → k < 32 → outcomeAt (l .outcomes) k ≡ Done) →
+    Claimed slot (settingWords (s .plain .list) i a) rings (left (claims i a rings) l (s .device) (s .routes)))
+
+-- Of one call: the slot whose routes it may write.
+unfoldable pub slotOf : Asked → Device → ℕ
+slotOf (bringsUp a) d = a .slot
+slotOf (claims interface alternate rings) d = d .slot .0
+slotOf (releases interface) d = d .slot .0
+slotOf (configures value) d = d .slot .0
+slotOf (updatesHub ports multi ns) d = d .slot .0
+
+-- A table of the same length, in which every word outside the slot is as it was.
+pub record Untouched (slot : ℕ) (before now : List ℕ) : Type 0 where
+  pub long : length now ≡ length before
+  pub words : (k : ℕ) → Outside slot k → getD now k 0 ≡ getD before k 0
+
+-- Every call leaves every word outside its slot as it was, whatever record and table it gets.
+abbrev pub OutsideUntouched : Type 0
+OutsideUntouched =
+    (c : Call) (d : Device) (routes : List ℕ) →
+    Untouched (slotOf (c .asked) d) routes ((left (c .asked) (c .lent) d routes) .routes)

@@ -1,0 +1,28 @@
+-- The words that a call logged.
+use Prim.Native.Nat.{ℕ, _+_, _≤_, _<_}
+use mathlib.Core.Path.{_≡_, _∙_}
+use mathlib.Core.List.{List}
+use native.Mathlib.Omega.{arith}
+use lib.ListN.{length, take, length-take}
+use lib.Seq.{sets, length-sets, getD-take, ext-getD}
+use Rattle.command.specs.Course.{Course, words, played}
+use Rattle.command.proofs.Laws.{sets-there}
+
+-- Words stored from the front of a log that has room for them.
+stored : (ws log : List ℕ) → length ws ≤ length log → take (length ws) (sets log 0 ws) ≡ ws
+stored ws log h =
+    let l : length (take (length ws) (sets log 0 ws)) ≡ length ws =
+    length-take (length ws) (sets log 0 ws) ∙ rw (length-sets log 0 ws) (omega arith) in
+    ext-getD 0 (take (length ws) (sets log 0 ws)) ws l
+    (λ k g.
+    let m : k < length ws = omega arith in
+    let z : 0 + k ≡ k = omega arith in
+    getD-take (length ws) (sets log 0 ws) k 0 m ∙ (rw z at (sets-there ws log 0 k m (omega arith))))
+
+-- The log up to its count is the words of the course.
+pub taken-words :
+    {A : Type 0} (o : List ℕ) (c : Course A) (log : List ℕ) → length (words o 0 c) ≤ length log →
+    take ((played o 0 c log) .count) ((played o 0 c log) .log) ≡ words o 0 c
+unfolding played
+taken-words o c log h =
+    let z : 0 + length (words o 0 c) ≡ length (words o 0 c) = omega arith in rw z (stored (words o 0 c) log h)
