@@ -36,7 +36,7 @@ abbrev pub device : BringUp
 device = asked 1 HIGH 8 false shared
 
 abbrev pub call : Asked → List ℕ → Call
-call a outcomes = record { asked = a; lent = record { ctx = ctx; log = log; outcomes = outcomes } }
+call a outcomes = record { asked = a; buffers = record { ctx = ctx; log = log; outcomes = outcomes } }
 
 -- Interface 0 claimed at alternate 0, with ring 32 for 0x81.
 abbrev pub claimed : Call

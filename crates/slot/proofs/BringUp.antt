@@ -8,28 +8,28 @@ use Rattle.transfer.specs.Routes.{routeOf}
 use Rattle.answer.specs.declared.Answer.{Answer}
 use Rattle.bring_up.specs.BringUp.{BringUp, noDevice, bringUp}
 use Rattle.bring_up.proofs.Laws.{Refusal, Refused, bring-up-full}
-use Rattle.slot.specs.Call.{Lent, bringsUp, left}
+use Rattle.slot.specs.Call.{Buffers, bringsUp, left}
 use Rattle.slot.specs.Theorem.{State, contextCut, called}
 use Rattle.slot.proofs.Good.{Good, good-same, route-one}
 use Rattle.slot.proofs.Step.{Mild, observed-refused}
 
-module _ (slot : ℕ) (before : List ℕ) (s : State) (lent : Lent) (a : BringUp) (same : a .slot ≡ slot) (g : Good slot before s) where
+module _ (slot : ℕ) (before : List ℕ) (s : State) (buffers : Buffers) (a : BringUp) (same : a .slot ≡ slot) (g : Good slot before s) where
   -- control's route is there
   full : routeOf (s .routes) (a .slot) 1 ≡ 0 → ⊥
   full e = g .control (sym (route-one (s .plain)) ∙ sym (g .kept .own 1 (omega arith)) ∙ (rw same at e))
 
   now : State
-  now = called s (record { asked = bringsUp a; lent = lent })
+  now = called s (record { asked = bringsUp a; buffers = buffers })
 
   mild : (x : Answer) → Refusal x → Mild x
   mild x r = (r .accepted, simp (r .broken, r .cut))
 
-  module _ (r : Refused (lent .ctx) (s .routes) (lent .log) (bringUp a (lent .ctx) (s .routes) (lent .log) (lent .outcomes))) where
+  module _ (r : Refused (buffers .ctx) (s .routes) (buffers .log) (bringUp a (buffers .ctx) (s .routes) (buffers .log) (buffers .outcomes))) where
     plain-same : now .plain ≡ s .plain
     unfolding now called left
     plain-same =
         rw (r .count)
-        (observed-refused (bringsUp a) lent _ (contextCut s (record { asked = bringsUp a; lent = lent })) (s .plain) (mild _ (r .answer)))
+        (observed-refused (bringsUp a) buffers _ (contextCut s (record { asked = bringsUp a; buffers = buffers })) (s .plain) (mild _ (r .answer)))
 
     good-refused : Good slot before now
     unfolding now called left noDevice
@@ -40,6 +40,6 @@ module _ (slot : ℕ) (before : List ℕ) (s : State) (lent : Lent) (a : BringUp
         ∙ g .kept .enabled (sym (ap (λ p. p .broken) plain-same) ∙ b) (sym (ap (λ p. p .loose) plain-same) ∙ f) d two h)
         (inl (ap (λ d. d .usable) (r .device)))
 
-  pub bring-up-good : Good slot before (called s (record { asked = bringsUp a; lent = lent }))
+  pub bring-up-good : Good slot before (called s (record { asked = bringsUp a; buffers = buffers }))
   unfolding now
-  bring-up-good = good-refused (bring-up-full a (lent .ctx) (s .routes) (lent .log) (lent .outcomes) full)
+  bring-up-good = good-refused (bring-up-full a (buffers .ctx) (s .routes) (buffers .log) (buffers .outcomes) full)

@@ -47,7 +47,7 @@ use Rattle.device.specs.Claim.{claimCheck, pendingOf, claimIn, claimRecord, cla
 use Rattle.device.proofs.Laws.{Passed, passed, pass-if}
 use Rattle.device.proofs.Made.{isLost}
 use Rattle.device.proofs.Kept.{claim-moves, claim-stays}
-use Rattle.slot.specs.Call.{Lent, Asked, claims, left}
+use Rattle.slot.specs.Call.{Buffers, Asked, claims, left}
 use Rattle.slot.specs.Plain.{Setting, Plain, plainRoute, isHeldDci, without, settingOf, heldAfter, anew, observed, seen, isAccepted}
 use Rattle.slot.specs.Theorem.{State, cutAt, contextCut, called}
 use Rattle.slot.proofs.Settings.{last-ring, AllFit, pairs, pairs-append, pairs-without, fit-without, fit-append, alternate-byte}
@@ -70,7 +70,7 @@ passes d i a rings e =
     let h : (offerOk (length words) rings ((cellsIn d) .rings) (d .control) (quarantinedOf d) ≡ true) × _ = pass-if _ _ _ (g .1) in
     record { free = g .0; offer = h .0 }
 
-module _ (slot : ℕ) (before : List ℕ) (s : State) (lent : Lent) (i a : ℕ) (rings : List ℕ)
+module _ (slot : ℕ) (before : List ℕ) (s : State) (buffers : Buffers) (i a : ℕ) (rings : List ℕ)
     (byte : i < 256) (alternate-byte-new : a < 256) (g : Good slot before s) where
   abbrev d : Device
   d = s .device
@@ -88,24 +88,24 @@ module _ (slot : ℕ) (before : List ℕ) (s : State) (lent : Lent) (i a : ℕ) 
   pending = pendingRings newWords rings
 
   course : Course End
-  course = claimCourse (claimIn d i a rings) (lent .ctx) (s .routes)
+  course = claimCourse (claimIn d i a rings) (buffers .ctx) (s .routes)
 
   end : End
-  end = result (lent .outcomes) 0 course
+  end = result (buffers .outcomes) 0 course
 
   now : State
-  now = ran s asked lent (claimRecord d i a rings) course
+  now = ran s asked buffers (claimRecord d i a rings) course
 
   run : List ℕ → Left
-  run o = ended (claimRecord d i a rings) (played o 0 course (lent .log))
+  run o = ended (claimRecord d i a rings) (played o 0 course (buffers .log))
 
   refuse : Answer → Left
-  refuse x = refused d x (lent .ctx) (s .routes) (lent .log)
+  refuse x = refused d x (buffers .ctx) (s .routes) (buffers .log)
 
   -- The checks passed.
-  module _ (k : recordCheck d (length (lent .ctx)) (length (s .routes)) (length (lent .log)) (claimCheck d i a rings) ≡ Pass)
+  module _ (k : recordCheck d (length (buffers .ctx)) (length (s .routes)) (length (buffers .log)) (claimCheck d i a rings) ≡ Pass)
       (l : Live slot d p) where
-    pass : Passed d (length (lent .ctx)) (length (s .routes)) (length (lent .log))
+    pass : Passed d (length (buffers .ctx)) (length (s .routes)) (length (buffers .log))
     pass = passed d _ _ _ _ k .0
 
     tests : Passes d i a rings
@@ -172,17 +172,17 @@ module _ (slot : ℕ) (before : List ℕ) (s : State) (lent : Lent) (i a : ℕ) 
         (l .fits))
         (rw (← l .list) (fits-own (listOf d) (pass .facts .list) i a rings (cellsIn d) places alternate-byte-new), tt)
 
-    spaced : Spaced ((claimIn d i a rings) .spacing) (length (lent .ctx))
+    spaced : Spaced ((claimIn d i a rings) .spacing) (length (buffers .ctx))
     unfolding claimIn
     spaced = pass .spaced
 
     accepted-enabled :
         end .answer ≡ answer.Accepted → p .broken ≡ false → p .loose ≡ false → (q : ℕ) → q < 30 →
-        followed (lent .outcomes) 0 course (p .enabled) (dciAt q)
+        followed (buffers .outcomes) 0 course (p .enabled) (dciAt q)
         ≡ not (eqb (getD ((claimedCells i pending (cellsIn d)) .rings) q 0) 0)
     unfolding end course
     accepted-enabled e b f q h =
-        claim-accepted-enabled (claimIn d i a rings) (lent .ctx) (s .routes) (lent .outcomes) 0 spaced (dciAt q) (dci-low q h)
+        claim-accepted-enabled (claimIn d i a rings) (buffers .ctx) (s .routes) (buffers .outcomes) 0 spaced (dciAt q) (dci-low q h)
         (dci-high q h) (p .enabled) e
         ∙ rw (was b f q h, old-dci q h, new-dci q h) (claimed-some i pending (cellsIn d) q (hasPlace q newWords) h (places q h))
 
@@ -190,7 +190,7 @@ module _ (slot : ℕ) (before : List ℕ) (s : State) (lent : Lent) (i a : ℕ) 
     accepted-good : end .answer ≡ answer.Accepted → Good slot before now
     unfolding now ran seen heldAfter end course pendingOf claimIn number settings
     accepted-good e =
-        let v = claim-moved (claimIn d i a rings) (lent .ctx) (s .routes) (lent .outcomes) 0 in
+        let v = claim-moved (claimIn d i a rings) (buffers .ctx) (s .routes) (buffers .outcomes) 0 in
         let moved : end .moved ≡ true = v .by-answer .1 e in
         let m = claim-moves d _ _ _ i a rings k end moved in
         let n : isLost (end .answer) ≡ false = rw e refl in
@@ -212,7 +212,7 @@ module _ (slot : ℕ) (before : List ℕ) (s : State) (lent : Lent) (i a : ℕ) 
         Good slot before now
     unfolding now ran seen heldAfter end course
     stayed-good moved n e =
-        let v = claim-moved (claimIn d i a rings) (lent .ctx) (s .routes) (lent .outcomes) 0 in
+        let v = claim-moved (claimIn d i a rings) (buffers .ctx) (s .routes) (buffers .outcomes) 0 in
         let m = claim-stays d _ _ _ i a rings k end moved in
         let held : now .plain .held ≡ p .held = rw n refl in
         made-same slot before s now g l (heldOf d) (withActive (Interface i) (end .active) (cellsIn d)) (isLost (end .answer)) m refl refl
@@ -221,12 +221,12 @@ module _ (slot : ℕ) (before : List ℕ) (s : State) (lent : Lent) (i a : ℕ) 
 
     failed-enabled :
         (code : ℕ) → end .answer ≡ answer.Failed code → p .broken ≡ false → p .loose ≡ false → (x : ℕ) → 2 ≤ x → x < 32 →
-        followed (lent .outcomes) 0 course (p .enabled) x ≡ isHeldDci p x
+        followed (buffers .outcomes) 0 course (p .enabled) x ≡ isHeldDci p x
     unfolding end course
     failed-enabled code e b f =
-        each-dci (λ x. followed (lent .outcomes) 0 course (p .enabled) x ≡ isHeldDci p x)
+        each-dci (λ x. followed (buffers .outcomes) 0 course (p .enabled) x ≡ isHeldDci p x)
         (λ q h.
-        claim-failed-enabled (claimIn d i a rings) (lent .ctx) (s .routes) (lent .outcomes) 0 spaced (dciAt q) (dci-low q h)
+        claim-failed-enabled (claimIn d i a rings) (buffers .ctx) (s .routes) (buffers .outcomes) 0 spaced (dciAt q) (dci-low q h)
         (dci-high q h) (p .enabled) code e
         (λ o. was b f q h ∙ ap not (owned-ring i (cellsIn d) q (sym (old-dci q h) ∙ o)))
         (λ w o. was b f q h ∙ ap not (free-ring newWords i (cellsIn d) q (tests .free) h (sym (new-dci q h) ∙ w) (sym (old-dci q h) ∙ o)))
@@ -250,12 +250,12 @@ module _ (slot : ℕ) (before : List ℕ) (s : State) (lent : Lent) (i a : ℕ) 
         stayed-good (false-if (end .moved) (λ t. accepted-not n (m .0 t))) n
         (λ b f. lost-not (end .answer) (rw e refl) (or-right-false (p .broken) _ b))
 
-    few : length (words (lent .outcomes) 0 course) ≤ length (lent .log)
+    few : length (words (buffers .outcomes) 0 course) ≤ length (buffers .log)
     unfolding course claimIn
     few =
         omega (
           arith,
-          claim-words (claimIn d i a rings) (lent .ctx) (s .routes) (lent .outcomes) 0
+          claim-words (claimIn d i a rings) (buffers .ctx) (s .routes) (buffers .outcomes) 0
               (queues-fit (ownedRings (Interface i) (cellsIn d))),
           pass .room,
         )
@@ -263,7 +263,7 @@ module _ (slot : ℕ) (before : List ℕ) (s : State) (lent : Lent) (i a : ℕ) 
     bytes : EachCommand ByteOperands course
     unfolding course claimIn
     bytes =
-        claim-operands (claimIn d i a rings) (lent .ctx) (s .routes) byte alternate-byte-new
+        claim-operands (claimIn d i a rings) (buffers .ctx) (s .routes) byte alternate-byte-new
         (rw (← l .held) (alternate-byte (cellsIn d) i (p .held) (l .fits)))
         (byte-dcis (ownedRings (Interface i) (cellsIn d)))
 
@@ -271,26 +271,26 @@ module _ (slot : ℕ) (before : List ℕ) (s : State) (lent : Lent) (i a : ℕ) 
     unfolding end course
     good-end =
         let c = claimIn d i a rings in
-        ended-good (claim-answers c (lent .ctx) (s .routes) (lent .outcomes) 0)
-        (claim-moved c (lent .ctx) (s .routes) (lent .outcomes) 0 .by-answer)
+        ended-good (claim-answers c (buffers .ctx) (s .routes) (buffers .outcomes) 0)
+        (claim-moved c (buffers .ctx) (s .routes) (buffers .outcomes) 0 .by-answer)
 
-    run-good : Good slot before (checked s asked lent Pass run refuse)
+    run-good : Good slot before (checked s asked buffers Pass run refuse)
     unfolding run now anew course
     run-good =
-        rw (checked-ran s asked lent (claimRecord d i a rings) course refuse (λ b q. refl) few
-        (claim-cuts (claimIn d i a rings) (lent .ctx) (s .routes)) bytes)
+        rw (checked-ran s asked buffers (claimRecord d i a rings) course refuse (λ b q. refl) few
+        (claim-cuts (claimIn d i a rings) (buffers .ctx) (s .routes)) bytes)
         good-end
 
-  pub claim-good : Good slot before (called s (record { asked = claims i a rings; lent = lent }))
+  pub claim-good : Good slot before (called s (record { asked = claims i a rings; buffers = buffers }))
   unfolding called contextCut cutAt left claim checked run refuse course
   claim-good =
-      good-checked slot before s asked lent run (lent .ctx) (lent .log) _ (mild-claim d _ _ _ i a rings) g
+      good-checked slot before s asked buffers run (buffers .ctx) (buffers .log) _ (mild-claim d _ _ _ i a rings) g
       (λ k. run-good k (live-here slot before s g (passed d _ _ _ _ k .0 .usable)))
 
   -- With every outcome done it is accepted.
-  module _ (k : recordCheck d (length (lent .ctx)) (length (s .routes)) (length (lent .log)) (claimCheck d i a rings) ≡ Pass)
-      (done : (n : ℕ) → n < 32 → outcomeAt (lent .outcomes) n ≡ sent.Done) where
-    claimed : left asked lent d (s .routes) ≡ run (lent .outcomes)
+  module _ (k : recordCheck d (length (buffers .ctx)) (length (s .routes)) (length (buffers .log)) (claimCheck d i a rings) ≡ Pass)
+      (done : (n : ℕ) → n < 32 → outcomeAt (buffers .outcomes) n ≡ sent.Done) where
+    claimed : left asked buffers d (s .routes) ≡ run (buffers .outcomes)
     unfolding left claim run course onCheck
     claimed = rw k refl
 
@@ -300,26 +300,26 @@ module _ (slot : ℕ) (before : List ℕ) (s : State) (lent : Lent) (i a : ℕ) 
         let l = live-here slot before s g (passed d _ _ _ _ k .0 .usable) in
         let old = ownedRings (Interface i) (cellsIn d) in
         ap (λ (e : End). e .answer)
-        (claim-accepted (claimIn d i a rings) (lent .ctx) (s .routes) (lent .outcomes) 0
+        (claim-accepted (claimIn d i a rings) (buffers .ctx) (s .routes) (buffers .outcomes) 0
         (λ n h.
         let z : 0 + n ≡ n = omega arith in
         rw z (done n (omega (arith, h, queues-fit old))))
         (ap (λ x. replaced (s .routes) x (queuesOf old) (queuesOf pending)) (l .place) ∙ rerouted k l .done))
 
-    pub claim-done : (left asked lent d (s .routes)) .answer ≡ answer.Accepted
+    pub claim-done : (left asked buffers d (s .routes)) .answer ≡ answer.Accepted
     unfolding run ended played end
     claim-done = ap (λ (x : Left). x .answer) claimed ∙ end-accepted
 
   -- An accepted claim's rings are routed.
   pub claim-routes :
-      (left asked lent d (s .routes)) .answer ≡ answer.Accepted → (x : ℕ) → x < 32 →
+      (left asked buffers d (s .routes)) .answer ≡ answer.Accepted → (x : ℕ) → x < 32 →
       someDci x (settingWords (p .list) i a) ≡ true → someDci 1 (settingWords (p .list) i a) ≡ false →
-      routeOf ((left asked lent d (s .routes)) .routes) slot x
+      routeOf ((left asked buffers d (s .routes)) .routes) slot x
       ≡ ringFor x (queues (wordDcis (settingWords (p .list) i a)) rings) 0
   unfolding called observed anew seen heldAfter number plainRoute settingOf
   claim-routes e x h w z =
       let ws = settingWords (p .list) i a in
-      let next = called s (record { asked = asked; lent = lent }) in
+      let next = called s (record { asked = asked; buffers = buffers }) in
       let held : next .plain .held ≡ without i (p .held) ++ (settingOf (p .list) i a rings ∷ []) = rw e refl in
       let n : eqb x 1 ≡ false = ne-eqb x 1 (λ q. not-both (someDci 1 ws) (rw q at w) z) in
       claim-good .kept .own x h ∙ rw (n, held) (last-ring x (without i (p .held)) (settingOf (p .list) i a rings) (words-dci x ws rings ∙ w))

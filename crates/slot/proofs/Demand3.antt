@@ -25,7 +25,7 @@ use Rattle.device.specs.Claim.{claimCheck}
 use Rattle.device.proofs.Laws.{passed}
 use Rattle.bring_up.specs.BringUp.{BringUp, bringUp}
 use Rattle.bring_up.proofs.Laws.{BroughtUp, bring-up-accepted, bring-up-length, bring-up-outside}
-use Rattle.slot.specs.Call.{Lent, Asked, bringsUp, claims, releases, configures, updatesHub, Call, OfSlot, AllOfSlot}
+use Rattle.slot.specs.Call.{Buffers, Asked, bringsUp, claims, releases, configures, updatesHub, Call, OfSlot, AllOfSlot}
 use Rattle.slot.specs.Call as call
 use Rattle.slot.specs.Plain.{heldQueues, plainRoute, isHeldDci, begun}
 use Rattle.slot.specs.Theorem.{State, called, after, start, AfterBringUp, Demand3, SoundWhileUsable, Claimed, ClaimsAccepted}
@@ -39,14 +39,14 @@ use Rattle.slot.proofs.Hub.{hub-good}
 
 -- One call.
 called-good :
-    (slot : ℕ) (before : List ℕ) (s : State) (asked : Asked) (lent : Lent) → OfSlot slot asked → Good slot before s →
-    Good slot before (called s (record { asked = asked; lent = lent }))
+    (slot : ℕ) (before : List ℕ) (s : State) (asked : Asked) (buffers : Buffers) → OfSlot slot asked → Good slot before s →
+    Good slot before (called s (record { asked = asked; buffers = buffers }))
 unfolding OfSlot
-called-good slot before s (bringsUp a) lent o g = bring-up-good slot before s lent a o g
-called-good slot before s (claims i a rings) lent o g = claim-good slot before s lent i a rings (o .0) (o .1) g
-called-good slot before s (releases i) lent o g = release-good slot before s lent i o g
-called-good slot before s (configures value) lent o g = set-good slot before s lent value o g
-called-good slot before s (updatesHub ports multi ns) lent o g = hub-good slot before s lent ports multi ns g
+called-good slot before s (bringsUp a) buffers o g = bring-up-good slot before s buffers a o g
+called-good slot before s (claims i a rings) buffers o g = claim-good slot before s buffers i a rings (o .0) (o .1) g
+called-good slot before s (releases i) buffers o g = release-good slot before s buffers i o g
+called-good slot before s (configures value) buffers o g = set-good slot before s buffers value o g
+called-good slot before s (updatesHub ports multi ns) buffers o g = hub-good slot before s buffers ports multi ns g
 
 -- Any list of calls.
 after-good :
@@ -55,10 +55,10 @@ after-good :
 unfolding AllOfSlot after
 after-good slot before s [] o g = g
 after-good slot before s (c ∷ cs) o g =
-    after-good slot before (called s c) cs (o .1) (called-good slot before s (c .asked) (c .lent) (o .0) g)
+    after-good slot before (called s c) cs (o .1) (called-good slot before s (c .asked) (c .buffers) (o .0) g)
 
 -- The accepted bring-up.
-module _ (b : BringUp) (l : Lent) (routes : List ℕ) (empty : (d : ℕ) → d < 32 → routeOf routes (b .slot) d ≡ 0) where
+module _ (b : BringUp) (l : Buffers) (routes : List ℕ) (empty : (d : ℕ) → d < 32 → routeOf routes (b .slot) d ≡ 0) where
   left : Left
   left = bringUp b (l .ctx) routes (l .log) (l .outcomes)
 
@@ -115,7 +115,7 @@ sound-while-usable b l routes calls empty accepted all u =
 
 -- A claim of a usable record.
 claimed-good :
-    (slot : ℕ) (before : List ℕ) (s : State) → Good slot before s → (i a : ℕ) (rings : List ℕ) (l : Lent) → i < 256 → a < 256 →
+    (slot : ℕ) (before : List ℕ) (s : State) → Good slot before s → (i a : ℕ) (rings : List ℕ) (l : Buffers) → i < 256 → a < 256 →
     recordCheck (s .device) (length (l .ctx)) (length (s .routes)) (length (l .log)) (claimCheck (s .device) i a rings) ≡ Pass →
     ((k : ℕ) → k < 32 → outcomeAt (l .outcomes) k ≡ Done) →
     Claimed slot (settingWords (s .plain .list) i a) rings (call.left (claims i a rings) l (s .device) (s .routes))

@@ -21,19 +21,19 @@ use Rattle.device.specs.Left.{Left, refused, marked}
 use Rattle.device.specs.Calls.{onCheck, hubContext, hubCourse, hubLeft, hubUpdate}
 use Rattle.device.proofs.Facts.{unusable-not}
 use Rattle.device.proofs.Laws.{passed}
-use Rattle.slot.specs.Call.{Lent, Asked, updatesHub, left}
+use Rattle.slot.specs.Call.{Buffers, Asked, updatesHub, left}
 use Rattle.slot.specs.Plain.{heldAfter, anew, observed, seen}
 use Rattle.slot.specs.Theorem.{State, cutAt, contextCut, called}
 use Rattle.slot.proofs.Good.{Good, Live, good-same, live-or}
 use Rattle.slot.proofs.Step.{checked, good-checked, mild-hub}
 use Rattle.slot.proofs.Words.{taken-words}
 
-module _ (slot : ℕ) (before : List ℕ) (s : State) (lent : Lent) (ports : ℕ) (multi : Bool) (ns : ℕ) (g : Good slot before s) where
+module _ (slot : ℕ) (before : List ℕ) (s : State) (buffers : Buffers) (ports : ℕ) (multi : Bool) (ns : ℕ) (g : Good slot before s) where
   abbrev asked : Asked
   asked = updatesHub ports multi ns
 
   ctx : List ℕ
-  ctx = hubContext (s .device) ports multi ns (lent .ctx)
+  ctx = hubContext (s .device) ports multi ns (buffers .ctx)
 
   -- what an answer makes of record and plain slot
   answered : Answer → State
@@ -41,7 +41,7 @@ module _ (slot : ℕ) (before : List ℕ) (s : State) (lent : Lent) (ports : ℕ
       record {
         device = marked a (s .device);
         routes = s .routes;
-        plain = seen asked lent a (commandWord command.Evaluate ∷ []) (s .plain .enabled) (s .plain);
+        plain = seen asked buffers a (commandWord command.Evaluate ∷ []) (s .plain .enabled) (s .plain);
       }
 
   live-after :
@@ -60,23 +60,23 @@ module _ (slot : ℕ) (before : List ℕ) (s : State) (lent : Lent) (ports : ℕ
       (live-after x)
 
   run : List ℕ → Left
-  run o = hubLeft (s .device) ctx (s .routes) (played o 0 (hubCourse ctx) (lent .log))
+  run o = hubLeft (s .device) ctx (s .routes) (played o 0 (hubCourse ctx) (buffers .log))
 
   refuse : Answer → Left
-  refuse a = refused (s .device) a (lent .ctx) (s .routes) (lent .log)
+  refuse a = refused (s .device) a (buffers .ctx) (s .routes) (buffers .log)
 
   evaluated :
-      length (words (lent .outcomes) 0 (hubCourse ctx)) ≤ length (lent .log) →
-      checked s asked lent Pass run refuse ≡ answered (answerOf (outcomeAt (lent .outcomes) 0))
+      length (words (buffers .outcomes) 0 (hubCourse ctx)) ≤ length (buffers .log) →
+      checked s asked buffers Pass run refuse ≡ answered (answerOf (outcomeAt (buffers .outcomes) 0))
   unfolding checked onCheck hubLeft answered seen observed anew played result words hubCourse controlled isDoneWord commandWord run
-  evaluated h = rw (taken-words (lent .outcomes) (hubCourse ctx) (lent .log) h) refl
+  evaluated h = rw (taken-words (buffers .outcomes) (hubCourse ctx) (buffers .log) h) refl
 
-  one-word : length (words (lent .outcomes) 0 (hubCourse ctx)) ≡ 1
+  one-word : length (words (buffers .outcomes) 0 (hubCourse ctx)) ≡ 1
   unfolding words hubCourse
   one-word = refl
 
-  pub hub-good : Good slot before (called s (record { asked = updatesHub ports multi ns; lent = lent }))
+  pub hub-good : Good slot before (called s (record { asked = updatesHub ports multi ns; buffers = buffers }))
   unfolding called contextCut cutAt left hubUpdate checked run refuse ctx
   hub-good =
-      good-checked slot before s asked lent run (lent .ctx) (lent .log) _ (mild-hub (s .device) _ _ _ ns) g
-      (λ e. rw (evaluated (omega (arith, one-word, passed (s .device) _ _ _ _ e .0 .room))) (good-answered (outcomeAt (lent .outcomes) 0)))
+      good-checked slot before s asked buffers run (buffers .ctx) (buffers .log) _ (mild-hub (s .device) _ _ _ ns) g
+      (λ e. rw (evaluated (omega (arith, one-word, passed (s .device) _ _ _ _ e .0 .room))) (good-answered (outcomeAt (buffers .outcomes) 0)))

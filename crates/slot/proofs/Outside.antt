@@ -24,7 +24,7 @@ use Rattle.device.specs.Release.{releaseIn, release}
 use Rattle.device.specs.SetConfiguration.{settingsIn, setConfiguration}
 use Rattle.device.proofs.Marks.{on-check}
 use Rattle.bring_up.proofs.Laws.{bring-up-length, bring-up-outside}
-use Rattle.slot.specs.Call.{Lent, Asked, bringsUp, claims, releases, configures, updatesHub, left}
+use Rattle.slot.specs.Call.{Buffers, Asked, bringsUp, claims, releases, configures, updatesHub, left}
 use Rattle.slot.specs.Theorem.{slotOf, Untouched, OutsideUntouched}
 
 -- The table itself.
@@ -81,26 +81,26 @@ module _ (d : Device) (routes o ctx : List ℕ) where
       let v = set-moved (settingsIn d value) routes o ctx 0 in
       untouched-end (d .slot .0) routes (result o 0 (setCourse (settingsIn d value) ctx routes)) _ [] (queues-small _) none-small (λ t. v .gone t .2) (v .kept)
 
-each : (asked : Asked) (lent : Lent) (d : Device) (routes : List ℕ) → Untouched (slotOf asked d) routes ((left asked lent d routes) .routes)
+each : (asked : Asked) (buffers : Buffers) (d : Device) (routes : List ℕ) → Untouched (slotOf asked d) routes ((left asked buffers d routes) .routes)
 unfolding slotOf left hubUpdate hubLeft claim release setConfiguration ended refused played
-each (bringsUp a) lent d routes =
+each (bringsUp a) buffers d routes =
     record {
-      long = bring-up-length a (lent .ctx) routes (lent .log) (lent .outcomes);
-      words = bring-up-outside a (lent .ctx) routes (lent .log) (lent .outcomes);
+      long = bring-up-length a (buffers .ctx) routes (buffers .log) (buffers .outcomes);
+      words = bring-up-outside a (buffers .ctx) routes (buffers .log) (buffers .outcomes);
     }
-each (claims i a rings) lent d routes =
-    on-check (λ (l : Left). Untouched (d .slot .0) routes (l .routes)) _ _ _ (claimed d routes (lent .outcomes) (lent .ctx) i a rings)
+each (claims i a rings) buffers d routes =
+    on-check (λ (l : Left). Untouched (d .slot .0) routes (l .routes)) _ _ _ (claimed d routes (buffers .outcomes) (buffers .ctx) i a rings)
     (λ x. untouched-same (d .slot .0) routes)
-each (releases i) lent d routes =
-    on-check (λ (l : Left). Untouched (d .slot .0) routes (l .routes)) _ _ _ (released d routes (lent .outcomes) (lent .ctx) i)
+each (releases i) buffers d routes =
+    on-check (λ (l : Left). Untouched (d .slot .0) routes (l .routes)) _ _ _ (released d routes (buffers .outcomes) (buffers .ctx) i)
     (λ x. untouched-same (d .slot .0) routes)
-each (configures value) lent d routes =
-    on-check (λ (l : Left). Untouched (d .slot .0) routes (l .routes)) _ _ _ (configured d routes (lent .outcomes) (lent .ctx) value)
+each (configures value) buffers d routes =
+    on-check (λ (l : Left). Untouched (d .slot .0) routes (l .routes)) _ _ _ (configured d routes (buffers .outcomes) (buffers .ctx) value)
     (λ x. untouched-same (d .slot .0) routes)
-each (updatesHub ports multi ns) lent d routes =
+each (updatesHub ports multi ns) buffers d routes =
     on-check (λ (l : Left). Untouched (d .slot .0) routes (l .routes)) _ _ _ (untouched-same (d .slot .0) routes)
     (λ x. untouched-same (d .slot .0) routes)
 
 -- Whatever the record and the table.
 pub outside-untouched : OutsideUntouched
-outside-untouched c d routes = each (c .asked) (c .lent) d routes
+outside-untouched c d routes = each (c .asked) (c .buffers) d routes

@@ -41,7 +41,7 @@ use Rattle.device.specs.Release.{releaseCheck, releaseIn, releaseRecord, releas
 use Rattle.device.proofs.Laws.{Passed, passed}
 use Rattle.device.proofs.Made.{isLost}
 use Rattle.device.proofs.Kept.{release-moves, release-stays}
-use Rattle.slot.specs.Call.{Lent, Asked, releases, left}
+use Rattle.slot.specs.Call.{Buffers, Asked, releases, left}
 use Rattle.slot.specs.Plain.{Plain, isHeldDci, without, holds, heldAfter, isLoose, anew, seen, isAccepted}
 use Rattle.slot.specs.Theorem.{State, cutAt, contextCut, called}
 use Rattle.slot.proofs.Settings.{AllFit, pairs, pairs-holds, pairs-without, fit-without}
@@ -59,7 +59,7 @@ silent o n (ends x) enabled e = refl
 silent o n (sends c ctx k) enabled e =
     not-both (ltb 0 (length (words o n (sends c ctx k)))) (lt-ltb 0 (length (words o n (sends c ctx k))) (omega arith)) e
 
-module _ (slot : ℕ) (before : List ℕ) (s : State) (lent : Lent) (i : ℕ) (byte : i < 256) (g : Good slot before s) where
+module _ (slot : ℕ) (before : List ℕ) (s : State) (buffers : Buffers) (i : ℕ) (byte : i < 256) (g : Good slot before s) where
   abbrev d : Device
   d = s .device
 
@@ -73,24 +73,24 @@ module _ (slot : ℕ) (before : List ℕ) (s : State) (lent : Lent) (i : ℕ) (b
   none = replicate PLACES 0
 
   course : Course End
-  course = releaseCourse (releaseIn d i) (lent .ctx) (s .routes)
+  course = releaseCourse (releaseIn d i) (buffers .ctx) (s .routes)
 
   end : End
-  end = result (lent .outcomes) 0 course
+  end = result (buffers .outcomes) 0 course
 
   now : State
-  now = ran s asked lent (releaseRecord d i) course
+  now = ran s asked buffers (releaseRecord d i) course
 
   run : List ℕ → Left
-  run o = ended (releaseRecord d i) (played o 0 course (lent .log))
+  run o = ended (releaseRecord d i) (played o 0 course (buffers .log))
 
   refuse : Answer → Left
-  refuse x = refused d x (lent .ctx) (s .routes) (lent .log)
+  refuse x = refused d x (buffers .ctx) (s .routes) (buffers .log)
 
   -- The checks passed.
-  module _ (k : recordCheck d (length (lent .ctx)) (length (s .routes)) (length (lent .log)) (releaseCheck d i) ≡ Pass)
+  module _ (k : recordCheck d (length (buffers .ctx)) (length (s .routes)) (length (buffers .log)) (releaseCheck d i) ≡ Pass)
       (l : Live slot d p) where
-    pass : Passed d (length (lent .ctx)) (length (s .routes)) (length (lent .log))
+    pass : Passed d (length (buffers .ctx)) (length (s .routes)) (length (buffers .log))
     pass = passed d _ _ _ _ k .0
 
     -- none pending
@@ -102,7 +102,7 @@ module _ (slot : ℕ) (before : List ℕ) (s : State) (lent : Lent) (i : ℕ) (b
         p .enabled (dciAt q) ≡ not (eqb (getD ((cellsIn d) .rings) q 0) 0)
     was = enabled-was slot before s g l
 
-    spaced : Spaced ((releaseIn d i) .spacing) (length (lent .ctx))
+    spaced : Spaced ((releaseIn d i) .spacing) (length (buffers .ctx))
     unfolding releaseIn
     spaced = pass .spaced
 
@@ -149,9 +149,9 @@ module _ (slot : ℕ) (before : List ℕ) (s : State) (lent : Lent) (i : ℕ) (b
 
         unsent :
             holds i (p .held) ≡ false →
-            ltb 0 (length (words (lent .outcomes) 0 (releaseCourse (releaseIn d i) (lent .ctx) (s .routes)))) ≡ false
+            ltb 0 (length (words (buffers .outcomes) 0 (releaseCourse (releaseIn d i) (buffers .ctx) (s .routes)))) ≡ false
         unsent t =
-            let sent = ltb 0 (length (words (lent .outcomes) 0 (releaseCourse (releaseIn d i) (lent .ctx) (s .routes)))) in
+            let sent = ltb 0 (length (words (buffers .outcomes) 0 (releaseCourse (releaseIn d i) (buffers .ctx) (s .routes)))) in
             sym (and-yes sent) ∙ (rw t at (or-right-false (p .loose) (sent && not (holds i (p .held))) f))
 
         as-held : holds i (p .held) ≡ isHeld i (heldOf d)
@@ -159,17 +159,17 @@ module _ (slot : ℕ) (before : List ℕ) (s : State) (lent : Lent) (i : ℕ) (b
 
         go :
             Decided (holds i (p .held)) →
-            followed (lent .outcomes) 0 (releaseCourse (releaseIn d i) (lent .ctx) (s .routes)) (p .enabled) (dciAt q)
+            followed (buffers .outcomes) 0 (releaseCourse (releaseIn d i) (buffers .ctx) (s .routes)) (p .enabled) (dciAt q)
             ≡ not (eqb (getD ((claimedCells i none (cellsIn d)) .rings) q 0) 0)
         go (inl t) =
-            release-accepted-enabled (releaseIn d i) (lent .ctx) (s .routes) (lent .outcomes) 0 spaced (dciAt q) (dci-low q h)
+            release-accepted-enabled (releaseIn d i) (buffers .ctx) (s .routes) (buffers .outcomes) 0 spaced (dciAt q) (dci-low q h)
             (dci-high q h) (p .enabled) e
             ∙ rw (was sound quiet q h, words-dci (sym as-held ∙ t) q h) (released-some q h)
         go (inr t) =
             let o : isOwned (Interface i) (cellsIn d) q ≡ false =
             match-unheld (listOf d) (heldOf d) (cellsIn d) (match-facts (listOf d) (heldOf d) (cellsIn d) (pass .facts .endpoints)) i q
             (sym as-held ∙ t) h in
-            ap (λ x. x (dciAt q)) (silent (lent .outcomes) 0 (releaseCourse (releaseIn d i) (lent .ctx) (s .routes)) (p .enabled) (unsent t))
+            ap (λ x. x (dciAt q)) (silent (buffers .outcomes) 0 (releaseCourse (releaseIn d i) (buffers .ctx) (s .routes)) (p .enabled) (unsent t))
             ∙ was sound quiet q h
             ∙ sym (and-yes (not (eqb (getD ((cellsIn d) .rings) q 0) 0)))
             ∙ ap (λ x. not (eqb (getD ((cellsIn d) .rings) q 0) 0) && not x) (sym o)
@@ -220,10 +220,10 @@ module _ (slot : ℕ) (before : List ℕ) (s : State) (lent : Lent) (i : ℕ) (b
 
     failed-enabled :
         (code : ℕ) → end .answer ≡ answer.Failed code → p .broken ≡ false → p .loose ≡ false → (x : ℕ) → 2 ≤ x → x < 32 →
-        followed (lent .outcomes) 0 course (p .enabled) x ≡ isHeldDci p x
+        followed (buffers .outcomes) 0 course (p .enabled) x ≡ isHeldDci p x
     unfolding end course
     failed-enabled code e b f x two h =
-        release-failed-enabled (releaseIn d i) (lent .ctx) (s .routes) (lent .outcomes) 0 spaced x two h (p .enabled) code e
+        release-failed-enabled (releaseIn d i) (buffers .ctx) (s .routes) (buffers .outcomes) 0 spaced x two h (p .enabled) code e
         ∙ g .kept .enabled b f x two h
 
     ended-good : Says (releaseIn d i) (s .routes) end → OneAnswer (releaseIn d i) (s .routes) (end .answer) → Good slot before now
@@ -238,34 +238,34 @@ module _ (slot : ℕ) (before : List ℕ) (s : State) (lent : Lent) (i : ℕ) (b
         absurd
         (n (ap (λ x. replaced (s .routes) x (queuesOf (ownedRings (Interface i) (cellsIn d))) []) (l .place) ∙ rerouted .done))
 
-    few : length (words (lent .outcomes) 0 course) ≤ length (lent .log)
+    few : length (words (buffers .outcomes) 0 course) ≤ length (buffers .log)
     unfolding course releaseIn
     few =
         omega (
           arith,
-          release-words (releaseIn d i) (s .routes) (lent .outcomes) (lent .ctx) 0 (queues-fit (ownedRings (Interface i) (cellsIn d))),
+          release-words (releaseIn d i) (s .routes) (buffers .outcomes) (buffers .ctx) 0 (queues-fit (ownedRings (Interface i) (cellsIn d))),
           pass .room,
         )
 
     bytes : EachCommand ByteOperands course
     unfolding course releaseIn
-    bytes = release-operands (releaseIn d i) (lent .ctx) (s .routes) (byte-dcis (ownedRings (Interface i) (cellsIn d)))
+    bytes = release-operands (releaseIn d i) (buffers .ctx) (s .routes) (byte-dcis (ownedRings (Interface i) (cellsIn d)))
 
     good-end : Good slot before now
     unfolding end course
     good-end =
-        ended-good (release-says (releaseIn d i) (s .routes) (lent .outcomes) (lent .ctx) 0)
-        (release-answers (releaseIn d i) (s .routes) (lent .outcomes) (lent .ctx) 0)
+        ended-good (release-says (releaseIn d i) (s .routes) (buffers .outcomes) (buffers .ctx) 0)
+        (release-answers (releaseIn d i) (s .routes) (buffers .outcomes) (buffers .ctx) 0)
 
-    run-good : Good slot before (checked s asked lent Pass run refuse)
+    run-good : Good slot before (checked s asked buffers Pass run refuse)
     unfolding run now anew course
     run-good =
-        rw (checked-ran s asked lent (releaseRecord d i) course refuse (λ b q. refl) few
-        (release-cuts (releaseIn d i) (lent .ctx) (s .routes)) bytes)
+        rw (checked-ran s asked buffers (releaseRecord d i) course refuse (λ b q. refl) few
+        (release-cuts (releaseIn d i) (buffers .ctx) (s .routes)) bytes)
         good-end
 
-  pub release-good : Good slot before (called s (record { asked = releases i; lent = lent }))
+  pub release-good : Good slot before (called s (record { asked = releases i; buffers = buffers }))
   unfolding called contextCut cutAt left release checked run refuse course
   release-good =
-      good-checked slot before s asked lent run (lent .ctx) (lent .log) _ (mild-release d _ _ _ i) g
+      good-checked slot before s asked buffers run (buffers .ctx) (buffers .log) _ (mild-release d _ _ _ i) g
       (λ k. run-good k (live-here slot before s g (passed d _ _ _ _ k .0 .usable)))

@@ -45,7 +45,7 @@ use Rattle.device.specs.SetConfiguration.{settingsIn, setRecord, setConfigurati
 use Rattle.device.proofs.Laws.{Passed, passed}
 use Rattle.device.proofs.Made.{isLost}
 use Rattle.device.proofs.Kept.{set-moves, set-stays}
-use Rattle.slot.specs.Call.{Lent, Asked, configures, left}
+use Rattle.slot.specs.Call.{Buffers, Asked, configures, left}
 use Rattle.slot.specs.Plain.{Plain, heldQueues, isHeldDci, heldAfter, anew, seen, isBroken}
 use Rattle.slot.specs.Theorem.{State, cutAt, contextCut, called}
 use Rattle.slot.proofs.Settings.{AllFit, pairs}
@@ -124,7 +124,7 @@ none-tells p e =
       low = rw e refl;
     }
 
-module _ (slot : ℕ) (before : List ℕ) (s : State) (lent : Lent) (value : ℕ) (byte : value < 256) (g : Good slot before s) where
+module _ (slot : ℕ) (before : List ℕ) (s : State) (buffers : Buffers) (value : ℕ) (byte : value < 256) (g : Good slot before s) where
   abbrev d : Device
   d = s .device
 
@@ -135,23 +135,23 @@ module _ (slot : ℕ) (before : List ℕ) (s : State) (lent : Lent) (value : ℕ
   asked = configures value
 
   course : Course End
-  course = setCourse (settingsIn d value) (lent .ctx) (s .routes)
+  course = setCourse (settingsIn d value) (buffers .ctx) (s .routes)
 
   end : End
-  end = result (lent .outcomes) 0 course
+  end = result (buffers .outcomes) 0 course
 
   now : State
-  now = ran s asked lent (setRecord d value) course
+  now = ran s asked buffers (setRecord d value) course
 
   run : List ℕ → Left
-  run o = ended (setRecord d value) (played o 0 course (lent .log))
+  run o = ended (setRecord d value) (played o 0 course (buffers .log))
 
   refuse : Answer → Left
-  refuse x = refused d x (lent .ctx) (s .routes) (lent .log)
+  refuse x = refused d x (buffers .ctx) (s .routes) (buffers .log)
 
   -- The checks passed.
-  module _ (k : recordCheck d (length (lent .ctx)) (length (s .routes)) (length (lent .log)) Pass ≡ Pass) (l : Live slot d p) where
-    pass : Passed d (length (lent .ctx)) (length (s .routes)) (length (lent .log))
+  module _ (k : recordCheck d (length (buffers .ctx)) (length (s .routes)) (length (buffers .log)) Pass ≡ Pass) (l : Live slot d p) where
+    pass : Passed d (length (buffers .ctx)) (length (s .routes)) (length (buffers .log))
     pass = passed d _ _ _ _ k .0
 
     abbrev rings : List ℕ
@@ -160,7 +160,7 @@ module _ (slot : ℕ) (before : List ℕ) (s : State) (lent : Lent) (value : ℕ
     was : p .broken ≡ false → p .loose ≡ false → (q : ℕ) → q < 30 → p .enabled (dciAt q) ≡ not (eqb (getD rings q 0) 0)
     was = enabled-was slot before s g l
 
-    spaced : Spaced ((settingsIn d value) .spacing) (length (lent .ctx))
+    spaced : Spaced ((settingsIn d value) .spacing) (length (buffers .ctx))
     unfolding settingsIn
     spaced = pass .spaced
 
@@ -173,9 +173,9 @@ module _ (slot : ℕ) (before : List ℕ) (s : State) (lent : Lent) (value : ℕ
     allowed = ap (λ x. replaced (s .routes) x (queuesOf rings) []) (l .place) ∙ rerouted .done
 
     -- The held settings end exactly if the settings of the record are moved.
-    log-tells : configurationSet (lent .outcomes) 0 (words (lent .outcomes) 0 course) ≡ end .moved
+    log-tells : configurationSet (buffers .outcomes) 0 (words (buffers .outcomes) 0 course) ≡ end .moved
     unfolding end course settingsIn
-    log-tells = set-out (settingsIn d value) (s .routes) (lent .outcomes) (lent .ctx) 0 byte (byte-dcis rings) allowed
+    log-tells = set-out (settingsIn d value) (s .routes) (buffers .outcomes) (buffers .ctx) 0 byte (byte-dcis rings) allowed
 
     words-dci : (q : ℕ) → q < 30 → someDci (dciAt q) ((settingsIn d value) .words) ≡ hasPlace q (heldWords (listOf d) (heldOf d))
     unfolding settingsIn
@@ -197,10 +197,10 @@ module _ (slot : ℕ) (before : List ℕ) (s : State) (lent : Lent) (value : ℕ
 
     accepted-enabled :
         end .answer ≡ answer.Accepted → p .broken ≡ false → p .loose ≡ false → (q : ℕ) → q < 30 →
-        followed (lent .outcomes) 0 course (p .enabled) (dciAt q) ≡ not (eqb (getD (noCells .rings) q 0) 0)
+        followed (buffers .outcomes) 0 course (p .enabled) (dciAt q) ≡ not (eqb (getD (noCells .rings) q 0) 0)
     unfolding end course noCells
     accepted-enabled e b f q h =
-        set-accepted-enabled (settingsIn d value) (lent .ctx) (s .routes) (lent .outcomes) 0 spaced (dciAt q) (dci-low q h)
+        set-accepted-enabled (settingsIn d value) (buffers .ctx) (s .routes) (buffers .outcomes) 0 spaced (dciAt q) (dci-low q h)
         (dci-high q h) (p .enabled) e
         ∙ rw (was b f q h, words-dci q h, eq-eqb (getD {A = ℕ} (replicate 30 0) q 0) 0 (getD-replicate 30 q 0 0 h))
         (go (decided (eqb (getD rings q 0) 0)))
@@ -216,7 +216,7 @@ module _ (slot : ℕ) (before : List ℕ) (s : State) (lent : Lent) (value : ℕ
         end .moved ≡ true → OneAnswer (end .answer) → Answered (settingsIn d value) (s .routes) end → Good slot before now
     unfolding now ran seen heldAfter end course settingsIn AllFit number pairs
     moved-good t a w =
-        let v = set-moved (settingsIn d value) (s .routes) (lent .outcomes) (lent .ctx) 0 in
+        let v = set-moved (settingsIn d value) (s .routes) (buffers .outcomes) (buffers .ctx) 0 in
         let m = set-moves d _ _ _ value k end t in
         let held : now .plain .held ≡ [] = ap (λ x. cond x [] (p .held)) (log-tells ∙ t) in
         made-moved slot before s now g l [] noCells (isLost (end .answer)) m refl refl (ap pairs held) (rw held tt) rings (replicate PLACES 0)
@@ -228,7 +228,7 @@ module _ (slot : ℕ) (before : List ℕ) (s : State) (lent : Lent) (value : ℕ
         enabled :
             OneAnswer (end .answer) → p .broken ≡ false → p .loose ≡ false →
             isBroken (end .answer) ≡ false → (q : ℕ) → q < 30 →
-            followed (lent .outcomes) 0 (setCourse (settingsIn d value) (lent .ctx) (s .routes)) (p .enabled) (dciAt q)
+            followed (buffers .outcomes) 0 (setCourse (settingsIn d value) (buffers .ctx) (s .routes)) (p .enabled) (dciAt q)
             ≡ not (eqb (getD (noCells .rings) q 0) 0)
         enabled (inl e) b f n = accepted-enabled e b f
         enabled (inr (inl (code, e))) b f n = not-both (end .moved) t (w .failed code e)
@@ -238,12 +238,12 @@ module _ (slot : ℕ) (before : List ℕ) (s : State) (lent : Lent) (value : ℕ
 
     failed-enabled :
         (code : ℕ) → end .answer ≡ answer.Failed code → p .broken ≡ false → p .loose ≡ false → (x : ℕ) → 2 ≤ x → x < 32 →
-        followed (lent .outcomes) 0 course (p .enabled) x ≡ isHeldDci p x
+        followed (buffers .outcomes) 0 course (p .enabled) x ≡ isHeldDci p x
     unfolding end course
     failed-enabled code e b f =
-        each-dci (λ x. followed (lent .outcomes) 0 course (p .enabled) x ≡ isHeldDci p x)
+        each-dci (λ x. followed (buffers .outcomes) 0 course (p .enabled) x ≡ isHeldDci p x)
         (λ q h.
-        set-failed-enabled (settingsIn d value) (lent .ctx) (s .routes) (lent .outcomes) 0 spaced (dciAt q) (dci-low q h)
+        set-failed-enabled (settingsIn d value) (buffers .ctx) (s .routes) (buffers .outcomes) 0 spaced (dciAt q) (dci-low q h)
         (dci-high q h) (p .enabled) code e
         (λ o. was b f q h ∙ ap not (word-ring q h (sym (words-dci q h) ∙ o)))
         ∙ g .kept .enabled b f (dciAt q) (dci-low q h) (dci-high q h))
@@ -253,7 +253,7 @@ module _ (slot : ℕ) (before : List ℕ) (s : State) (lent : Lent) (value : ℕ
         end .moved ≡ false → OneAnswer (end .answer) → Answered (settingsIn d value) (s .routes) end → Good slot before now
     unfolding now ran seen heldAfter end course settingsIn number
     stayed-good t a w =
-        let v = set-moved (settingsIn d value) (s .routes) (lent .outcomes) (lent .ctx) 0 in
+        let v = set-moved (settingsIn d value) (s .routes) (buffers .outcomes) (buffers .ctx) 0 in
         let m = set-stays d _ _ _ value k end t in
         let held : now .plain .held ≡ p .held = ap (λ x. cond x [] (p .held)) (log-tells ∙ t) in
         made-same slot before s now g l (heldOf d) (withActive Any (end .active) (cellsIn d)) (isLost (end .answer)) m refl refl
@@ -263,41 +263,41 @@ module _ (slot : ℕ) (before : List ℕ) (s : State) (lent : Lent) (value : ℕ
         enabled :
             OneAnswer (end .answer) → p .broken ≡ false → p .loose ≡ false →
             isBroken (end .answer) ≡ false → (x : ℕ) → 2 ≤ x → x < 32 →
-            followed (lent .outcomes) 0 (setCourse (settingsIn d value) (lent .ctx) (s .routes)) (p .enabled) x ≡ isHeldDci p x
+            followed (buffers .outcomes) 0 (setCourse (settingsIn d value) (buffers .ctx) (s .routes)) (p .enabled) x ≡ isHeldDci p x
         enabled (inl e) b f n = not-both (end .moved) (w .accepted e) t
         enabled (inr (inl (code, e))) b f n = failed-enabled code e b f
         enabled (inr (inr (inl e))) b f n = lost-not (end .answer) (rw e refl) n
         enabled (inr (inr (inr (inl e)))) b f n = lost-not (end .answer) (rw e refl) n
         enabled (inr (inr (inr (inr e)))) b f n = absurd (w .invalid e .1 allowed)
 
-    few : length (words (lent .outcomes) 0 course) ≤ length (lent .log)
+    few : length (words (buffers .outcomes) 0 course) ≤ length (buffers .log)
     unfolding course settingsIn
     few =
-        omega (arith, set-words (settingsIn d value) (s .routes) (lent .outcomes) (lent .ctx) 0, queues-fit rings, pass .room)
+        omega (arith, set-words (settingsIn d value) (s .routes) (buffers .outcomes) (buffers .ctx) 0, queues-fit rings, pass .room)
 
     bytes : EachCommand ByteOperands course
     unfolding course settingsIn
-    bytes = set-operands (settingsIn d value) (lent .ctx) (s .routes) byte (byte-dcis rings)
+    bytes = set-operands (settingsIn d value) (buffers .ctx) (s .routes) byte (byte-dcis rings)
 
     good-end : Good slot before now
     unfolding end course
     good-end =
-        let w = set-answers (settingsIn d value) (s .routes) (lent .outcomes) (lent .ctx) 0 in
+        let w = set-answers (settingsIn d value) (s .routes) (buffers .outcomes) (buffers .ctx) 0 in
         go (decided (end .moved)) w
       where
         go : Decided (end .moved) → Answered (settingsIn d value) (s .routes) end → Good slot before now
         go (inl t) w = moved-good t (w .only) w
         go (inr t) w = stayed-good t (w .only) w
 
-    run-good : Good slot before (checked s asked lent Pass run refuse)
+    run-good : Good slot before (checked s asked buffers Pass run refuse)
     unfolding run now anew course
     run-good =
-        rw (checked-ran s asked lent (setRecord d value) course refuse (λ b q. refl) few
-        (set-cuts (settingsIn d value) (lent .ctx) (s .routes)) bytes)
+        rw (checked-ran s asked buffers (setRecord d value) course refuse (λ b q. refl) few
+        (set-cuts (settingsIn d value) (buffers .ctx) (s .routes)) bytes)
         good-end
 
-  pub set-good : Good slot before (called s (record { asked = configures value; lent = lent }))
+  pub set-good : Good slot before (called s (record { asked = configures value; buffers = buffers }))
   unfolding called contextCut cutAt left setConfiguration checked run refuse course
   set-good =
-      good-checked slot before s asked lent run (lent .ctx) (lent .log) _ (mild-set d _ _ _) g
+      good-checked slot before s asked buffers run (buffers .ctx) (buffers .log) _ (mild-set d _ _ _) g
       (λ k. run-good k (live-here slot before s g (passed d _ _ _ _ k .0 .usable)))

@@ -32,7 +32,7 @@ use Rattle.device.specs.Check.{unless, recordCheck, isThought, hubCheck}
 use Rattle.device.specs.Calls.{onCheck}
 use Rattle.device.specs.Claim.{claimCheck}
 use Rattle.device.specs.Release.{releaseCheck}
-use Rattle.slot.specs.Call.{Lent, Asked, bringsUp, claims, releases, configures, updatesHub}
+use Rattle.slot.specs.Call.{Buffers, Asked, bringsUp, claims, releases, configures, updatesHub}
 use Rattle.slot.specs.Plain.{Plain, isAccepted, isBroken, heldAfter, isLoose, anew, seen, observed}
 use Rattle.slot.specs.Theorem.{State}
 use Rattle.slot.proofs.Words.{taken-words}
@@ -128,58 +128,58 @@ quiet-same (configures v) outcomes p = rw (or-false (p .broken), or-false (p .lo
 quiet-same (updatesHub x y z) outcomes p = rw (or-false (p .broken), or-false (p .loose)) refl
 
 pub observed-refused :
-    (asked : Asked) (lent : Lent) (a : Answer) (contexts : ℕ → List ℕ) (p : Plain) → Mild a →
-    observed asked lent a [] contexts p ≡ p
+    (asked : Asked) (buffers : Buffers) (a : Answer) (contexts : ℕ → List ℕ) (p : Plain) → Mild a →
+    observed asked buffers a [] contexts p ≡ p
 unfolding observed seen controlled quiet
-observed-refused asked lent a contexts p m =
-    ap (λ x. quiet asked (lent .outcomes) p x (isBroken a)) (m .0)
-    ∙ ap (quiet asked (lent .outcomes) p false) (m .1)
-    ∙ quiet-same asked (lent .outcomes) p
+observed-refused asked buffers a contexts p m =
+    ap (λ x. quiet asked (buffers .outcomes) p x (isBroken a)) (m .0)
+    ∙ ap (quiet asked (buffers .outcomes) p false) (m .1)
+    ∙ quiet-same asked (buffers .outcomes) p
 
 -- The state after a call that checks, and then runs or refuses.
-unfoldable pub checked : State → Asked → Lent → Check → (List ℕ → Left) → (Answer → Left) → State
-checked s asked lent k run refuse =
-    let l = onCheck k (run (lent .outcomes)) refuse in
+unfoldable pub checked : State → Asked → Buffers → Check → (List ℕ → Left) → (Answer → Left) → State
+checked s asked buffers k run refuse =
+    let l = onCheck k (run (buffers .outcomes)) refuse in
     record {
       device = l .device;
       routes = l .routes;
       plain =
-          observed asked lent (l .answer) (take (l .count) (l .log))
-          (λ i. (onCheck k (run (take i (lent .outcomes))) refuse) .ctx)
+          observed asked buffers (l .answer) (take (l .count) (l .log))
+          (λ i. (onCheck k (run (take i (buffers .outcomes))) refuse) .ctx)
           (s .plain);
     }
 
-module _ (slot : ℕ) (before : List ℕ) (s : State) (asked : Asked) (lent : Lent) (run : List ℕ → Left) where
+module _ (slot : ℕ) (before : List ℕ) (s : State) (asked : Asked) (buffers : Buffers) (run : List ℕ → Left) where
   -- A call on the record that may be refused with mild answers.
   pub good-checked :
       (ctx log : List ℕ) (k : Check) → MildCheck k → Good slot before s →
-      (k ≡ Pass → Good slot before (checked s asked lent Pass run (λ a. refused (s .device) a ctx (s .routes) log))) →
-      Good slot before (checked s asked lent k run (λ a. refused (s .device) a ctx (s .routes) log))
+      (k ≡ Pass → Good slot before (checked s asked buffers Pass run (λ a. refused (s .device) a ctx (s .routes) log))) →
+      Good slot before (checked s asked buffers k run (λ a. refused (s .device) a ctx (s .routes) log))
   unfolding MildCheck checked onCheck refused
   good-checked ctx log Pass m g h = h refl
-  good-checked ctx log (Refuse a) m g h = rw (observed-refused asked lent a (λ i. ctx) (s .plain) m) g
+  good-checked ctx log (Refuse a) m g h = rw (observed-refused asked buffers a (λ i. ctx) (s .plain) m) g
 
 -- The state that the end of a course makes.
-unfoldable pub ran : State → Asked → Lent → (End → Device) → Course End → State
-ran s asked lent made course =
-    let r = result (lent .outcomes) 0 course in
+unfoldable pub ran : State → Asked → Buffers → (End → Device) → Course End → State
+ran s asked buffers made course =
+    let r = result (buffers .outcomes) 0 course in
     record {
       device = made r;
       routes = r .routes;
       plain =
-          seen asked lent (r .answer) (words (lent .outcomes) 0 course)
-          (followed (lent .outcomes) 0 course (s .plain .enabled))
+          seen asked buffers (r .answer) (words (buffers .outcomes) 0 course)
+          (followed (buffers .outcomes) 0 course (s .plain .enabled))
           (s .plain);
     }
 
 -- A call that runs a course leaves that state.
 pub checked-ran :
-    (s : State) (asked : Asked) (lent : Lent) (made : End → Device) (course : Course End) (refuse : Answer → Left) →
+    (s : State) (asked : Asked) (buffers : Buffers) (made : End → Device) (course : Course End) (refuse : Answer → Left) →
     ((b : Bool) (p : Plain) → anew asked b p ≡ p) →
-    length (words (lent .outcomes) 0 course) ≤ length (lent .log) →
+    length (words (buffers .outcomes) 0 course) ≤ length (buffers .log) →
     CutEnds (λ (e : End). e .ctx) course → EachCommand ByteOperands course →
-    checked s asked lent Pass (λ o. ended made (played o 0 course (lent .log))) refuse ≡ ran s asked lent made course
+    checked s asked buffers Pass (λ o. ended made (played o 0 course (buffers .log))) refuse ≡ ran s asked buffers made course
 unfolding checked onCheck ended ran observed seen played
-checked-ran s asked lent made course refuse same room cuts bytes =
-    rw (taken-words (lent .outcomes) course (lent .log) room, same, controlled-course (λ (e : End). e .ctx) (lent .outcomes) 0 course (s .plain .enabled) cuts bytes)
+checked-ran s asked buffers made course refuse same room cuts bytes =
+    rw (taken-words (buffers .outcomes) course (buffers .log) room, same, controlled-course (λ (e : End). e .ctx) (buffers .outcomes) 0 course (s .plain .enabled) cuts bytes)
     refl

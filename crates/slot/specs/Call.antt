@@ -12,7 +12,7 @@ use Rattle.device.specs.Release.{release}
 use Rattle.device.specs.SetConfiguration.{setConfiguration}
 
 -- A context, a log and outcomes, of any length and contents.
-pub record Lent : Type 0 where
+pub record Buffers : Type 0 where
   pub ctx : List ℕ
   pub log : List ℕ
   pub outcomes : List ℕ
@@ -30,10 +30,10 @@ pub data Asked : Type 0 where
 
 pub record Call : Type 0 where
   pub asked : Asked
-  pub lent : Lent
+  pub buffers : Buffers
 
 -- What a call returns and leaves, on a record and a table; a bring-up takes the table only.
-unfoldable pub left : Asked → Lent → Device → List ℕ → Left
+unfoldable pub left : Asked → Buffers → Device → List ℕ → Left
 left (bringsUp a) l d routes = bringUp a (l .ctx) routes (l .log) (l .outcomes)
 left (claims interface alternate rings) l d routes =
     claim d (l .ctx) routes (l .log) (l .outcomes) interface alternate rings

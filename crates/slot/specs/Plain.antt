@@ -11,7 +11,7 @@ use Rattle.transfer.specs.Routes.{Queue, queues, ringFor, names}
 use Rattle.settings.specs.Held.{settingWords}
 use Rattle.controller.specs.Controller.{controlled, configurationSet}
 use Rattle.bring_up.specs.BringUp.{BringUp}
-use Rattle.slot.specs.Call.{Lent, Asked, bringsUp, claims, releases, configures, updatesHub}
+use Rattle.slot.specs.Call.{Buffers, Asked, bringsUp, claims, releases, configures, updatesHub}
 
 -- A held setting: an interface, its alternate, and the ring of each of its endpoint words.
 pub record Setting : Type 0 where
@@ -100,19 +100,19 @@ anew (configures value) accepted p = p
 anew (updatesHub ports multi ns) accepted p = p
 
 -- The plain slot after a call, from its arguments, its answer, the words that it logged and the endpoints that these leave enabled.
-unfoldable pub seen : Asked → Lent → Answer → List ℕ → (ℕ → Bool) → Plain → Plain
-seen asked lent answer words enabled p =
+unfoldable pub seen : Asked → Buffers → Answer → List ℕ → (ℕ → Bool) → Plain → Plain
+seen asked buffers answer words enabled p =
     record {
       control = p .control;
       list = p .list;
-      held = heldAfter asked (isAccepted answer) (lent .outcomes) words (p .list) (p .held);
+      held = heldAfter asked (isAccepted answer) (buffers .outcomes) words (p .list) (p .held);
       enabled = enabled;
       broken = p .broken || isBroken answer;
       loose = p .loose || isLoose asked words (p .held);
     }
 
 -- Its controller reads the words, and the contexts of their commands.
-unfoldable pub observed : Asked → Lent → Answer → List ℕ → (ℕ → List ℕ) → Plain → Plain
-observed asked lent answer words contexts p =
+unfoldable pub observed : Asked → Buffers → Answer → List ℕ → (ℕ → List ℕ) → Plain → Plain
+observed asked buffers answer words contexts p =
     anew asked (isAccepted answer)
-    (seen asked lent answer words (controlled contexts (lent .outcomes) 0 words (p .enabled)) p)
+    (seen asked buffers answer words (controlled contexts (buffers .outcomes) 0 words (p .enabled)) p)

@@ -18,7 +18,7 @@ use Rattle.device.specs.Left.{Left}
 use Rattle.device.specs.Sound.{sound}
 use Rattle.device.specs.Check.{recordCheck}
 use Rattle.device.specs.Claim.{claimCheck}
-use Rattle.slot.specs.Call.{Lent, Asked, bringsUp, claims, releases, configures, updatesHub, Call, left, AllOfSlot}
+use Rattle.slot.specs.Call.{Buffers, Asked, bringsUp, claims, releases, configures, updatesHub, Call, left, AllOfSlot}
 use Rattle.slot.specs.Plain.{Plain, plainRoute, isHeldDci, begun, observed}
 
 -- The record and the table as the calls hand them on, and the plain slot beside them.
@@ -28,21 +28,21 @@ pub record State : Type 0 where
   pub plain : Plain
 
 -- The same call, given only the first i outcomes, and the context that it leaves.
-unfoldable pub cutAt : ℕ → Lent → Lent
+unfoldable pub cutAt : ℕ → Buffers → Buffers
 cutAt i l = record { ctx = l .ctx; log = l .log; outcomes = take i (l .outcomes) }
 
 unfoldable pub contextCut : State → Call → ℕ → List ℕ
-contextCut s c i = (left (c .asked) (cutAt i (c .lent)) (s .device) (s .routes)) .ctx
+contextCut s c i = (left (c .asked) (cutAt i (c .buffers)) (s .device) (s .routes)) .ctx
 
 -- One call: it gets the record and the table of the last one. The plain slot reads its answer and the words that it logged; its
 -- controller the context that the same call leaves when it is cut at a command.
 unfoldable pub called : State → Call → State
 called s c =
-    let l = left (c .asked) (c .lent) (s .device) (s .routes) in
+    let l = left (c .asked) (c .buffers) (s .device) (s .routes) in
     record {
       device = l .device;
       routes = l .routes;
-      plain = observed (c .asked) (c .lent) (l .answer) (take (l .count) (l .log)) (contextCut s c) (s .plain);
+      plain = observed (c .asked) (c .buffers) (l .answer) (take (l .count) (l .log)) (contextCut s c) (s .plain);
     }
 
 unfoldable pub after : State → List Call → State
@@ -68,7 +68,7 @@ pub record Kept (slot : ℕ) (before : List ℕ) (s : State) : Type 0 where
 -- its bring-up and the state after the calls.
 abbrev pub AfterBringUp : (ℕ → List ℕ → State → Type 0) → Type 0
 AfterBringUp P =
-    (b : BringUp) (l : Lent) (routes : List ℕ) (calls : List Call) →
+    (b : BringUp) (l : Buffers) (routes : List ℕ) (calls : List Call) →
     ((d : ℕ) → d < 32 → routeOf routes (b .slot) d ≡ 0) →
     (bringUp b (l .ctx) routes (l .log) (l .outcomes)) .answer ≡ answer.Accepted →
     AllOfSlot (b .slot) calls →
@@ -91,7 +91,7 @@ abbrev pub ClaimsAccepted : Type 0
 ClaimsAccepted =
     AfterBringUp
     (λ slot before s.
-    (i a : ℕ) (rings : List ℕ) (l : Lent) → i < 256 → a < 256 →
+    (i a : ℕ) (rings : List ℕ) (l : Buffers) → i < 256 → a < 256 →
     recordCheck (s .device) (length (l .ctx)) (length (s .routes)) (length (l .log)) (claimCheck (s .device) i a rings) ≡ Pass →
     ((k : ℕ) → k < 32 → outcomeAt (l .outcomes) k ≡ Done) →
     Claimed slot (settingWords (s .plain .list) i a) rings (left (claims i a rings) l (s .device) (s .routes)))
@@ -113,4 +113,4 @@ pub record Untouched (slot : ℕ) (before now : List ℕ) : Type 0 where
 abbrev pub OutsideUntouched : Type 0
 OutsideUntouched =
     (c : Call) (d : Device) (routes : List ℕ) →
-    Untouched (slotOf (c .asked) d) routes ((left (c .asked) (c .lent) d routes) .routes)
+    Untouched (slotOf (c .asked) d) routes ((left (c .asked) (c .buffers) d routes) .routes)
