@@ -40,7 +40,7 @@ impl Device {
     fn think_check(self, ns: u32) -> Check
         ensures { λ r. ⌜ r ≡ hubCheck self ns ⌝ }
     {
-        if self.port_speed != 3 {
+        if self.port_speed != def::HIGH {
             return Check::Pass;
         }
         let t = hub::think_time(ns);
