@@ -26,7 +26,7 @@ use Rattle.endpoint.specs.Cells.{noCells, gathered, isOwned, owns, ownedRings, 
 use Rattle.endpoint.specs.declared.cells.Cells.{Cells}
 use Rattle.endpoint.specs.declared.cells.Owner.{Owner}
 use Rattle.endpoint.specs.declared.cells.Owner.the-variants.{Interface}
-use Rattle.endpoint.proofs.Laws.{dci-place, dci-low, dci-high, owned-at, owned-zero, claimed-ring, pending-at, word-at, queues-name, queues-other, queues-ring, queues-small}
+use Rattle.endpoint.proofs.Laws.{dci-place, dci-low, dci-high, owned-at, owned-zero, claimed-ring, pending-at, word-at, wordDcis as endpointDcis, queues-name, queues-other, queues-ring, queues-small}
 use Rattle.settings.specs.Match.{hasPlace, addressesFree}
 use Rattle.settings.proofs.Laws.{each-at, each-if, pending-place}
 use Rattle.routing.specs.Routing.{InTable, RoutedBy, Rerouted}
