@@ -9,15 +9,6 @@ use scenario::{Event, Layer, Reader, Session, left_text};
 
 const USAGE: &str = "usage: scenario [--layer model|original] FILE   (FILE - is standard input)";
 
-/// The proved library takes its place here when it can be linked.
-fn layer(name: &str) -> Option<Box<dyn Layer>> {
-    match name {
-        "model" => Some(Box::new(model::Model)),
-        "original" => original::layer(),
-        _ => None,
-    }
-}
-
 fn run(input: impl BufRead, layer: &mut dyn Layer, out: &mut impl Write) -> Result<(), String> {
     let mut reader = Reader::new();
     let mut session = Session::new();
@@ -48,7 +39,7 @@ fn main() -> ExitCode {
         _ => return fail(USAGE),
     };
     let name = name.to_string();
-    let Some(mut layer) = layer(&name) else {
+    let Some(mut layer) = runner::layer(&name) else {
         return fail(&format!("there is no layer '{name}' here"));
     };
     let mut out = io::BufWriter::new(io::stdout().lock());

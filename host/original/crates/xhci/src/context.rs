@@ -121,7 +121,6 @@ pub trait EndpointHandler: Block {
         set(self.dwords(), 2, 0, 1, 1);
     }
     fn set_tr_dequeue_pointer(&mut self, address: u64) {
-        assert!(address.is_multiple_of(16));
         set(self.dwords(), 2, 4, 28, (address >> 4) as u32);
         set(self.dwords(), 3, 0, 32, (address >> 32) as u32);
     }
