@@ -3,6 +3,8 @@
 use scenario::{Answer, BringUp, Buffers, Call, Cannot, Layer, Left, Outcome, Record, left_text, scenario_text};
 
 use crate::case::Case;
+use crate::refusal::{self, chain_fault};
+use crate::rows;
 use crate::tally::Tally;
 
 pub enum Verdict {
@@ -54,11 +56,14 @@ impl Pair {
         if !left_alone(case, subject) {
             return Verdict::Different("a refusal changed something");
         }
-        if subject.answer.number == 12 && case.record.usable && self.listed {
-            return match case.genuine {
-                true => Verdict::Different("a record that a call returned is refused"),
-                false => Verdict::Uncompared("12: the record is not sound"),
-            };
+        let number = subject.answer.number;
+        let expected = refusal::expected(case);
+        let judged = case.genuine || !case.record.usable;
+        if judged && (expected.is_some() || refusal::is_known(case, number)) && expected != Some(number) {
+            return Verdict::Different("the refusal");
+        }
+        if number == 12 && case.record.usable && self.listed {
+            return Verdict::Uncompared("12: the record is not sound");
         }
         let reference = Self::ask(&mut *self.reference, case);
         match &reference {
@@ -125,15 +130,13 @@ fn rule(case: &Case, subject: &Done, reference: &Result<Done, Cannot>) -> Verdic
         (Call::BringUp(args), 4 | 5 | 6 | 10 | 11) => refused_bring_up(args, number, reference),
         (_, 1 | 2 | 3) if no_such_input(reference) => Verdict::Uncompared("1, 2, 3: lengths"),
         (Call::Claim(_), 10) if no_such_input(reference) => Verdict::Uncompared("10: rings of the caller's choice"),
-        (Call::HubUpdate(_), 12) if !case.record.usable => Verdict::Listed("a hub update on an unusable record"),
         (Call::HubUpdate(args), _) if args.think > 65535 && no_such_input(reference) => {
             Verdict::Uncompared("a think time of more than 16 bits")
         }
-        (Call::HubUpdate(args), 7) => match args.think {
-            1..=665 => Verdict::Listed("think time too short"),
-            3330..=65535 => Verdict::Listed("think time too long"),
-            _ => Verdict::Different("the think time"),
-        },
+        (Call::HubUpdate(_), 12) if no_such_input(reference) => Verdict::Uncompared("12: the record of a refused bring-up"),
+        (Call::HubUpdate(_), 12) if !case.record.usable => Verdict::Listed(rows::BROKEN_HUB_UPDATE),
+        (Call::HubUpdate(args), 7) if args.think < 666 => Verdict::Listed(rows::THINK_SHORT),
+        (Call::HubUpdate(_), 7) => Verdict::Listed(rows::THINK_LONG),
         (_, 13) => failed_configure(case, subject, reference),
         _ => Verdict::Different("the layers"),
     }
@@ -143,80 +146,18 @@ fn no_such_input(reference: &Result<Done, Cannot>) -> bool {
     *reference == Err(Cannot::NoSuchInput)
 }
 
-/// Fields of a hub word: present, has parent, parent, depth plus one, speed, unused.
-fn hub(word: u64) -> (bool, bool, usize, u64, u64, u64) {
-    let parent = (word >> 54 & 0xFF) as usize;
-    (word >> 63 == 1, word >> 62 & 1 == 1, parent, word >> 43 & 7, word >> 40 & 7, word & 0x7FFF_FFFF)
-}
-
-/// What is wrong with the chain of hubs, for the name of the rule.
-fn chain_fault(args: &BringUp) -> Option<&'static str> {
-    if args.hubs.len() > 256 {
-        return Some("more than 256 hubs");
-    }
-    let mut next = args.has_parent.then_some(args.parent as usize);
-    let mut expected: Option<u64> = None;
-    while let Some(index) = next {
-        let Some((true, has_parent, parent, depth, speed, unused)) = args.hubs.get(index).map(|w| hub(*w)) else {
-            return Some("a hub that is missing");
-        };
-        if !(1..=5).contains(&speed) {
-            return Some("a hub of an unknown speed");
-        }
-        if unused != 0 || depth > 5 {
-            return Some("a hub word out of its form");
-        }
-        if expected.is_some_and(|e| e != depth) {
-            return Some("a chain whose depths do not fall by one");
-        }
-        if depth == 0 {
-            return None;
-        }
-        if !has_parent {
-            return Some("a hub of depth 0 or more without a parent");
-        }
-        expected = Some(depth - 1);
-        next = Some(parent);
-    }
-    None
-}
-
-/// What is wrong with a list of descriptor words.
-fn list_fault(list: &[u32]) -> bool {
-    let kinds: Vec<u32> = list.iter().map(|w| w >> 30).collect();
-    let mut interfaces: Vec<u32> = list.iter().filter(|w| *w >> 30 == 1).map(|w| w >> 22 & 0xFF).collect();
-    interfaces.sort();
-    interfaces.dedup();
-    let runs = kinds.split(|k| *k != 2).map(<[u32]>::len).max().unwrap_or(0);
-    let word_fault = |w: &u32| match w >> 30 {
-        0 => w & 0x3F_FFFF != 0,
-        1 => w & 0x3FFF != 0,
-        2 => w & 3 != 0 || w >> 25 & 15 == 0 || w >> 23 & 3 == 0 || w >> 25 & 31 == 31,
-        _ => true,
-    };
-    let misplaced = kinds.windows(2).any(|pair| pair == [0, 2]) || kinds.first().is_some_and(|k| *k != 0);
-    list.len() > 256
-        || kinds.iter().filter(|k| **k == 0).count() > 8
-        || interfaces.len() > 32
-        || runs > 30
-        || misplaced
-        || list.iter().any(word_fault)
-}
-
 fn refused_bring_up(args: &BringUp, number: u8, reference: &Result<Done, Cannot>) -> Verdict {
     let route_first = reference.as_ref().is_ok_and(|done| done.answer.number == 17);
     let panics = *reference == Err(Cannot::Panics);
     match number {
-        11 if args.slot == 0 => Verdict::Listed("slot 0"),
-        11 if args.n > 255 => Verdict::Listed("more than 255 slots"),
-        11 => Verdict::Different("the slot"),
-        4..=10 if route_first => Verdict::Listed("two faults in one bring-up"),
-        6 if args.speed == 6 && panics => Verdict::Listed("unknown speed"),
+        11 if args.slot == 0 => Verdict::Listed(rows::SLOT_0),
+        11 if args.n > 255 => Verdict::Listed(rows::MANY_SLOTS),
+        4..=10 if route_first => Verdict::Listed(rows::TWO_FAULTS),
+        6 if args.speed == 6 && panics => Verdict::Listed(rows::UNKNOWN_SPEED),
         6 if no_such_input(reference) => Verdict::Uncompared("6: a speed that has no name"),
-        6 if args.speed == 6 && *reference == Err(Cannot::WalksForever) => Verdict::Listed("a chain that does not lead to a root hub"),
-        4 if !list_fault(&args.list) => Verdict::Different("the list"),
+        6 if args.speed == 6 && *reference == Err(Cannot::WalksForever) => Verdict::Listed(rows::NO_ROOT_HUB),
         4 if no_such_input(reference) => Verdict::Uncompared("4: a word that stands for nothing"),
-        4 => Verdict::Listed("a list beyond the limits"),
+        4 => Verdict::Listed(rows::LIST_LIMITS),
         5 => refused_chain(chain_fault(args), reference),
         10 if no_such_input(reference) => Verdict::Uncompared("10: rings of the caller's choice"),
         _ => Verdict::Different("the bring-up"),
@@ -225,9 +166,9 @@ fn refused_bring_up(args: &BringUp, number: u8, reference: &Result<Done, Cannot>
 
 fn refused_chain(fault: Option<&'static str>, reference: &Result<Done, Cannot>) -> Verdict {
     match (fault, reference) {
-        (None, _) => Verdict::Different("the hub chain"),
-        (Some(_), Err(Cannot::WalksForever)) => Verdict::Listed("a chain that does not lead to a root hub"),
-        (Some(_), Err(Cannot::Panics)) => Verdict::Listed("a hub that is missing"),
+        (None, _) => Verdict::Different("the bring-up"),
+        (Some(_), Err(Cannot::WalksForever)) => Verdict::Listed(rows::NO_ROOT_HUB),
+        (Some(_), Err(Cannot::Panics)) => Verdict::Listed(rows::HUB_MISSING),
         (Some(_), Err(Cannot::NoSuchInput)) => Verdict::Uncompared("5: a hub word that stands for nothing"),
         (Some(fault), Ok(_)) => Verdict::Listed(fault),
     }
@@ -243,18 +184,18 @@ fn failed_configure(case: &Case, subject: &Done, reference: &Result<Done, Cannot
     let Done { answer, buffers, record } = subject;
     let operation = |index: usize| buffers.log[index] >> 28;
     let outcome = |index: usize| case.buffers.outcomes.get(index).copied().unwrap_or(0);
-    let failed = (0..answer.count).find(|i| operation(*i) == CONFIGURE && outcome(*i) == answer.code);
+    let configure = (0..answer.count).find(|i| operation(*i) == CONFIGURE);
     let disables = !matches!(case.call, Call::Claim(_) | Call::HubUpdate(_));
-    if failed.is_none() || !disables || reference.buffers != *buffers || reference.answer.count != answer.count {
+    if configure.map(outcome) != Some(answer.code) || !disables || reference.buffers != *buffers || reference.answer.count != answer.count {
         return Verdict::Different("the layers");
     }
     let last = answer.count - 1;
     match (reference.answer.number, reference.answer.code) {
-        (13, 0) if reference.record == *record => Verdict::Listed("the code of a failed Configure"),
+        (13, 0) if reference.record == *record => Verdict::Listed(rows::CONFIGURE_CODE),
         (14, 0) if operation(last) == RESUME && outcome(last) != 0 => {
             let broken = Record { usable: false, ..record.clone() };
             match reference.record == broken {
-                true => Verdict::Listed("a failed Configure whose resume fails too"),
+                true => Verdict::Listed(rows::RESUME_FAILS_TOO),
                 false => Verdict::Different("the record"),
             }
         }

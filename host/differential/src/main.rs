@@ -1,12 +1,14 @@
 //! Holds two layers against each other, call by call.
 #![forbid(unsafe_code)]
 
+mod build;
 mod case;
 mod compare;
 mod exhaustive;
-mod build;
 mod random;
+mod refusal;
 mod rng;
+mod rows;
 mod shrink;
 mod tally;
 
@@ -17,7 +19,7 @@ use compare::Pair;
 use tally::Tally;
 
 const USAGE: &str = "usage: differential [--reference NAME] [--subject NAME] [--seed N] [--calls N] [--part NAME]
-layers: original, model; parts: outcomes, intervals, ports, packets, think, slots, random (default: all)";
+layers: original, model; parts: refusals, records, outcomes, intervals, ports, packets, think, slots, random (default: all)";
 
 struct Options {
     reference: String,

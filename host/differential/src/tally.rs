@@ -5,10 +5,14 @@ use std::time::{Duration, Instant};
 
 use crate::case::Case;
 use crate::compare::{Pair, Verdict};
+use crate::rows;
 use crate::shrink;
 
 /// Different cases beyond this many are only counted.
-const KEPT: usize = 200;
+const KEPT: usize = 1000;
+
+/// Of those kept, the smallest so many are made smaller.
+const SHRUNK: usize = 10;
 
 #[derive(Default)]
 pub struct Tally {
@@ -56,8 +60,8 @@ impl Tally {
         println!("{} calls in {:.1} s: {} the same, {} different", self.calls, elapsed.as_secs_f64(), self.same, self.different);
         println!("answers: {}", counts(self.answers.iter()));
         println!("listed differences met:");
-        for (rule, count) in &self.listed {
-            println!("  {count:>8}  {rule}");
+        for row in rows::ALL {
+            println!("  {:>8}  {row}", self.listed.get(row).unwrap_or(&0));
         }
         println!("without a counterpart in the reference:");
         for (why, count) in &self.uncompared {
@@ -67,7 +71,10 @@ impl Tally {
 
     /// The smallest scenario among the different cases, with what both layers leave.
     pub fn first_difference(&self, pair: &mut Pair) -> Option<String> {
-        let small = self.kept.iter().map(|case| shrink::smallest(pair, case)).min_by_key(shrink::size)?;
+        let mut kept: Vec<&Case> = self.kept.iter().collect();
+        kept.sort_by_key(|case| shrink::size(case));
+        let tried = kept.iter().take(SHRUNK);
+        let small = tried.map(|case| shrink::smallest(pair, case)).min_by_key(shrink::size)?;
         Some(pair.report(&small))
     }
 }
