@@ -28,12 +28,7 @@ const DECLARING: [&str; 5] = [
 /// The one absent file that declares modules.
 const BACKEND: &str = "backend/mod.rs";
 
-const WHOLE: [&str; 4] = [
-    "device.rs",
-    "err.rs",
-    "backend/kmod/xhci/context.rs",
-    "backend/kmod/xhci/def.rs",
-];
+const WHOLE: [&str; 4] = ["device.rs", "err.rs", "backend/kmod/xhci/context.rs", "backend/kmod/xhci/def.rs"];
 
 /// Files whose private fields the host must see: something of ours follows them in the same module.
 const EXTENDED: [&str; 2] = ["backend/kmod/xhci/device.rs", "backend/kmod/xhci/transfer.rs"];

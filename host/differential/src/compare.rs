@@ -128,12 +128,14 @@ fn rule(case: &Case, subject: &Done, reference: &Result<Done, Cannot>) -> Verdic
     let number = subject.answer.number;
     match (&case.call, number) {
         (Call::BringUp(args), 4 | 5 | 6 | 10 | 11) => refused_bring_up(args, number, reference),
-        (_, 1 | 2 | 3) if no_such_input(reference) => Verdict::Uncompared("1, 2, 3: lengths"),
+        (_, 1..=3) if no_such_input(reference) => Verdict::Uncompared("1, 2, 3: lengths"),
         (Call::Claim(_), 10) if no_such_input(reference) => Verdict::Uncompared("10: rings of the caller's choice"),
         (Call::HubUpdate(args), _) if args.think > 65535 && no_such_input(reference) => {
             Verdict::Uncompared("a think time of more than 16 bits")
         }
-        (Call::HubUpdate(_), 12) if no_such_input(reference) => Verdict::Uncompared("12: the record of a refused bring-up"),
+        (Call::HubUpdate(_), 12) if no_such_input(reference) => {
+            Verdict::Uncompared("12: the record of a refused bring-up")
+        }
         (Call::HubUpdate(_), 12) if !case.record.usable => Verdict::Listed(rows::BROKEN_HUB_UPDATE),
         (Call::HubUpdate(args), 7) if args.think < 666 => Verdict::Listed(rows::THINK_SHORT),
         (Call::HubUpdate(_), 7) => Verdict::Listed(rows::THINK_LONG),
@@ -186,7 +188,11 @@ fn failed_configure(case: &Case, subject: &Done, reference: &Result<Done, Cannot
     let outcome = |index: usize| case.buffers.outcomes.get(index).copied().unwrap_or(0);
     let configure = (0..answer.count).find(|i| operation(*i) == CONFIGURE);
     let disables = !matches!(case.call, Call::Claim(_) | Call::HubUpdate(_));
-    if configure.map(outcome) != Some(answer.code) || !disables || reference.buffers != *buffers || reference.answer.count != answer.count {
+    if configure.map(outcome) != Some(answer.code)
+        || !disables
+        || reference.buffers != *buffers
+        || reference.answer.count != answer.count
+    {
         return Verdict::Different("the layers");
     }
     let last = answer.count - 1;

@@ -340,7 +340,9 @@ fn refusals(pair: &mut Pair, tally: &mut Tally) {
     let list = &lists()[3];
     let held = Record {
         held: vec![(0, 0)],
-        endpoints: [(0x01, 0x3000), (0x81, 0x2000)].map(|(address, ring)| Endpoint { address, ring, owner: 0, active: true }).to_vec(),
+        endpoints: [(0x01, 0x3000), (0x81, 0x2000)]
+            .map(|(address, ring)| Endpoint { address, ring, owner: 0, active: true })
+            .to_vec(),
         ..idle(3, 32, list)
     };
     let calls = [

@@ -82,3 +82,25 @@ fn main() -> ExitCode {
         }
     }
 }
+
+#[cfg(test)]
+mod tests {
+    use super::*;
+
+    /// A short run; without the original, of the model against itself.
+    #[test]
+    fn no_difference_is_unlisted() {
+        let listed = runner::layer("original").is_some();
+        let reference = runner::layer(if listed { "original" } else { "model" }).expect("a layer");
+        let subject = runner::layer("model").expect("the model");
+        let mut pair = Pair { reference, subject, listed };
+        let mut tally = Tally::default();
+        for (name, part) in exhaustive::PARTS {
+            if ["refusals", "records", "packets"].contains(&name) {
+                part(&mut pair, &mut tally);
+            }
+        }
+        random::run(&mut pair, &mut tally, 1, 5_000);
+        assert_eq!(tally.first_difference(&mut pair), None);
+    }
+}

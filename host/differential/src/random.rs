@@ -171,7 +171,12 @@ fn broken_list(rng: &mut Rng) -> Vec<u32> {
         2 => list.extend([configuration(1), endpoint(0x81, BULK, 8, 0, 0)]),
         3 => list.extend([configuration(1), alternate(0, 0), endpoint(0x8F, BULK, 8, 0, 0)]),
         4 => list = vec![configuration(1); 9],
-        5 => list = (0..=255).map(|i| if i == 0 { configuration(1) } else { alternate(0, i) }).chain([alternate(0, 0); 2]).collect(),
+        5 => {
+            list = (0..=255)
+                .map(|i| if i == 0 { configuration(1) } else { alternate(0, i) })
+                .chain([alternate(0, 0); 2])
+                .collect()
+        }
         6 => list = [configuration(1)].into_iter().chain((0..33).map(|i| alternate(i, 0))).collect(),
         7 => list = [configuration(1), alternate(0, 0)].into_iter().chain([endpoint(1, BULK, 8, 0, 0); 31]).collect(),
         _ => {
@@ -194,8 +199,15 @@ fn hubs(rng: &mut Rng, args: &mut BringUp) {
     for depth in 0..=top {
         let parent = depth.checked_sub(1).map(|d| places[d]).or_else(|| rng.percent(30).then(|| rng.byte()));
         let speed = rng.of(&[1, 2, 3, 3, 4, 5]);
-        hubs[usize::from(places[depth])] =
-            Hub { present: true, parent, slot: rng.byte(), depth: depth as u8, speed, port: port(rng), multi: rng.percent(50) };
+        hubs[usize::from(places[depth])] = Hub {
+            present: true,
+            parent,
+            slot: rng.byte(),
+            depth: depth as u8,
+            speed,
+            port: port(rng),
+            multi: rng.percent(50),
+        };
     }
     args.has_parent = rng.percent(60);
     args.parent = places[top].into();

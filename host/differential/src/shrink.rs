@@ -14,7 +14,10 @@ pub fn size(case: &Case) -> usize {
         _ => 0,
     };
     let routes = case.buffers.routes.iter().filter(|w| **w != 0).count();
-    nonzero(&case.buffers.ctx) + case.buffers.outcomes.len() + nonzero(&case.buffers.outcomes) + 2 * routes
+    nonzero(&case.buffers.ctx)
+        + case.buffers.outcomes.len()
+        + nonzero(&case.buffers.outcomes)
+        + 2 * routes
         + 8 * (case.record.list.len() + case.record.endpoints.len())
         + case.buffers.ctx.len() / 1000
         + of_call
@@ -71,7 +74,10 @@ fn without_endpoint(case: &mut Case, address: u8) {
     case.record.list.retain(|w| !word_of(w));
 }
 
-fn of_call(case: &Case, with: &mut dyn FnMut(&dyn Fn(&mut Case))) {
+/// Adds a case, changed in one way.
+type With<'a> = &'a mut dyn FnMut(&dyn Fn(&mut Case));
+
+fn of_call(case: &Case, with: With) {
     match &case.call {
         Call::BringUp(args) => {
             for at in 0..args.list.len() {

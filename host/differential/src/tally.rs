@@ -57,7 +57,13 @@ impl Tally {
         for (name, calls, time) in &self.parts {
             println!("  {name}: {calls} calls in {:.1} s", time.as_secs_f64());
         }
-        println!("{} calls in {:.1} s: {} the same, {} different", self.calls, elapsed.as_secs_f64(), self.same, self.different);
+        println!(
+            "{} calls in {:.1} s: {} the same, {} different",
+            self.calls,
+            elapsed.as_secs_f64(),
+            self.same,
+            self.different
+        );
         println!("answers: {}", counts(self.answers.iter()));
         println!("listed differences met:");
         for row in rows::ALL {

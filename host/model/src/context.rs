@@ -97,7 +97,14 @@ impl Context<'_> {
 
     /// `prepare_configure_context`: "Each Configure's drop and add flags 2 to 31 are written whole. Context
     /// entries is one above the highest Dci among record and added endpoints, or 2 if there are none."
-    pub fn configure(&mut self, setting: (u8, u8), drop: &[EndpointWord], add: &[Added], record_dcis: &[u8], speed: u8) {
+    pub fn configure(
+        &mut self,
+        setting: (u8, u8),
+        drop: &[EndpointWord],
+        add: &[Added],
+        record_dcis: &[u8],
+        speed: u8,
+    ) {
         self.change();
         self.put(CONTROL, 7, 8, 8, setting.0.into());
         self.put(CONTROL, 7, 16, 8, setting.1.into());

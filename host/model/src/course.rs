@@ -106,7 +106,13 @@ impl<'a> Course<'a> {
     }
 
     /// Writes the context and sends Configure. 4.13: entries count the record's endpoints as they are now.
-    fn configure(&mut self, setting: (u8, u8), drop: &[EndpointWord], add: &[EndpointWord], rings: &BTreeMap<u8, u64>) -> Run {
+    fn configure(
+        &mut self,
+        setting: (u8, u8),
+        drop: &[EndpointWord],
+        add: &[EndpointWord],
+        rings: &BTreeMap<u8, u64>,
+    ) -> Run {
         let dcis: Vec<u8> = self.record.endpoints.iter().map(|e| dci(e.address)).collect();
         let speed = self.record.speed;
         self.context().configure(setting, drop, &added(add, rings), &dcis, speed);
@@ -207,7 +213,8 @@ impl<'a> Course<'a> {
             return Err(self.broken_claim(BROKEN, &pending));
         }
         self.forget(*interface);
-        let claimed = |(address, ring): (&u8, &u64)| Endpoint { address: *address, ring: *ring, owner: *interface, active: true };
+        let claimed =
+            |(address, ring): (&u8, &u64)| Endpoint { address: *address, ring: *ring, owner: *interface, active: true };
         self.record.endpoints.extend(pending.iter().map(claimed));
         self.record.held.push((*interface, *alternate));
         self.record = self.record.sorted();
@@ -215,7 +222,14 @@ impl<'a> Course<'a> {
     }
 
     /// 4.3: a claim undone makes all old ones Active, with no Resume sent. 4.12: the old alternate, or 0.
-    fn undo_claim(&mut self, interface: u8, alternate: Option<u8>, new: &[EndpointWord], old_words: &[EndpointWord], old: &[u8]) -> Run {
+    fn undo_claim(
+        &mut self,
+        interface: u8,
+        alternate: Option<u8>,
+        new: &[EndpointWord],
+        old_words: &[EndpointWord],
+        old: &[u8],
+    ) -> Run {
         let rings = self.rings();
         self.configure((interface, alternate.unwrap_or(0)), new, old_words, &rings)?;
         if let Some(alternate) = alternate {

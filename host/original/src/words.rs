@@ -36,9 +36,7 @@ fn add_alternate(configuration: &mut ConfigurationDescriptor, interface_number: 
     let same = |i: &&mut InterfaceDescriptors| i.interface_number == interface_number;
     match configuration.interfaces.iter_mut().find(same) {
         Some(interface) => interface.alt_settings.push(alternate),
-        None => configuration
-            .interfaces
-            .push(InterfaceDescriptors { interface_number, alt_settings: vec![alternate] }),
+        None => configuration.interfaces.push(InterfaceDescriptors { interface_number, alt_settings: vec![alternate] }),
     }
 }
 

@@ -13,9 +13,9 @@ fn run(input: impl BufRead, layer: &mut dyn Layer, out: &mut impl Write) -> Resu
     let mut reader = Reader::new();
     let mut session = Session::new();
     let mut text = String::new();
-    for line in input.lines() {
+    for line in input.split(b'\n') {
         let line = line.map_err(|e| e.to_string())?;
-        match reader.line(&line).map_err(|e| e.to_string())? {
+        match reader.line(&String::from_utf8_lossy(&line)).map_err(|e| e.to_string())? {
             Some(Event::Begin(_)) => session = Session::new(),
             Some(Event::Call(step)) => {
                 text.clear();

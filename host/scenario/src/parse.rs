@@ -40,9 +40,7 @@ fn word<'a>(words: &mut Words<'a>, what: &str) -> Parsed<&'a str> {
 fn decimal<T: TryFrom<u64>>(text: &str) -> Parsed<T> {
     let all_digits = !text.is_empty() && text.bytes().all(|b| b.is_ascii_digit());
     let value = text.parse::<u64>().ok().filter(|_| all_digits);
-    value
-        .and_then(|v| T::try_from(v).ok())
-        .ok_or_else(|| format!("'{text}' is not a decimal number, or out of range"))
+    value.and_then(|v| T::try_from(v).ok()).ok_or_else(|| format!("'{text}' is not a decimal number, or out of range"))
 }
 
 fn hex(text: &str, most: usize) -> Parsed<u64> {
@@ -75,7 +73,7 @@ fn length(words: &mut Words) -> Parsed<usize> {
 
 fn bytes(words: &mut Words) -> Parsed<Vec<u8>> {
     let text = words.next().unwrap_or("");
-    if text.len() % 2 != 0 || !text.bytes().all(|b| b.is_ascii_hexdigit()) {
+    if !text.len().is_multiple_of(2) || !text.bytes().all(|b| b.is_ascii_hexdigit()) {
         return Err("bytes are two hexadecimal digits each".to_string());
     }
     let digit = |b: u8| (b as char).to_digit(16).unwrap_or(0) as u8;
@@ -110,7 +108,7 @@ fn lifecycle(text: &str) -> Parsed<bool> {
     }
 }
 
-fn split<'a>(text: &'a str, at: char) -> Parsed<(&'a str, &'a str)> {
+fn split(text: &str, at: char) -> Parsed<(&str, &str)> {
     text.split_once(at).ok_or_else(|| format!("'{text}' has no '{at}'"))
 }
 

@@ -53,13 +53,7 @@ impl Session {
     pub fn settle(&mut self, record: Record, answer: Answer, buffers: Buffers) -> Left {
         self.table[..buffers.routes.len()].copy_from_slice(&buffers.routes);
         self.record = record.clone();
-        Left {
-            answer,
-            record,
-            log: buffers.log,
-            ctx: buffers.ctx,
-            table: self.table.clone(),
-        }
+        Left { answer, record, log: buffers.log, ctx: buffers.ctx, table: self.table.clone() }
     }
 
     pub fn run(&mut self, layer: &mut dyn Layer, step: &Step) -> Result<Left, Cannot> {

@@ -53,9 +53,8 @@ impl Endpoint {
     }
 
     pub(crate) fn stop_future(&self) -> EndpointResetFuture {
-        let stop = *command::StopEndpoint::default()
-            .set_endpoint_id(self.dci.as_u8())
-            .set_slot_id(self.slot_id.as_u8());
+        let stop =
+            *command::StopEndpoint::default().set_endpoint_id(self.dci.as_u8()).set_slot_id(self.slot_id.as_u8());
         self.request(command::Allowed::StopEndpoint(stop))
     }
 
@@ -89,4 +88,3 @@ impl EndpointOp for Endpoint {
 
     fn register_waker(&self, _id: RequestId, _cx: &mut core::task::Context<'_>) {}
 }
-

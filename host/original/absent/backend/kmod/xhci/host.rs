@@ -2,11 +2,11 @@
 use usb_if::err::{TransferError, USBError};
 use xhci::ring::trb::{command, event::CommandCompletion};
 
+use super::SlotId;
 use super::cmd::CommandRing;
 use super::context::DeviceContextList;
 use super::reg::{SlotBell, XhciRegistersShared};
 use super::transfer::TransferResultHandler;
-use super::SlotId;
 use crate::backend::kmod::kcore::CoreOp;
 use crate::backend::kmod::osal::{Kernel, KernelOp};
 use crate::err::Result;

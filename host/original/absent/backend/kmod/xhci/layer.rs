@@ -90,13 +90,11 @@ fn lengths_fit(buffers: &Buffers, spacing: usize, n: u32) -> bool {
 
 fn rings_fit(rings: &[u64], taken: usize, record: &Record) -> bool {
     let known = |ring: &u64| {
-        *ring == record.control
-            || record.quarantined.contains(ring)
-            || record.endpoints.iter().any(|e| e.ring == *ring)
+        *ring == record.control || record.quarantined.contains(ring) || record.endpoints.iter().any(|e| e.ring == *ring)
     };
     let once = |(i, ring): (usize, &u64)| !rings[..i].contains(ring);
     rings.len() == taken
-        && rings.iter().all(|ring| *ring != 0 && *ring % 16 == 0 && !known(ring))
+        && rings.iter().all(|ring| *ring != 0 && ring.is_multiple_of(16) && !known(ring))
         && rings.iter().enumerate().all(once)
 }
 
@@ -161,7 +159,7 @@ fn bring_up(args: &BringUp, buffers: &mut Buffers) -> Outcome {
         Poll::Ready(Err(err)) => return refused(answer(Poll::Ready(Err(err))).0, Record::default()),
         Poll::Pending => return Err(Cannot::NoSuchInput),
     };
-    let aligned = args.ring != 0 && args.ring % 16 == 0;
+    let aligned = args.ring != 0 && args.ring.is_multiple_of(16);
     if !lengths_fit(buffers, spacing, args.n) || !aligned {
         return Err(Cannot::NoSuchInput);
     }

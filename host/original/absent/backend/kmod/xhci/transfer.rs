@@ -1,4 +1,3 @@
-
 // The routes as words.
 impl TransferResultHandler {
     pub(crate) fn load_routes(&self, words: &[u64]) {

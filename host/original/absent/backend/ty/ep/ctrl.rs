@@ -26,7 +26,13 @@ impl EndpointHandle {
         bus::send(bus::word(bus::SET_CONFIGURATION, value, 0)).await
     }
 
-    pub async fn get_descriptor(&mut self, kind: DescriptorType, _index: u8, _language: u16, buff: &mut [u8]) -> Read<usize> {
+    pub async fn get_descriptor(
+        &mut self,
+        kind: DescriptorType,
+        _index: u8,
+        _language: u16,
+        buff: &mut [u8],
+    ) -> Read<usize> {
         if kind != DescriptorType::DEVICE || buff.len() != 8 {
             return Err(TransferError::NotSupported);
         }
