@@ -17,12 +17,20 @@ pub enum Verdict {
     Different(&'static str),
 }
 
-/// What a call left, its record's maps in rising order.
-#[derive(Clone, PartialEq, Eq)]
+/// What a call left.
 pub struct Done {
+    /// With its maps in rising order.
     pub record: Record,
     pub answer: Answer,
     pub buffers: Buffers,
+    /// The record in the order in which it was returned.
+    pub returned: Record,
+}
+
+impl Done {
+    fn same(&self, other: &Done) -> bool {
+        self.record == other.record && self.answer == other.answer && self.buffers == other.buffers
+    }
 }
 
 pub struct Pair {
@@ -33,7 +41,7 @@ pub struct Pair {
 }
 
 fn done(outcome: Outcome, buffers: Buffers) -> Result<Done, Cannot> {
-    outcome.map(|(record, answer)| Done { record: record.sorted(), answer, buffers })
+    outcome.map(|(returned, answer)| Done { record: returned.sorted(), answer, buffers, returned })
 }
 
 impl Pair {
@@ -67,7 +75,7 @@ impl Pair {
         }
         let reference = Self::ask(&mut *self.reference, case);
         match &reference {
-            Ok(reference) if reference == subject => Verdict::Same,
+            Ok(reference) if reference.same(subject) => Verdict::Same,
             _ if !self.listed => Verdict::Different("the layers"),
             _ => rule(case, subject, &reference),
         }
@@ -106,7 +114,7 @@ impl Pair {
 fn describe(text: &mut String, done: Result<Done, Cannot>) {
     match done {
         Err(cannot) => text.push_str(&format!("no answer: {cannot:?}\n")),
-        Ok(Done { record, answer, buffers }) => {
+        Ok(Done { record, answer, buffers, .. }) => {
             let Buffers { ctx, routes, log, .. } = buffers;
             left_text(text, &Left { answer, record, log, ctx, table: routes });
         }
@@ -145,19 +153,20 @@ fn rule(case: &Case, subject: &Done, reference: &Result<Done, Cannot>) -> Verdic
 }
 
 fn no_such_input(reference: &Result<Done, Cannot>) -> bool {
-    *reference == Err(Cannot::NoSuchInput)
+    matches!(reference, Err(Cannot::NoSuchInput))
 }
 
 fn refused_bring_up(args: &BringUp, number: u8, reference: &Result<Done, Cannot>) -> Verdict {
     let route_first = reference.as_ref().is_ok_and(|done| done.answer.number == 17);
-    let panics = *reference == Err(Cannot::Panics);
+    let panics = matches!(reference, Err(Cannot::Panics));
+    let walks = matches!(reference, Err(Cannot::WalksForever));
     match number {
         11 if args.slot == 0 => Verdict::Listed(rows::SLOT_0),
         11 if args.n > 255 => Verdict::Listed(rows::MANY_SLOTS),
         4..=10 if route_first => Verdict::Listed(rows::TWO_FAULTS),
         6 if args.speed == 6 && panics => Verdict::Listed(rows::UNKNOWN_SPEED),
         6 if no_such_input(reference) => Verdict::Uncompared("6: a speed that has no name"),
-        6 if args.speed == 6 && *reference == Err(Cannot::WalksForever) => Verdict::Listed(rows::NO_ROOT_HUB),
+        6 if args.speed == 6 && walks => Verdict::Listed(rows::NO_ROOT_HUB),
         4 if no_such_input(reference) => Verdict::Uncompared("4: a word that stands for nothing"),
         4 => Verdict::Listed(rows::LIST_LIMITS),
         5 => refused_chain(chain_fault(args), reference),
@@ -183,7 +192,7 @@ fn failed_configure(case: &Case, subject: &Done, reference: &Result<Done, Cannot
     let Ok(reference) = reference else {
         return Verdict::Different("the layers");
     };
-    let Done { answer, buffers, record } = subject;
+    let Done { answer, buffers, record, .. } = subject;
     let operation = |index: usize| buffers.log[index] >> 28;
     let outcome = |index: usize| case.buffers.outcomes.get(index).copied().unwrap_or(0);
     let configure = (0..answer.count).find(|i| operation(*i) == CONFIGURE);

@@ -18,7 +18,7 @@ pub fn run(pair: &mut Pair, tally: &mut Tally, seed: u64, calls: u64) {
 
 fn scenario(pair: &mut Pair, tally: &mut Tally, rng: &mut Rng) {
     let args = bring_up(rng);
-    let n = args.n as usize;
+    let (slot, n) = (args.slot, args.n as usize);
     let mut routes = vec![0; 32 * (n + 1)];
     if rng.percent(20) {
         spoil(rng, &mut routes);
@@ -30,7 +30,7 @@ fn scenario(pair: &mut Pair, tally: &mut Tally, rng: &mut Rng) {
     let Some(done) = pair.compare(tally, &case) else {
         return;
     };
-    let mut record = done.record;
+    let mut record = done.returned;
     if done.buffers.routes.len() == routes.len() {
         routes = done.buffers.routes;
     }
@@ -42,7 +42,7 @@ fn scenario(pair: &mut Pair, tally: &mut Tally, rng: &mut Rng) {
             spoil(rng, &mut routes);
         }
         context(rng, &mut ctx);
-        let call = call(rng, &record);
+        let call = if rng.percent(3) { again(rng, slot, n) } else { call(rng, &record) };
         let memory = given(rng, &ctx, &routes, 55);
         let mut case = Case::new(call, &record, memory);
         disturb(rng, &mut case);
@@ -50,7 +50,7 @@ fn scenario(pair: &mut Pair, tally: &mut Tally, rng: &mut Rng) {
             return;
         };
         if case.genuine && done.buffers.routes.len() == routes.len() {
-            record = done.record;
+            record = done.returned;
             routes = done.buffers.routes;
             if done.buffers.ctx.len() == ctx.len() {
                 ctx = done.buffers.ctx;
@@ -245,6 +245,11 @@ fn fault(rng: &mut Rng, hubs: &mut [Hub], at: usize) {
         3 => hubs[at].speed = rng.byte() & 7,
         _ => hubs[at].parent = Some(at as u8),
     }
+}
+
+/// Another bring-up of the slot.
+fn again(rng: &mut Rng, slot: u8, n: usize) -> Call {
+    Call::BringUp(BringUp { slot, n: n as u32, ..bring_up(rng) })
 }
 
 fn call(rng: &mut Rng, record: &Record) -> Call {
