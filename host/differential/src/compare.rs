@@ -101,6 +101,9 @@ impl Pair {
             text.push_str(": ");
             text.push_str(what);
         }
+        if let (Ok(subject), Ok(reference)) = (&subject, &reference) {
+            text.push_str(&format!(" ({})", unlike(subject, reference).join(", ")));
+        }
         text.push_str("\nthe smallest scenario found:\n");
         scenario_text(&mut text, &case.scenario("smallest"));
         text.push_str("the subject leaves:\n");
@@ -109,6 +112,17 @@ impl Pair {
         describe(&mut text, reference);
         text
     }
+}
+
+fn unlike(subject: &Done, reference: &Done) -> Vec<&'static str> {
+    let parts = [
+        ("answer", subject.answer == reference.answer),
+        ("log", subject.buffers.log == reference.buffers.log),
+        ("context", subject.buffers.ctx == reference.buffers.ctx),
+        ("routes", subject.buffers.routes == reference.buffers.routes),
+        ("record", subject.record == reference.record),
+    ];
+    parts.iter().filter(|part| !part.1).map(|part| part.0).collect()
 }
 
 fn describe(text: &mut String, done: Result<Done, Cannot>) {

@@ -1,18 +1,19 @@
 //! Inputs that can be gone through whole.
 
-use scenario::{BringUp, Buffers, Call, Claim, Endpoint, HubUpdate, Record};
+use scenario::{BringUp, Buffers, Call, Claim, HubUpdate, Record};
 
 use crate::build::*;
 use crate::case::Case;
 use crate::compare::{Done, Pair};
+use crate::faults;
 use crate::rng::Rng;
 use crate::tally::Tally;
 
 type Part = fn(&mut Pair, &mut Tally);
 
 pub const PARTS: [(&str, Part); 8] = [
-    ("refusals", refusals),
-    ("records", records),
+    ("refusals", faults::refusals),
+    ("records", faults::records),
     ("outcomes", outcomes),
     ("intervals", intervals),
     ("ports", ports),
@@ -21,64 +22,74 @@ pub const PARTS: [(&str, Part); 8] = [
     ("slots", slots),
 ];
 
-const ALL_DONE: [u8; 64] = [0; 64];
+pub const ALL_DONE: [u8; 64] = [0; 64];
 
-/// A handful of lists: none, a bare configuration, two alternates, two interfaces that share an address, several
-/// configurations with repeated addresses, and one as large as it may be.
-fn lists() -> Vec<Vec<u32>> {
-    let many: Vec<u8> = (1..=15).chain(0x81..=0x8E).collect();
-    let mut large = vec![configuration(9), alternate(0, 0)];
-    large.extend(many.iter().map(|a| endpoint(*a, 1 + u32::from(a % 3), 512, 2, 5)));
-    large.extend([alternate(0, 1), endpoint(0x81, BULK, 64, 0, 0), endpoint(0x0F, INTERRUPT, 8, 1, 3)]);
-    large.extend([alternate(1, 0)]);
+/// As many endpoints in an alternate as there are addresses.
+fn large_list() -> Vec<u32> {
+    let addresses = (1..=15).chain(0x81..=0x8E);
+    let mut list = vec![configuration(9), alternate(0, 0)];
+    list.extend(addresses.map(|a: u8| endpoint(a, 1 + u32::from(a % 3), 512, 2, 5)));
+    list.extend([alternate(0, 1), endpoint(0x81, BULK, 64, 0, 0), endpoint(0x0F, INTERRUPT, 8, 1, 3)]);
+    list.push(alternate(1, 0));
+    list
+}
+
+/// Two interfaces; alternate 1 of the second has an address of the first.
+pub fn sharing_list() -> Vec<u32> {
     vec![
-        vec![],
-        vec![configuration(3)],
-        vec![
-            configuration(1),
-            alternate(0, 0),
-            endpoint(0x81, INTERRUPT, 64, 1, 4),
-            alternate(0, 1),
-            endpoint(0x82, BULK, 512, 0, 7),
-            endpoint(0x02, ISOCHRONOUS, 1000, 3, 1),
-        ],
-        vec![
-            configuration(1),
-            alternate(0, 0),
-            endpoint(0x81, BULK, 512, 0, 0),
-            endpoint(0x01, BULK, 512, 0, 0),
-            alternate(0, 1),
-            alternate(1, 0),
-            endpoint(0x83, ISOCHRONOUS, 1023, 2, 1),
-            endpoint(0x03, INTERRUPT, 16, 1, 255),
-            alternate(1, 1),
-            endpoint(0x81, INTERRUPT, 8, 1, 10),
-        ],
-        vec![
-            configuration(2),
-            alternate(0, 0),
-            endpoint(0x81, INTERRUPT, 64, 3, 9),
-            endpoint(0x81, BULK, 32, 0, 1),
-            configuration(7),
-            alternate(0, 0),
-            endpoint(0x85, BULK, 512, 0, 0),
-            alternate(0, 1),
-            endpoint(0x05, ISOCHRONOUS, 200, 0, 4),
-            endpoint(0x81, INTERRUPT, 64, 1, 1),
-            endpoint(0x05, ISOCHRONOUS, 100, 1, 16),
-            alternate(2, 1),
-            endpoint(0x8E, BULK, 64, 1, 0),
-            configuration(7),
-        ],
-        large,
+        configuration(1),
+        alternate(0, 0),
+        endpoint(0x81, BULK, 512, 0, 0),
+        endpoint(0x01, BULK, 512, 0, 0),
+        alternate(0, 1),
+        alternate(1, 0),
+        endpoint(0x83, ISOCHRONOUS, 1023, 2, 1),
+        endpoint(0x03, INTERRUPT, 16, 1, 255),
+        alternate(1, 1),
+        endpoint(0x81, INTERRUPT, 8, 1, 10),
     ]
+}
+
+/// Several configurations, an interface in two of them, repeated addresses, no alternate 0.
+fn repeating_list() -> Vec<u32> {
+    vec![
+        configuration(2),
+        alternate(0, 0),
+        endpoint(0x81, INTERRUPT, 64, 3, 9),
+        endpoint(0x81, BULK, 32, 0, 1),
+        configuration(7),
+        alternate(0, 0),
+        endpoint(0x85, BULK, 512, 0, 0),
+        alternate(0, 1),
+        endpoint(0x05, ISOCHRONOUS, 200, 0, 4),
+        endpoint(0x81, INTERRUPT, 64, 1, 1),
+        endpoint(0x05, ISOCHRONOUS, 100, 1, 16),
+        alternate(2, 1),
+        endpoint(0x8E, BULK, 64, 1, 0),
+        configuration(7),
+    ]
+}
+
+fn two_alternates() -> Vec<u32> {
+    vec![
+        configuration(1),
+        alternate(0, 0),
+        endpoint(0x81, INTERRUPT, 64, 1, 4),
+        alternate(0, 1),
+        endpoint(0x82, BULK, 512, 0, 7),
+        endpoint(0x02, ISOCHRONOUS, 1000, 3, 1),
+    ]
+}
+
+fn lists() -> [Vec<u32>; 6] {
+    [vec![], vec![configuration(3)], two_alternates(), sharing_list(), repeating_list(), large_list()]
 }
 
 fn context(spacing: usize, rng: &mut Rng) -> Vec<u8> {
     rng.bytes(33 * spacing)
 }
 
-fn claim(list: &[u32], interface: u8, alternate: u8, first_ring: u64) -> Call {
+pub fn claim(list: &[u32], interface: u8, alternate: u8, first_ring: u64) -> Call {
     let wanted = rings_wanted(list, interface, alternate) as u64;
     let rings = (0..wanted).map(|i| first_ring + 16 * i).collect();
     Call::Claim(Claim { interface, alternate, rings })
@@ -175,7 +186,7 @@ fn spoiled(pair: &mut Pair, tally: &mut Tally, case: &Case) {
 }
 
 /// A record of slot 1 of 2 that holds nothing.
-fn idle(speed: u8, spacing: usize, list: &[u32]) -> Record {
+pub fn idle(speed: u8, spacing: usize, list: &[u32]) -> Record {
     Record {
         usable: true,
         slot: 1,
@@ -319,166 +330,6 @@ fn think(pair: &mut Pair, tally: &mut Tally) {
             pair.compare(tally, &case);
         }
     }
-}
-
-/// Every subset of so many faults.
-fn subsets(faults: usize) -> impl Iterator<Item = Vec<usize>> {
-    (0..1u32 << faults).map(move |set| (0..faults).filter(|fault| set >> fault & 1 == 1).collect())
-}
-
-/// Every set of faults that a call can have, so that the order of the checks shows.
-fn refusals(pair: &mut Pair, tally: &mut Tally) {
-    for faults in subsets(9) {
-        let args = plain(3, &[configuration(1)]);
-        let given = buffers(vec![0x5A; 1056], vec![0; 96], ALL_DONE.to_vec());
-        let mut case = Case::new(Call::BringUp(args), &Record::default(), given);
-        for fault in faults {
-            spoil_bring_up(&mut case, fault);
-        }
-        pair.compare(tally, &case);
-    }
-    let list = &lists()[3];
-    let held = Record {
-        held: vec![(0, 0)],
-        endpoints: [(0x01, 0x3000), (0x81, 0x2000)]
-            .map(|(address, ring)| Endpoint { address, ring, owner: 0, active: true })
-            .to_vec(),
-        ..idle(3, 32, list)
-    };
-    let calls = [
-        claim(list, 1, 0, 0x9000),
-        claim(list, 1, 1, 0x9000),
-        claim(list, 7, 7, 0x9000),
-        Call::Claim(Claim { interface: 1, alternate: 0, rings: vec![0x9000] }),
-        Call::Claim(Claim { interface: 1, alternate: 1, rings: vec![0x2000] }),
-        Call::Claim(Claim { interface: 7, alternate: 7, rings: vec![8] }),
-        Call::Release { interface: 0 },
-        Call::Release { interface: 1 },
-        Call::Release { interface: 7 },
-        Call::SetConfiguration { value: 1 },
-        Call::HubUpdate(HubUpdate { ports: 1, multi: false, think: 0 }),
-        Call::HubUpdate(HubUpdate { ports: 1, multi: false, think: 1 }),
-    ];
-    for call in calls {
-        for faults in subsets(4) {
-            let mut routes = vec![0; 96];
-            routes[32 + 1..32 + 4].copy_from_slice(&[0x1000, 0x3000, 0x2000]);
-            let mut case = Case::new(call.clone(), &held, buffers(vec![0x5A; 1056], routes, ALL_DONE.to_vec()));
-            for fault in faults {
-                match fault {
-                    0 => case.record.usable = false,
-                    _ => spoil_lengths(&mut case.buffers, fault),
-                }
-            }
-            pair.compare(tally, &case);
-        }
-    }
-}
-
-fn spoil_lengths(buffers: &mut Buffers, fault: usize) {
-    match fault {
-        1 => buffers.ctx.truncate(1055),
-        2 => drop(buffers.routes.pop()),
-        _ => buffers.log.truncate(63),
-    }
-}
-
-fn spoil_bring_up(case: &mut Case, fault: usize) {
-    case.buffers.routes.iter_mut().skip(33).take(usize::from(fault == 0)).for_each(|word| *word = 0x10);
-    let Call::BringUp(args) = &mut case.call else {
-        return;
-    };
-    match fault {
-        0 => {}
-        1..=3 => spoil_lengths(&mut case.buffers, fault),
-        4 => args.speed = 6,
-        5 => args.list.push(endpoint(1, BULK, 8, 0, 0)),
-        6 => args.has_parent = true,
-        7 => args.ring = 8,
-        _ => args.slot = 3,
-    }
-}
-
-/// Records with one thing wrong, or merely unusual. (Only the other layers can say which; the original does not judge.)
-fn records(pair: &mut Pair, tally: &mut Tally) {
-    let list = lists().swap_remove(3);
-    let holds = |address, ring, owner| Endpoint { address, ring, owner, active: true };
-    let sound = Record {
-        held: vec![(0, 0), (1, 0)],
-        endpoints: vec![holds(0x01, 0x3000, 0), holds(0x03, 0x5000, 1), holds(0x81, 0x2000, 0), holds(0x83, 0x4000, 1)],
-        ..idle(3, 32, &list)
-    };
-    let mut routes = vec![0; 96];
-    for (dci, ring) in [(1, 0x1000), (2, 0x3000), (3, 0x2000), (6, 0x5000), (7, 0x4000)] {
-        routes[32 + dci] = ring;
-    }
-    let calls = [claim(&list, 0, 1, 0x9000), Call::Release { interface: 1 }, Call::SetConfiguration { value: 1 }];
-    for record in altered(&sound) {
-        for call in &calls {
-            let mut routes = routes.clone();
-            routes.resize(32 * (usize::from(record.n) + 1), 0);
-            let given = buffers(vec![0; 33 * record.spacing], routes, ALL_DONE.to_vec());
-            let case = Case { genuine: false, ..Case::new(call.clone(), &record, given) };
-            pair.compare(tally, &case);
-        }
-    }
-}
-
-fn altered(sound: &Record) -> Vec<Record> {
-    let mut records = vec![sound.clone()];
-    let mut with = |change: &dyn Fn(&mut Record)| {
-        let mut record = sound.clone();
-        change(&mut record);
-        records.push(record);
-    };
-    for byte in 0..=255 {
-        with(&|r| r.slot = byte);
-        with(&|r| r.n = byte);
-        with(&|r| r.speed = byte);
-        with(&|r| r.config = Some(byte));
-    }
-    for spacing in 0..=128 {
-        with(&|r| r.spacing = spacing);
-    }
-    for ring in [0, 1, 8, 15, 16, 0x2000, 0x3000, 0x9000, u64::MAX, u64::MAX - 15] {
-        with(&|r| r.control = ring);
-        with(&|r| r.quarantined.push(ring));
-        for at in 0..sound.endpoints.len() {
-            with(&|r| r.endpoints[at].ring = ring);
-        }
-    }
-    for at in 0..sound.endpoints.len() {
-        for byte in 0..=255 {
-            with(&|r| r.endpoints[at].address = byte);
-            with(&|r| r.endpoints[at].owner = byte);
-        }
-        with(&|r| _ = r.endpoints.remove(at));
-        with(&|r| r.endpoints.push(r.endpoints[at]));
-        with(&|r| r.endpoints[at].active = false);
-        with(&|r| r.endpoints.swap(0, at));
-    }
-    for at in 0..sound.held.len() {
-        for byte in 0..=255 {
-            with(&|r| r.held[at].0 = byte);
-            with(&|r| r.held[at].1 = byte);
-        }
-        with(&|r| _ = r.held.remove(at));
-        with(&|r| r.held.push(r.held[at]));
-    }
-    for at in 0..sound.list.len() {
-        for bit in 0..32 {
-            with(&|r| r.list[at] ^= 1 << bit);
-        }
-        with(&|r| _ = r.list.remove(at));
-        with(&|r| r.list.insert(at, r.list[at]));
-    }
-    with(&|r| r.held.reverse());
-    with(&|r| r.endpoints.reverse());
-    with(&|r| r.control_revoked = true);
-    with(&|r| r.config = None);
-    with(&|r| r.list.resize(256, alternate(0, 0)));
-    with(&|r| r.list.clear());
-    records
 }
 
 /// Every slot with several numbers of slots.

@@ -5,6 +5,7 @@ mod build;
 mod case;
 mod compare;
 mod exhaustive;
+mod faults;
 mod random;
 mod refusal;
 mod rng;
@@ -34,7 +35,7 @@ fn options() -> Option<Options> {
         reference: "original".to_string(),
         subject: "model".to_string(),
         seed: 1,
-        calls: 500_000,
+        calls: 600_000,
         part: None,
     };
     let mut arguments = std::env::args().skip(1);

@@ -16,47 +16,63 @@ pub fn run(pair: &mut Pair, tally: &mut Tally, seed: u64, calls: u64) {
     }
 }
 
+/// What the next call is given.
+struct State {
+    slot: u8,
+    n: u32,
+    record: Record,
+    routes: Vec<u64>,
+    ctx: Vec<u8>,
+}
+
 fn scenario(pair: &mut Pair, tally: &mut Tally, rng: &mut Rng) {
+    let Some(mut state) = begin(pair, tally, rng) else {
+        return;
+    };
+    for _ in 0..rng.below(14) {
+        if !state.record.usable && rng.percent(80) || !step(pair, tally, rng, &mut state) {
+            return;
+        }
+    }
+}
+
+fn begin(pair: &mut Pair, tally: &mut Tally, rng: &mut Rng) -> Option<State> {
     let args = bring_up(rng);
-    let (slot, n) = (args.slot, args.n as usize);
-    let mut routes = vec![0; 32 * (n + 1)];
+    let (slot, n) = (args.slot, args.n);
+    let mut routes = vec![0; 32 * (n as usize + 1)];
     if rng.percent(20) {
         spoil(rng, &mut routes);
     }
     let ctx_len = rng.of(&[1056, 2112]);
-    let mut ctx = rng.bytes(ctx_len);
+    let ctx = rng.bytes(ctx_len);
     let memory = given(rng, &ctx, &routes, 90);
-    let case = Case::new(Call::BringUp(args), &Record::default(), memory);
-    let Some(done) = pair.compare(tally, &case) else {
-        return;
-    };
-    let mut record = done.returned;
+    let done = pair.compare(tally, &Case::new(Call::BringUp(args), &Record::default(), memory))?;
     if done.buffers.routes.len() == routes.len() {
         routes = done.buffers.routes;
     }
-    for _ in 0..rng.below(14) {
-        if !record.usable && rng.percent(80) {
-            return;
-        }
-        if rng.percent(8) {
-            spoil(rng, &mut routes);
-        }
-        context(rng, &mut ctx);
-        let call = if rng.percent(3) { again(rng, slot, n) } else { call(rng, &record) };
-        let memory = given(rng, &ctx, &routes, 55);
-        let mut case = Case::new(call, &record, memory);
-        disturb(rng, &mut case);
-        let Some(done) = pair.compare(tally, &case) else {
-            return;
-        };
-        if case.genuine && done.buffers.routes.len() == routes.len() {
-            record = done.returned;
-            routes = done.buffers.routes;
-            if done.buffers.ctx.len() == ctx.len() {
-                ctx = done.buffers.ctx;
-            }
+    Some(State { slot, n, record: done.returned, routes, ctx })
+}
+
+fn step(pair: &mut Pair, tally: &mut Tally, rng: &mut Rng, state: &mut State) -> bool {
+    if rng.percent(8) {
+        spoil(rng, &mut state.routes);
+    }
+    context(rng, &mut state.ctx);
+    let call = if rng.percent(3) { again(rng, state.slot, state.n) } else { call(rng, &state.record) };
+    let memory = given(rng, &state.ctx, &state.routes, 55);
+    let mut case = Case::new(call, &state.record, memory);
+    disturb(rng, &mut case);
+    let Some(done) = pair.compare(tally, &case) else {
+        return false;
+    };
+    if case.genuine && done.buffers.routes.len() == state.routes.len() {
+        state.record = done.returned;
+        state.routes = done.buffers.routes;
+        if done.buffers.ctx.len() == state.ctx.len() {
+            state.ctx = done.buffers.ctx;
         }
     }
+    true
 }
 
 /// What a call left, zeros, or anything.
@@ -248,8 +264,8 @@ fn fault(rng: &mut Rng, hubs: &mut [Hub], at: usize) {
 }
 
 /// Another bring-up of the slot.
-fn again(rng: &mut Rng, slot: u8, n: usize) -> Call {
-    Call::BringUp(BringUp { slot, n: n as u32, ..bring_up(rng) })
+fn again(rng: &mut Rng, slot: u8, n: u32) -> Call {
+    Call::BringUp(BringUp { slot, n, ..bring_up(rng) })
 }
 
 fn call(rng: &mut Rng, record: &Record) -> Call {

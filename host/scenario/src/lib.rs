@@ -3,12 +3,14 @@
 #![forbid(unsafe_code)]
 
 mod call;
+mod explain;
 mod layer;
 mod parse;
 mod print;
 mod session;
 
 pub use call::*;
+pub use explain::explain_text;
 pub use layer::{Cannot, Layer, Outcome};
 pub use parse::{Event, Malformed, Reader, parse};
 pub use print::{left_text, scenario_text, step_text};

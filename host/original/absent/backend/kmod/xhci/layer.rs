@@ -151,6 +151,16 @@ fn hubs(args: &BringUp) -> core::result::Result<BTreeMap<HubId, HubInfo>, Cannot
         .collect())
 }
 
+fn address_info(args: &BringUp) -> core::result::Result<DeviceAddressInfo, Cannot> {
+    Ok(DeviceAddressInfo {
+        root_port_id: args.root_port,
+        parent_hub: args.has_parent.then_some(HubId::new(args.parent as usize)),
+        port_speed: words::speed(args.speed).ok_or(Cannot::NoSuchInput)?,
+        port_id: args.port,
+        infos: hubs(args)?,
+    })
+}
+
 fn bring_up(args: &BringUp, buffers: &mut Buffers) -> Outcome {
     let spacing = if buffers.ctx.len() == 33 * 64 { 64 } else { 32 };
     let mut host = Xhci::scripted(args.slot, args.n as usize, spacing == 64).map_err(|_| Cannot::NoSuchInput)?;
@@ -163,13 +173,7 @@ fn bring_up(args: &BringUp, buffers: &mut Buffers) -> Outcome {
     if !lengths_fit(buffers, spacing, args.n) || !aligned {
         return Err(Cannot::NoSuchInput);
     }
-    let info = DeviceAddressInfo {
-        root_port_id: args.root_port,
-        parent_hub: args.has_parent.then_some(HubId::new(args.parent as usize)),
-        port_speed: words::speed(args.speed).ok_or(Cannot::NoSuchInput)?,
-        port_id: args.port,
-        infos: hubs(args)?,
-    };
+    let info = address_info(args)?;
     load(&mut device, buffers);
     bus::begin(Script {
         outcomes: buffers.outcomes.clone(),
@@ -185,15 +189,10 @@ fn bring_up(args: &BringUp, buffers: &mut Buffers) -> Outcome {
         return refused(17, Record::default());
     }
     let count = settle(&mut device, &script, buffers);
-    let record = Record {
-        usable: number == 0,
-        slot: args.slot,
-        n: args.n as u8,
-        spacing,
-        speed: args.speed,
-        list: words::first_configurations(&args.list, device.config_desc.len()),
-        ..Record::default()
-    };
+    let BringUp { slot, speed, .. } = *args;
+    let n = args.n as u8;
+    let list = words::first_configurations(&args.list, device.config_desc.len());
+    let record = Record { usable: number == 0, slot, n, spacing, speed, list, ..Record::default() };
     Ok((kept(&device, record), Answer { number, code, count }))
 }
 
