@@ -21,6 +21,16 @@ impl Case {
         Case { call, record: record.clone(), buffers, genuine: true }
     }
 
+    pub fn name(&self) -> &'static str {
+        match self.call {
+            Call::BringUp(_) => "bringup",
+            Call::Claim(_) => "claim",
+            Call::Release { .. } => "release",
+            Call::SetConfiguration { .. } => "setconfig",
+            Call::HubUpdate(_) => "hubupdate",
+        }
+    }
+
     /// The case as a scenario that a runner can run.
     pub fn scenario(&self, name: &str) -> Scenario {
         let words = self.buffers.routes.iter().copied().enumerate().filter(|w| w.1 != 0);

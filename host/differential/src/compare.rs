@@ -89,6 +89,11 @@ impl Pair {
         subject.ok()
     }
 
+    /// The subject's number.
+    pub fn answer(&mut self, case: &Case) -> Option<u8> {
+        Self::ask(&mut *self.subject, case).ok().map(|done| done.answer.number)
+    }
+
     pub fn differs(&mut self, case: &Case) -> bool {
         matches!(self.judge(case).1, Verdict::Different(_))
     }

@@ -19,7 +19,7 @@ use std::time::Instant;
 use compare::Pair;
 use tally::Tally;
 
-const USAGE: &str = "usage: differential [--reference NAME] [--subject NAME] [--seed N] [--calls N] [--part NAME]
+const USAGE: &str = "usage: differential [--reference NAME] [--subject NAME] [--seed N] [--calls N] [--part NAME] [--sample]
 layers: original, model; parts: refusals, records, outcomes, intervals, ports, packets, think, slots, random (default: all)";
 
 struct Options {
@@ -28,6 +28,8 @@ struct Options {
     seed: u64,
     calls: u64,
     part: Option<String>,
+    /// Print a small scenario for each call and answer instead of the counts.
+    sample: bool,
 }
 
 fn options() -> Option<Options> {
@@ -37,9 +39,14 @@ fn options() -> Option<Options> {
         seed: 1,
         calls: 600_000,
         part: None,
+        sample: false,
     };
     let mut arguments = std::env::args().skip(1);
     while let Some(key) = arguments.next() {
+        if key == "--sample" {
+            options.sample = true;
+            continue;
+        }
         let value = arguments.next()?;
         match key.as_str() {
             "--reference" => options.reference = value,
@@ -72,6 +79,10 @@ fn main() -> ExitCode {
     }
     if options.part.as_deref().is_none_or(|p| p == "random") {
         tally.part("random", |tally| random::run(&mut pair, tally, options.seed, options.calls));
+    }
+    if options.sample {
+        print!("{}", tally.sample(&mut pair));
+        return ExitCode::SUCCESS;
     }
     println!("{} against {}, seed {}", options.subject, options.reference, options.seed);
     tally.print(start.elapsed());

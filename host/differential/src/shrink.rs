@@ -118,19 +118,19 @@ fn without_endpoint_word(list: &[u32], number: usize) -> Vec<u32> {
     list.iter().filter(keep).copied().collect()
 }
 
+/// The smallest case that can be reached from one by leaving things out, as long as it is wanted.
+pub fn least(case: &Case, mut wanted: impl FnMut(&Case) -> bool) -> Case {
+    let mut best = case.clone();
+    while let Some(next) = smaller(&best).into_iter().find(|c| size(c) < size(&best) && wanted(c)) {
+        best = next;
+    }
+    best
+}
+
 /// A case that differs and of which nothing can be left out. The records stay as genuine as they were said to be,
 /// so a record that becomes unsound on the way is not taken for a difference.
 pub fn smallest(pair: &mut Pair, case: &Case) -> Case {
-    let mut best = case.clone();
-    loop {
-        let still = |pair: &mut Pair, c: &Case| {
-            let unsound = pair.judge(c).0.is_ok_and(|done| done.answer.number == 12);
-            let was = pair.judge(case).0.is_ok_and(|done| done.answer.number == 12);
-            size(c) < size(&best) && unsound == was && pair.differs(c)
-        };
-        match smaller(&best).into_iter().find(|c| still(pair, c)) {
-            Some(next) => best = next,
-            None => return best,
-        }
-    }
+    let refused = |pair: &mut Pair, c: &Case| pair.answer(c) == Some(12);
+    let was = refused(pair, case);
+    least(case, |c| refused(pair, c) == was && pair.differs(c))
 }

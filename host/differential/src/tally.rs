@@ -1,7 +1,10 @@
 //! What the comparison met.
 
 use std::collections::BTreeMap;
+use std::collections::btree_map::Entry;
 use std::time::{Duration, Instant};
+
+use scenario::scenario_text;
 
 use crate::case::Case;
 use crate::compare::{Pair, Verdict};
@@ -23,6 +26,8 @@ pub struct Tally {
     uncompared: BTreeMap<&'static str, u64>,
     different: u64,
     kept: Vec<Case>,
+    /// The first case met for each call and answer.
+    sample: BTreeMap<(&'static str, u8), Case>,
     parts: Vec<(&'static str, u64, Duration)>,
 }
 
@@ -40,6 +45,7 @@ impl Tally {
     pub fn count(&mut self, case: &Case, number: u8, verdict: &Verdict) {
         self.calls += 1;
         *self.answers.entry(number).or_default() += 1;
+        self.keep_first(case, number);
         match verdict {
             Verdict::Same => self.same += 1,
             Verdict::Listed(rule) => *self.listed.entry(rule).or_default() += 1,
@@ -51,6 +57,22 @@ impl Tally {
                 }
             }
         }
+    }
+
+    fn keep_first(&mut self, case: &Case, number: u8) {
+        if let Entry::Vacant(entry) = self.sample.entry((case.name(), number)) {
+            entry.insert(case.clone());
+        }
+    }
+
+    /// A small scenario for each call and answer that were met, named after both.
+    pub fn sample(&self, pair: &mut Pair) -> String {
+        let mut text = String::new();
+        for ((name, number), case) in &self.sample {
+            let small = shrink::least(case, |c| c.genuine && pair.answer(c) == Some(*number));
+            scenario_text(&mut text, &small.scenario(&format!("{name}-{number}")));
+        }
+        text
     }
 
     pub fn print(&self, elapsed: Duration) {
