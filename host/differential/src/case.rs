@@ -1,0 +1,52 @@
+//! One call with all that it is given.
+
+use scenario::{Buffers, Call, LOG_FILL, Record, Scenario, Step};
+
+#[derive(Clone, Debug)]
+pub struct Case {
+    pub call: Call,
+    /// Ignored by a bring-up.
+    pub record: Record,
+    pub buffers: Buffers,
+    /// Whether the record is as a call returned it, but for the order of its arrays.
+    pub genuine: bool,
+}
+
+pub fn log(len: usize) -> Vec<u32> {
+    (0..len as u32).map(|i| LOG_FILL + i).collect()
+}
+
+impl Case {
+    pub fn new(call: Call, record: &Record, buffers: Buffers) -> Case {
+        Case { call, record: record.clone(), buffers, genuine: true }
+    }
+
+    pub fn name(&self) -> &'static str {
+        match self.call {
+            Call::BringUp(_) => "bringup",
+            Call::Claim(_) => "claim",
+            Call::Release { .. } => "release",
+            Call::SetConfiguration { .. } => "setconfig",
+            Call::HubUpdate(_) => "hubupdate",
+        }
+    }
+
+    /// The case as a scenario that a runner can run.
+    pub fn scenario(&self, name: &str) -> Scenario {
+        let words = self.buffers.routes.iter().copied().enumerate().filter(|w| w.1 != 0);
+        let record = match self.call {
+            Call::BringUp(_) => None,
+            _ => Some(self.record.clone()),
+        };
+        let step = Step {
+            call: self.call.clone(),
+            record,
+            ctx: self.buffers.ctx.clone(),
+            routes: Some(words.collect()),
+            routes_len: Some(self.buffers.routes.len()),
+            log_len: self.buffers.log.len(),
+            outcomes: self.buffers.outcomes.clone(),
+        };
+        Scenario { name: name.to_string(), steps: vec![step] }
+    }
+}

@@ -1,0 +1,238 @@
+//! Two layers on one case, and the listed differences between them.
+
+use scenario::{Answer, BringUp, Buffers, Call, Cannot, Layer, Left, Outcome, Record, left_text, scenario_text};
+
+use crate::case::Case;
+use crate::refusal::{self, chain_fault};
+use crate::rows;
+use crate::tally::Tally;
+
+pub enum Verdict {
+    Same,
+    /// A row of docs/DIFFERENCES.md.
+    Listed(&'static str),
+    /// The reference has no such input.
+    Uncompared(&'static str),
+    /// What is not the same.
+    Different(&'static str),
+}
+
+/// What a call left.
+pub struct Done {
+    /// With its maps in rising order.
+    pub record: Record,
+    pub answer: Answer,
+    pub buffers: Buffers,
+    /// The record in the order in which it was returned.
+    pub returned: Record,
+}
+
+impl Done {
+    fn same(&self, other: &Done) -> bool {
+        self.record == other.record && self.answer == other.answer && self.buffers == other.buffers
+    }
+}
+
+pub struct Pair {
+    pub reference: Box<dyn Layer>,
+    pub subject: Box<dyn Layer>,
+    /// Whether docs/DIFFERENCES.md speaks of the reference.
+    pub listed: bool,
+}
+
+fn done(outcome: Outcome, buffers: Buffers) -> Result<Done, Cannot> {
+    outcome.map(|(returned, answer)| Done { record: returned.sorted(), answer, buffers, returned })
+}
+
+impl Pair {
+    fn ask(layer: &mut dyn Layer, case: &Case) -> Result<Done, Cannot> {
+        let mut buffers = case.buffers.clone();
+        let outcome = layer.call(&case.record, &case.call, &mut buffers);
+        done(outcome, buffers)
+    }
+
+    pub fn judge(&mut self, case: &Case) -> (Result<Done, Cannot>, Verdict) {
+        let subject = Self::ask(&mut *self.subject, case);
+        let verdict = match &subject {
+            Err(_) => Verdict::Different("the subject does not answer"),
+            Ok(subject) => self.judge_answer(case, subject),
+        };
+        (subject, verdict)
+    }
+
+    fn judge_answer(&mut self, case: &Case, subject: &Done) -> Verdict {
+        if !left_alone(case, subject) {
+            return Verdict::Different("a refusal changed something");
+        }
+        let number = subject.answer.number;
+        let expected = refusal::expected(case);
+        let judged = case.genuine || !case.record.usable;
+        if judged && (expected.is_some() || refusal::is_known(case, number)) && expected != Some(number) {
+            return Verdict::Different("the refusal");
+        }
+        if number == 12 && case.record.usable && self.listed {
+            return Verdict::Uncompared("12: the record is not sound");
+        }
+        let reference = Self::ask(&mut *self.reference, case);
+        match &reference {
+            Ok(reference) if reference.same(subject) => Verdict::Same,
+            _ if !self.listed => Verdict::Different("the layers"),
+            _ => rule(case, subject, &reference),
+        }
+    }
+
+    /// Counts a case and hands back what the subject left.
+    pub fn compare(&mut self, tally: &mut Tally, case: &Case) -> Option<Done> {
+        let (subject, verdict) = self.judge(case);
+        let number = subject.as_ref().map_or(0, |done| done.answer.number);
+        tally.count(case, number, &verdict);
+        subject.ok()
+    }
+
+    /// The subject's number.
+    pub fn answer(&mut self, case: &Case) -> Option<u8> {
+        Self::ask(&mut *self.subject, case).ok().map(|done| done.answer.number)
+    }
+
+    pub fn differs(&mut self, case: &Case) -> bool {
+        matches!(self.judge(case).1, Verdict::Different(_))
+    }
+
+    pub fn report(&mut self, case: &Case) -> String {
+        let (subject, verdict) = self.judge(case);
+        let reference = Self::ask(&mut *self.reference, case);
+        let mut text = String::from("DIFFERENT");
+        if let Verdict::Different(what) = verdict {
+            text.push_str(": ");
+            text.push_str(what);
+        }
+        if let (Ok(subject), Ok(reference)) = (&subject, &reference) {
+            text.push_str(&format!(" ({})", unlike(subject, reference).join(", ")));
+        }
+        text.push_str("\nthe smallest scenario found:\n");
+        scenario_text(&mut text, &case.scenario("smallest"));
+        text.push_str("the subject leaves:\n");
+        describe(&mut text, subject);
+        text.push_str("the reference leaves:\n");
+        describe(&mut text, reference);
+        text
+    }
+}
+
+fn unlike(subject: &Done, reference: &Done) -> Vec<&'static str> {
+    let parts = [
+        ("answer", subject.answer == reference.answer),
+        ("log", subject.buffers.log == reference.buffers.log),
+        ("context", subject.buffers.ctx == reference.buffers.ctx),
+        ("routes", subject.buffers.routes == reference.buffers.routes),
+        ("record", subject.record == reference.record),
+    ];
+    parts.iter().filter(|part| !part.1).map(|part| part.0).collect()
+}
+
+fn describe(text: &mut String, done: Result<Done, Cannot>) {
+    match done {
+        Err(cannot) => text.push_str(&format!("no answer: {cannot:?}\n")),
+        Ok(Done { record, answer, buffers, .. }) => {
+            let Buffers { ctx, routes, log, .. } = buffers;
+            left_text(text, &Left { answer, record, log, ctx, table: routes });
+        }
+    }
+}
+
+/// "Numbers 1 to 12 and 17 change no lent memory, return the record as it came and answer count 0."
+fn left_alone(case: &Case, subject: &Done) -> bool {
+    let refused = matches!(subject.answer.number, 1..=12 | 17);
+    let record = match case.call {
+        Call::BringUp(_) => Record::default(),
+        _ => case.record.sorted(),
+    };
+    let Answer { code, count, .. } = subject.answer;
+    !refused || (subject.buffers == case.buffers && subject.record == record && (code, count) == (0, 0))
+}
+
+fn rule(case: &Case, subject: &Done, reference: &Result<Done, Cannot>) -> Verdict {
+    let number = subject.answer.number;
+    match (&case.call, number) {
+        (Call::BringUp(args), 4 | 5 | 6 | 10 | 11) => refused_bring_up(args, number, reference),
+        (_, 1..=3) if no_such_input(reference) => Verdict::Uncompared("1, 2, 3: lengths"),
+        (Call::Claim(_), 10) if no_such_input(reference) => Verdict::Uncompared("10: rings of the caller's choice"),
+        (Call::HubUpdate(args), _) if args.think > 65535 && no_such_input(reference) => {
+            Verdict::Uncompared("a think time of more than 16 bits")
+        }
+        (Call::HubUpdate(_), 12) if no_such_input(reference) => {
+            Verdict::Uncompared("12: the record of a refused bring-up")
+        }
+        (Call::HubUpdate(_), 12) if !case.record.usable => Verdict::Listed(rows::BROKEN_HUB_UPDATE),
+        (Call::HubUpdate(args), 7) if args.think < 666 => Verdict::Listed(rows::THINK_SHORT),
+        (Call::HubUpdate(_), 7) => Verdict::Listed(rows::THINK_LONG),
+        (_, 13) => failed_configure(case, subject, reference),
+        _ => Verdict::Different("the layers"),
+    }
+}
+
+fn no_such_input(reference: &Result<Done, Cannot>) -> bool {
+    matches!(reference, Err(Cannot::NoSuchInput))
+}
+
+fn refused_bring_up(args: &BringUp, number: u8, reference: &Result<Done, Cannot>) -> Verdict {
+    let route_first = reference.as_ref().is_ok_and(|done| done.answer.number == 17);
+    let panics = matches!(reference, Err(Cannot::Panics));
+    let walks = matches!(reference, Err(Cannot::WalksForever));
+    match number {
+        11 if args.slot == 0 => Verdict::Listed(rows::SLOT_0),
+        11 if args.n > 255 => Verdict::Listed(rows::MANY_SLOTS),
+        4..=10 if route_first => Verdict::Listed(rows::TWO_FAULTS),
+        6 if args.speed == 6 && panics => Verdict::Listed(rows::UNKNOWN_SPEED),
+        6 if no_such_input(reference) => Verdict::Uncompared("6: a speed that has no name"),
+        6 if args.speed == 6 && walks => Verdict::Listed(rows::NO_ROOT_HUB),
+        4 if no_such_input(reference) => Verdict::Uncompared("4: a word that stands for nothing"),
+        4 => Verdict::Listed(rows::LIST_LIMITS),
+        5 => refused_chain(chain_fault(args), reference),
+        10 if no_such_input(reference) => Verdict::Uncompared("10: rings of the caller's choice"),
+        _ => Verdict::Different("the bring-up"),
+    }
+}
+
+fn refused_chain(fault: Option<&'static str>, reference: &Result<Done, Cannot>) -> Verdict {
+    match (fault, reference) {
+        (None, _) => Verdict::Different("the bring-up"),
+        (Some(_), Err(Cannot::WalksForever)) => Verdict::Listed(rows::NO_ROOT_HUB),
+        (Some(_), Err(Cannot::Panics)) => Verdict::Listed(rows::HUB_MISSING),
+        (Some(_), Err(Cannot::NoSuchInput)) => Verdict::Uncompared("5: a hub word that stands for nothing"),
+        (Some(fault), Ok(_)) => Verdict::Listed(fault),
+    }
+}
+
+/// The two rows on a failed Configure of a release or a set configuration: all else must be the same.
+fn failed_configure(case: &Case, subject: &Done, reference: &Result<Done, Cannot>) -> Verdict {
+    const CONFIGURE: u32 = 3;
+    const RESUME: u32 = 5;
+    let Ok(reference) = reference else {
+        return Verdict::Different("the layers");
+    };
+    let Done { answer, buffers, record, .. } = subject;
+    let operation = |index: usize| buffers.log[index] >> 28;
+    let outcome = |index: usize| case.buffers.outcomes.get(index).copied().unwrap_or(0);
+    let configure = (0..answer.count).find(|i| operation(*i) == CONFIGURE);
+    let disables = !matches!(case.call, Call::Claim(_) | Call::HubUpdate(_));
+    if configure.map(outcome) != Some(answer.code)
+        || !disables
+        || reference.buffers != *buffers
+        || reference.answer.count != answer.count
+    {
+        return Verdict::Different("the layers");
+    }
+    let last = answer.count - 1;
+    match (reference.answer.number, reference.answer.code) {
+        (13, 0) if reference.record == *record => Verdict::Listed(rows::CONFIGURE_CODE),
+        (14, 0) if operation(last) == RESUME && outcome(last) != 0 => {
+            let broken = Record { usable: false, ..record.clone() };
+            match reference.record == broken {
+                true => Verdict::Listed(rows::RESUME_FAILS_TOO),
+                false => Verdict::Different("the record"),
+            }
+        }
+        _ => Verdict::Different("the layers"),
+    }
+}

@@ -1,0 +1,118 @@
+//! Holds two layers against each other, call by call.
+#![forbid(unsafe_code)]
+
+mod build;
+mod case;
+mod compare;
+mod exhaustive;
+mod faults;
+mod random;
+mod refusal;
+mod rng;
+mod rows;
+mod shrink;
+mod tally;
+
+use std::process::ExitCode;
+use std::time::Instant;
+
+use compare::Pair;
+use tally::Tally;
+
+const USAGE: &str = "usage: differential [--reference NAME] [--subject NAME] [--seed N] [--calls N] [--part NAME] [--sample]
+layers: original, model; parts: refusals, records, outcomes, intervals, ports, packets, think, slots, random (default: all)";
+
+struct Options {
+    reference: String,
+    subject: String,
+    seed: u64,
+    calls: u64,
+    part: Option<String>,
+    /// Print a small scenario for each call and answer instead of the counts.
+    sample: bool,
+}
+
+fn options() -> Option<Options> {
+    let mut options = Options {
+        reference: "original".to_string(),
+        subject: "model".to_string(),
+        seed: 1,
+        calls: 600_000,
+        part: None,
+        sample: false,
+    };
+    let mut arguments = std::env::args().skip(1);
+    while let Some(key) = arguments.next() {
+        if key == "--sample" {
+            options.sample = true;
+            continue;
+        }
+        let value = arguments.next()?;
+        match key.as_str() {
+            "--reference" => options.reference = value,
+            "--subject" => options.subject = value,
+            "--seed" => options.seed = value.parse().ok()?,
+            "--calls" => options.calls = value.parse().ok()?,
+            "--part" => options.part = Some(value),
+            _ => return None,
+        }
+    }
+    Some(options)
+}
+
+fn main() -> ExitCode {
+    let Some(options) = options() else {
+        eprintln!("{USAGE}");
+        return ExitCode::from(2);
+    };
+    let (Some(reference), Some(subject)) = (runner::layer(&options.reference), runner::layer(&options.subject)) else {
+        eprintln!("one of '{}' and '{}' is not here", options.reference, options.subject);
+        return ExitCode::from(2);
+    };
+    let mut pair = Pair { reference, subject, listed: options.reference == "original" };
+    let mut tally = Tally::default();
+    let start = Instant::now();
+    for (name, part) in exhaustive::PARTS {
+        if options.part.as_deref().is_none_or(|p| p == name) {
+            tally.part(name, |tally| part(&mut pair, tally));
+        }
+    }
+    if options.part.as_deref().is_none_or(|p| p == "random") {
+        tally.part("random", |tally| random::run(&mut pair, tally, options.seed, options.calls));
+    }
+    if options.sample {
+        print!("{}", tally.sample(&mut pair));
+        return ExitCode::SUCCESS;
+    }
+    println!("{} against {}, seed {}", options.subject, options.reference, options.seed);
+    tally.print(start.elapsed());
+    match tally.first_difference(&mut pair) {
+        None => ExitCode::SUCCESS,
+        Some(text) => {
+            println!("{text}");
+            ExitCode::FAILURE
+        }
+    }
+}
+
+#[cfg(test)]
+mod tests {
+    use super::*;
+
+    /// A short run; without the original, of the model against itself.
+    #[test]
+    fn no_difference_is_unlisted() {
+        let listed = runner::layer("original").is_some();
+        let reference = runner::layer(if listed { "original" } else { "model" }).expect("a layer");
+        let subject = runner::layer("model").expect("the model");
+        let mut pair = Pair { reference, subject, listed };
+        let mut tally = Tally::default();
+        for (name, part) in exhaustive::PARTS {
+            if ["refusals", "records", "packets"].contains(&name) {
+                part(&mut pair, &mut tally);
+            }
+        }
+        random::run(&mut pair, &mut tally, 1, 5_000);
+        assert_eq!(tally.first_difference(&mut pair), None);
+    }
+}

@@ -1,0 +1,336 @@
+//! The course of each call after its checks.
+
+use std::collections::BTreeMap;
+
+use scenario::{BringUp, Buffers, Claim, Endpoint, HubUpdate, Record};
+
+use crate::context::{Address, Context, added};
+use crate::list::{EndpointWord, configurations, dci, lookup};
+use crate::topology::{chain, route_string, think_time, translator};
+
+/// How a course ends when it is not accepted: 01's number, and the code of a 13.
+#[derive(Clone, Copy)]
+pub struct Ended {
+    pub number: u8,
+    pub code: u8,
+}
+
+const BROKEN: Ended = Ended { number: 14, code: 0 };
+const CUT: Ended = Ended { number: 15, code: 0 };
+const SHORT_HEADER: Ended = Ended { number: 16, code: 0 };
+const INVALID_ENDPOINT: Ended = Ended { number: 18, code: 0 };
+
+/// 4.2: "every cut is 15, in whatever phase"; another end becomes a 14.
+fn broken(end: Ended) -> Ended {
+    if end.number == 15 { CUT } else { BROKEN }
+}
+
+type Run = Result<(), Ended>;
+
+/// "Operations: 1 Address, 2 Evaluate, 3 Configure, 4 Stop (Dci), 5 Resume (Dci), 6 SetInterface (interface,
+/// alternate), 7 SetConfiguration (value), 8 ReadHeader, 9 ReadConfiguration, 10 ReadDevice, 11 ReadConfig (index)."
+const ADDRESS: u32 = 1;
+const EVALUATE: u32 = 2;
+const CONFIGURE: u32 = 3;
+const STOP: u32 = 4;
+const RESUME: u32 = 5;
+const SET_INTERFACE: u32 = 6;
+const SET_CONFIGURATION: u32 = 7;
+const READ_HEADER: u32 = 8;
+const READ_CONFIGURATION: u32 = 9;
+const READ_DEVICE: u32 = 10;
+const READ_CONFIG: u32 = 11;
+
+pub struct Course<'a> {
+    pub record: Record,
+    pub count: usize,
+    buffers: &'a mut Buffers,
+}
+
+impl<'a> Course<'a> {
+    pub fn new(record: Record, buffers: &'a mut Buffers) -> Course<'a> {
+        Course { record, count: 0, buffers }
+    }
+
+    /// "32 bits each: operation 4, first 8, second 8." "One byte per command sent, 0 done, otherwise a failure
+    /// code. When none is left, the command is logged and the call is cut."
+    fn send(&mut self, operation: u32, first: u8, second: u8) -> Run {
+        self.buffers.log[self.count] = operation << 28 | u32::from(first) << 20 | u32::from(second) << 12;
+        self.count += 1;
+        match self.buffers.outcomes.get(self.count - 1) {
+            None => Err(CUT),
+            Some(0) => Ok(()),
+            Some(code) => Err(Ended { number: 13, code: *code }),
+        }
+    }
+
+    fn context(&mut self) -> Context<'_> {
+        Context { bytes: &mut self.buffers.ctx, spacing: self.record.spacing }
+    }
+
+    fn set_active(&mut self, addresses: &[u8], active: bool) {
+        for endpoint in &mut self.record.endpoints {
+            if addresses.contains(&endpoint.address) {
+                endpoint.active = active;
+            }
+        }
+    }
+
+    /// 4.4: by rising endpoint address.
+    fn addresses(&self, owned: impl Fn(&Endpoint) -> bool) -> Vec<u8> {
+        let mut addresses: Vec<u8> = self.record.endpoints.iter().filter(|e| owned(e)).map(|e| e.address).collect();
+        addresses.sort();
+        addresses
+    }
+
+    /// "A failed stop resumes those already stopped; in a claim or release, if that resume fails, its code is
+    /// the answer."
+    fn stop(&mut self, addresses: &[u8]) -> Run {
+        for (stopped, address) in addresses.iter().enumerate() {
+            let stop = self.send(STOP, dci(*address), 0);
+            if let Err(Ended { number: 13, .. }) = stop {
+                self.resume(&addresses[..stopped])?;
+            }
+            stop?;
+        }
+        Ok(())
+    }
+
+    /// 4.3: a resume makes Active those that it resumed.
+    fn resume(&mut self, addresses: &[u8]) -> Run {
+        for address in addresses {
+            self.send(RESUME, dci(*address), 0)?;
+            self.set_active(&[*address], true);
+        }
+        Ok(())
+    }
+
+    /// Writes the context and sends Configure. 4.13: entries count the record's endpoints as they are now.
+    fn configure(
+        &mut self,
+        setting: (u8, u8),
+        drop: &[EndpointWord],
+        add: &[EndpointWord],
+        rings: &BTreeMap<u8, u64>,
+    ) -> Run {
+        let dcis: Vec<u8> = self.record.endpoints.iter().map(|e| dci(e.address)).collect();
+        let speed = self.record.speed;
+        self.context().configure(setting, drop, &added(add, rings), &dcis, speed);
+        self.send(CONFIGURE, 0, 0)
+    }
+
+    fn rings(&self) -> BTreeMap<u8, u64> {
+        self.record.endpoints.iter().map(|e| (e.address, e.ring)).collect()
+    }
+
+    /// `replace_queues`: "All old routes are checked, then all new ones, and only then is anything moved."
+    /// 4.18: a word that already holds the offered ring does not stop it.
+    fn replace_queues(&mut self, old: &[u8], new: &BTreeMap<u8, u64>) -> bool {
+        let rings = self.rings();
+        let base = 32 * usize::from(self.record.slot);
+        let routes = &mut self.buffers.routes;
+        let word = |address: u8| base + usize::from(dci(address));
+        let old_stand = old.iter().all(|address| routes[word(*address)] == rings[address]);
+        let free = |address: &u8, ring: &u64| old.contains(address) || [0, *ring].contains(&routes[word(*address)]);
+        if !old_stand || !new.iter().all(|(address, ring)| free(address, ring)) {
+            return false;
+        }
+        for address in old {
+            routes[word(*address)] = 0;
+        }
+        for (address, ring) in new {
+            routes[word(*address)] = *ring;
+        }
+        true
+    }
+
+    /// `Device::init`. 4.6: what fails returns what the steps so far wrote.
+    pub fn bring_up(&mut self, args: &BringUp) -> Run {
+        self.record.slot = args.slot;
+        self.record.n = args.n as u8;
+        self.record.spacing = self.buffers.ctx.len() / 33;
+        self.record.speed = args.speed;
+        self.record.control = args.ring;
+        self.buffers.routes[32 * usize::from(args.slot) + 1] = args.ring;
+
+        let chain = chain(args).unwrap_or_default();
+        let address = Address {
+            speed: args.speed,
+            route: route_string(&chain, args.port),
+            root_port: args.root_port,
+            translator: translator(&chain, args.speed, args.port),
+            ring: args.ring,
+        };
+        self.context().address(&address);
+        self.send(ADDRESS, 0, 0)?;
+        self.send(READ_HEADER, 0, 0)?;
+        // "16 header not 8 bytes after a done ReadHeader."
+        if args.header != 8 {
+            return Err(SHORT_HEADER);
+        }
+        self.context().control_packet_size(args.packet);
+        self.send(EVALUATE, 0, 0)?;
+        self.send(READ_CONFIGURATION, 0, 0)?;
+        self.record.config = Some(args.config);
+        self.send(READ_DEVICE, 0, 0)?;
+        // "Bring-up sends one ReadConfig for each configuration of the list, index from 0."
+        let configurations = configurations(&args.list);
+        for (index, (_, words)) in configurations.iter().enumerate() {
+            self.send(READ_CONFIG, index as u8, 0)?;
+            self.record.list.extend(words);
+        }
+        match configurations.first() {
+            Some((value, _)) => self.set_configuration(*value),
+            None => Ok(()),
+        }
+    }
+
+    /// `_claim_interface`.
+    pub fn claim(&mut self, args: &Claim) -> Run {
+        let Claim { interface, alternate, rings } = args;
+        let new = self.lookup(*interface, *alternate);
+        let old_alternate = self.record.held.iter().find(|h| h.0 == *interface).map(|h| h.1);
+        let old_words = old_alternate.map(|a| self.lookup(*interface, a)).unwrap_or_default();
+        let old = self.addresses(|e| e.owner == *interface);
+        // "Repeated addresses in an alternate are allowed; the last word's ring stays."
+        let pending: BTreeMap<u8, u64> = new.iter().map(EndpointWord::address).zip(rings.iter().copied()).collect();
+
+        self.stop_owned(&old)?;
+        let configured = self.configure((*interface, *alternate), &old_words, &new, &pending);
+        if let Err(Ended { number: 13, .. }) = configured {
+            // 4.1: in a claim 01 is silent, so as the original: the failed resume's code.
+            self.resume(&old)?;
+        }
+        configured?;
+        let set = self.send(SET_INTERFACE, *interface, *alternate);
+        if let Err(Ended { number: 13, .. }) = set {
+            let undone = self.undo_claim(*interface, old_alternate, &new, &old_words, &old);
+            undone.map_err(|end| self.broken_claim(end, &pending))?;
+        }
+        set?;
+        // "A claim whose routes fail `replace_queues` gives 14."
+        if !self.replace_queues(&old, &pending) {
+            return Err(self.broken_claim(BROKEN, &pending));
+        }
+        self.forget(*interface);
+        let claimed =
+            |(address, ring): (&u8, &u64)| Endpoint { address: *address, ring: *ring, owner: *interface, active: true };
+        self.record.endpoints.extend(pending.iter().map(claimed));
+        self.record.held.push((*interface, *alternate));
+        self.record = self.record.sorted();
+        Ok(())
+    }
+
+    /// 4.3: a claim undone makes all old ones Active, with no Resume sent. 4.12: the old alternate, or 0.
+    fn undo_claim(
+        &mut self,
+        interface: u8,
+        alternate: Option<u8>,
+        new: &[EndpointWord],
+        old_words: &[EndpointWord],
+        old: &[u8],
+    ) -> Run {
+        let rings = self.rings();
+        self.configure((interface, alternate.unwrap_or(0)), new, old_words, &rings)?;
+        if let Some(alternate) = alternate {
+            self.send(SET_INTERFACE, interface, alternate)?;
+        }
+        self.set_active(old, true);
+        Ok(())
+    }
+
+    /// 4.3: 14 in a claim leaves the old ones Revoked and quarantines the pending ones. 4.8: pending rings of a
+    /// cut claim are forgotten.
+    fn broken_claim(&mut self, end: Ended, pending: &BTreeMap<u8, u64>) -> Ended {
+        let end = broken(end);
+        if end.number == 14 {
+            self.record.quarantined.extend(pending.values());
+        }
+        end
+    }
+
+    fn lookup(&self, interface: u8, alternate: u8) -> Vec<EndpointWord> {
+        lookup(&self.record.list, interface, alternate).unwrap_or_default()
+    }
+
+    /// The stops of a claim or a release. 4.3: after a failed Stop all old endpoints are Active.
+    fn stop_owned(&mut self, old: &[u8]) -> Run {
+        self.set_active(old, false);
+        let stopped = self.stop(old);
+        if let Err(Ended { number: 13, .. }) = stopped {
+            self.set_active(old, true);
+        }
+        stopped
+    }
+
+    fn forget(&mut self, interface: u8) {
+        self.record.endpoints.retain(|e| e.owner != interface);
+        self.record.held.retain(|h| h.0 != interface);
+    }
+
+    /// `_release_interface`. 4.9: of an unclaimed interface with alternate 0, one Configure with its drop flags.
+    pub fn release(&mut self, interface: u8) -> Run {
+        let alternate = self.record.held.iter().find(|h| h.0 == interface).map_or(0, |h| h.1);
+        let words = self.lookup(interface, alternate);
+        let old = self.addresses(|e| e.owner == interface);
+        self.stop_owned(&old)?;
+        self.disable((interface, alternate), &words, &old)?;
+        if !self.replace_queues(&old, &BTreeMap::new()) {
+            return Err(INVALID_ENDPOINT);
+        }
+        self.forget(interface);
+        self.record = self.record.sorted();
+        Ok(())
+    }
+
+    /// "A failed Configure in release or set configuration gives 13 with its code"; 4.1: its resumes done or not.
+    fn disable(&mut self, setting: (u8, u8), words: &[EndpointWord], old: &[u8]) -> Run {
+        let configured = self.configure(setting, words, &[], &BTreeMap::new());
+        if let Err(Ended { number: 13, .. }) = configured
+            && let Err(CUT_SHORT) = self.resume(old).map_err(|end| end.number)
+        {
+            return Err(CUT);
+        }
+        configured
+    }
+
+    /// `_set_configuration`.
+    pub fn set_configuration(&mut self, value: u8) -> Run {
+        let mut held = self.record.held.clone();
+        held.sort();
+        let words: Vec<EndpointWord> = held.iter().flat_map(|(i, a)| self.lookup(*i, *a)).collect();
+        let old = self.addresses(|_| true);
+        self.set_active(&old, false);
+        // "A set configuration answers 14 for every failed stop."
+        self.stop(&old).map_err(broken)?;
+        self.disable((0, 0), &words, &old)?;
+        let set = self.send(SET_CONFIGURATION, value, 0);
+        if let Err(Ended { number: 13, .. }) = set {
+            // 4.2: the undoing Configure failed, or a resume after it failed: 14.
+            let rings = self.rings();
+            self.configure((0, 0), &[], &words, &rings).map_err(broken)?;
+            self.resume(&old).map_err(broken)?;
+        }
+        set?;
+        if !self.replace_queues(&old, &BTreeMap::new()) {
+            return Err(INVALID_ENDPOINT);
+        }
+        self.record.endpoints.clear();
+        self.record.held.clear();
+        self.context().configuration(value);
+        // 4.2: Evaluate after a done SetConfiguration failed: 14.
+        self.send(EVALUATE, 0, 0).map_err(broken)?;
+        // 4.7: the configuration value changes by the last Evaluate of a set configuration.
+        self.record.config = Some(value);
+        Ok(())
+    }
+
+    /// `update_hub_inner`.
+    pub fn hub_update(&mut self, args: &HubUpdate) -> Run {
+        let speed = self.record.speed;
+        self.context().hub(speed, args.ports, args.multi, think_time(args.think).unwrap_or(0));
+        self.send(EVALUATE, 0, 0)
+    }
+}
+
+const CUT_SHORT: u8 = CUT.number;

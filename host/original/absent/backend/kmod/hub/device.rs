@@ -1,0 +1,3 @@
+// Hubs as devices: only the names that hub/mod.rs mentions.
+pub struct HubDevice;
+pub struct PortState;

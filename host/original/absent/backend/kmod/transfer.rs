@@ -1,0 +1,1 @@
+// Transfers of other controllers: nothing of it is named here.

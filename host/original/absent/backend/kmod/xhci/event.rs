@@ -1,0 +1,1 @@
+// Events: nothing of it is named here.

@@ -1,0 +1,1 @@
+// The root hub: nothing of it is named here.

@@ -1,0 +1,5 @@
+// Registers, which no command needs here.
+#[derive(Clone)]
+pub struct XhciRegistersShared;
+
+pub struct SlotBell;

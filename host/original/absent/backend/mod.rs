@@ -1,0 +1,4 @@
+pub(crate) mod kmod;
+pub(crate) mod ty;
+
+pub(crate) use kmod::queue::Dci;

@@ -1,0 +1,40 @@
+//! The program: the shipped scenario, and lines that are not of the form.
+
+use std::io::Write;
+use std::process::{Command, Output, Stdio};
+
+fn run(arguments: &[&str], input: &str) -> Output {
+    let mut child = Command::new(env!("CARGO_BIN_EXE_scenario"))
+        .args(arguments)
+        .stdin(Stdio::piped())
+        .stdout(Stdio::piped())
+        .stderr(Stdio::piped())
+        .spawn()
+        .expect("the program");
+    child.stdin.take().expect("its input").write_all(input.as_bytes()).expect("room");
+    child.wait_with_output().expect("an end")
+}
+
+const SWITCH: &str = include_str!("../scenarios/switch.txt");
+
+#[test]
+fn the_shipped_scenario() {
+    let plain = run(&["-"], SWITCH);
+    assert_eq!(plain.status.code(), Some(0));
+    assert_eq!(String::from_utf8_lossy(&plain.stdout), include_str!("../scenarios/switch.out"));
+    let explained = run(&["--explain", "-"], SWITCH);
+    assert_eq!(String::from_utf8_lossy(&explained.stdout), include_str!("../scenarios/switch.explained"));
+    if runner::layer("original").is_some() {
+        assert_eq!(run(&["--layer", "original", "-"], SWITCH).stdout, plain.stdout);
+    }
+}
+
+#[test]
+fn a_malformed_line_ends_the_run() {
+    let ended = run(&["-"], "scenario a\nclaim\ngo\nclaim\nno such key\ngo\nend\n");
+    assert_eq!(ended.status.code(), Some(2));
+    assert!(String::from_utf8_lossy(&ended.stdout).starts_with("answer 12 0 0\n"));
+    assert_eq!(String::from_utf8_lossy(&ended.stderr), "line 5: this call has no 'no'\n");
+    assert_eq!(run(&["/no/such/file"], "").status.code(), Some(2));
+    assert_eq!(run(&[], "").status.code(), Some(2));
+}

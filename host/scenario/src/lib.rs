@@ -1,0 +1,17 @@
+//! Calls on one slot as values and as text, and the trait of whoever answers them.
+//! docs/SCENARIOS.md describes the text.
+#![forbid(unsafe_code)]
+
+mod call;
+mod explain;
+mod layer;
+mod parse;
+mod print;
+mod session;
+
+pub use call::*;
+pub use explain::explain_text;
+pub use layer::{Cannot, Layer, Outcome};
+pub use parse::{Event, Malformed, Reader, parse};
+pub use print::{left_text, scenario_text, step_text};
+pub use session::{Left, Session};
