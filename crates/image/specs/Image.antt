@@ -31,11 +31,10 @@ addressWord e = e .address
 unfoldable pub ringWord : Endpoint → ℕ
 ringWord e = e .ring
 
--- The words of a record. Their places: 0, 3, 33, 37, 67, 97, 129, 161, 417, 423, 453.
-unfoldable pub encode : Device → List ℕ
-encode d =
-    flatten
-    ((flag (d .usable) ∷ flag (d .configured) ∷ revoked (d .«control_handle») ∷ [])
+-- The words of a record, part by part. The parts begin at 0, 3, 33, 37, 67, 97, 129, 161, 417, 423, 453.
+unfoldable pub parts : Device → List (List ℕ)
+parts d =
+    (flag (d .usable) ∷ flag (d .configured) ∷ revoked (d .«control_handle») ∷ [])
     ∷ map handleWord (d .eps)
     ∷ (d .slot .0 ∷ d .n ∷ d .«port_speed» ∷ d .«current_config_value» ∷ [])
     ∷ map addressWord (d .eps)
@@ -46,7 +45,10 @@ encode d =
     ∷ (d .spacing ∷ d .«list_len» ∷ d .«ep_count» ∷ d .«held_count» ∷ d .«quarantined_count» ∷ d .control ∷ [])
     ∷ map ringWord (d .eps)
     ∷ d .quarantined
-    ∷ [])
+    ∷ []
+
+unfoldable pub encode : Device → List ℕ
+encode d = flatten (parts d)
 
 -- What a word says: of a narrow number its low bits.
 unfoldable pub isSet : ℕ → Bool
