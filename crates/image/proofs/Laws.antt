@@ -285,6 +285,10 @@ module _ (l : List ℕ) where
       rw (flags-cut f, handles-cut f, numbers-cut b, bytes 4 33 b (omega arith) (omega arith), addresses-cut b, bytes 30 67 b (omega arith) (omega arith), bytes 32 97 b (omega arith) (omega arith), bytes 32 129 b (omega arith) (omega arith), words-cut w, counts-cut, rings-cut)
       refl
 
+  pub image-length : isImage l ≡ true → length l ≡ 514
+  unfolding isImage
+  image-length e = eqb-true (length l) 514 (and-left (eqb (length l) 514) _ e)
+
   pub encode-decode : isImage l ≡ true → encode (decode l) ≡ l
   unfolding isImage encode decode sum
   encode-decode e =
