@@ -8,10 +8,11 @@ use phase::Ended;
 use transfer::Replaced;
 ghost use mathlib.Core.Path.{_≡_};
 ghost use mathlib.Core.Bool.{cond};
-ghost use mathlib.Core.List.{List};
+ghost use mathlib.Core.List.{List, []};
 ghost use Prim.Native.Nat.{ℕ, _+_, _≤_};
 ghost use lib.ListN.{length};
 ghost use Rattle.command.specs.Course.{played};
+ghost use Rattle.settings.specs.Held.{settingWords};
 ghost use Rattle.phase.specs.Lent.{leaves, queuesIn, Room};
 ghost use Rattle.claim.specs.Claim.{claimOf, claimContext, undoContext, claimPublish, claimSwitchBack, claimUndone, claimUndo, claimSwitch, claimResume, claimConfigure, claimCourse};
 
@@ -229,4 +230,33 @@ pub fn run_claim(
         Sent::Failed(code) => phase::stays(Answer::Failed(code), n, a.old.count),
         Sent::Cut => phase::stays(Answer::Cut, n, stop.active),
     }
+}
+
+// The endpoint words of the setting that an interface holds; none where it holds none.
+fn held_words<'a>(list: &'a [u32], held: bool, interface: u8, alternate: u8) -> &'a [u32]
+    ensures { λ r. ⌜ now r ≡ cond held (settingWords (now (list .entry)) interface alternate) [] ⌝ }
+{
+    if held {
+        return settings::setting_words(list, interface, alternate);
+    }
+    &list[0..0]
+}
+
+// The same where the words are those that lookup finds in a list.
+pub fn claim_interface(
+    ctx: &mut [u8],
+    routes: &mut [u64],
+    log: &mut [u32],
+    outcomes: &[u8],
+    a: ClaimArgs,
+    list: &[u32],
+) -> Ended
+    requires { ⌜ Room (a .spacing) (length (now ctx)) (a .old) (a .all) ⌝ }
+    requires { ⌜ a .pending .count ≤ 30 ⌝ }
+    requires { ⌜ 64 ≤ length (now log) ⌝ }
+    ensures { λ r. ⌜ leaves r (now (ctx .exit)) (now (routes .exit)) (now (log .exit)) ≡ played (now (outcomes .entry)) 0 (claimCourse (claimOf a (cond (a .held) (settingWords (now (list .entry)) (a .interface) (a .«old_alternate»)) []) (settingWords (now (list .entry)) (a .interface) (a .alternate))) (now (ctx .entry)) (now (routes .entry))) (now (log .entry)) ⌝ }
+{
+    let old_words = held_words(list, a.held, a.interface, a.old_alternate);
+    let new_words = settings::setting_words(list, a.interface, a.alternate);
+    run_claim(ctx, routes, log, outcomes, a, old_words, new_words)
 }

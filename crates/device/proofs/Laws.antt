@@ -30,7 +30,7 @@ pub record Passed (d : Device) (ctx routes log : ℕ) : Type 0 where
   pub spaced : Spaced (d .spacing) ctx
 
 -- a check that passed held, and so did what followed
-pass-if : (b : Bool) (x : Check) (a : Answer) → cond b x (Refuse a) ≡ Pass → (b ≡ true) × (x ≡ Pass)
+pub pass-if : (b : Bool) (x : Check) (a : Answer) → cond b x (Refuse a) ≡ Pass → (b ≡ true) × (x ≡ Pass)
 pass-if true x a e = (refl, e)
 pass-if false x a e = let z : _≡_ {A = ℕ} 0 1 = cc in absurd (omega arith)
 

@@ -1,3 +1,5 @@
+pub mod Claim
+pub mod Counts
 pub mod Facts
 pub mod Laws
 pub mod Marks

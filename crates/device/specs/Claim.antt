@@ -1,5 +1,6 @@
 -- The claim of an interface's alternate setting, with the rings offered for its endpoint words.
 use Prim.Native.Nat.{ℕ}
+use mathlib.Core.Path.{_≡_}
 use mathlib.Core.Bool.{cond}
 use mathlib.Core.List.{List, []}
 use lib.ListN.{length}
@@ -8,11 +9,13 @@ use Rattle.answer.specs.declared.Answer.the-variants as answer
 use Rattle.command.specs.Course.{played}
 use Rattle.configuration.specs.Lookup.{findEndpoints}
 use Rattle.ring.specs.Rings.{offerOk}
+use Rattle.endpoint.specs.declared.cells.Cells.{Cells}
 use Rattle.endpoint.specs.declared.cells.Owner.the-variants.{Interface}
-use Rattle.endpoint.specs.Cells.{ownedRings, queuesOf, queueDcis, queueRings, pendingRings, claimedCells, withActive}
+use Rattle.endpoint.specs.Cells.{ownedRings, queuesOf, queueDcis, queueRings, pendingRings, claimedCells, withActive, QueuesAs}
 use Rattle.settings.specs.Held.{isHeld, alternateOf, isFound, settingWords, withSetting}
 use Rattle.settings.specs.Match.{addressesFree}
 use Rattle.phase.specs.End.{End}
+use Rattle.claim.specs.declared.ClaimArgs.{ClaimArgs}
 use Rattle.claim.specs.Claim.{Claim, claimCourse}
 use Rattle.device.specs.declared.check.Check.{Check}
 use Rattle.device.specs.declared.check.Check.the-variants.{Pass}
@@ -72,3 +75,16 @@ claim d ctx routes log outcomes interface alternate rings =
     onCheck (recordCheck d (length ctx) (length routes) (length log) (claimCheck d interface alternate rings))
     (ended (claimRecord d interface alternate rings) (played outcomes 0 (claimCourse (claimIn d interface alternate rings) ctx routes) log))
     (λ a. refused d a ctx routes log)
+
+-- What the code's arguments hold: those of a claim with some rings pending.
+pub record ClaimAs (a : ClaimArgs) (d : Device) (c : Cells) (i alt : ℕ) (by : List ℕ) : Type 0 where
+  pub slot : a .slot ≡ d .slot
+  pub spacing : a .spacing ≡ d .spacing
+  pub speed : a .speed ≡ d .«port_speed»
+  pub interface : a .interface ≡ i
+  pub alternate : a .alternate ≡ alt
+  pub held : a .held ≡ isHeld i (heldOf d)
+  pub oldAlternate : a .«old_alternate» ≡ alternateOf i (heldOf d)
+  pub old : QueuesAs (a .old) (ownedRings (Interface i) c)
+  pub pending : QueuesAs (a .pending) by
+  pub all : QueuesAs (a .all) (c .rings)

@@ -1,4 +1,5 @@
 // Whether a record is sound, for any record whatsoever.
+use super::cells;
 use super::record::Device;
 use endpoint::Cells;
 use endpoint::Endpoint;
@@ -166,16 +167,6 @@ impl Device {
         endpoint::addresses_fit(eps, self.ep_count)
     }
 
-    // The endpoints by place.
-    fn cells(self) -> Cells
-        requires { ⌜ countsFit self ≡ true ⌝ }
-        ensures { λ r. ⌜ r ≡ cellsIn self ⌝ }
-    {
-        let eps = self.eps;
-        let owners = self.ep_interfaces;
-        endpoint::cells_of(eps, owners, self.ep_count)
-    }
-
     fn endpoints_sound(self) -> bool
         requires { ⌜ countsFit self ≡ true ⌝ }
         ensures { λ r. ⌜ r ≡ endpointsMatch (listOf self) (heldOf self) (cellsIn self) ⌝ }
@@ -183,7 +174,7 @@ impl Device {
         let list = self.list;
         let interfaces = self.interfaces;
         let alternates = self.alternates;
-        let c = self.cells();
+        let c = cells::cells_in(self);
         endpoints_match(
             list,
             self.list_len,

@@ -1,6 +1,5 @@
 // The contexts of the two Configures: the endpoint words of all held settings dropped, or added again.
 use super::run::SettingsArgs;
-use configuration::Found;
 ghost use mathlib.Core.Path.{_≡_};
 ghost use mathlib.Core.List.{[], _∷_, _++_};
 ghost use Prim.Native.Nat.{ℕ, _+_, _*_, _<_, _≤_, max};
@@ -12,22 +11,8 @@ ghost use Rattle.context.specs.Place.{inBlock, CONTROL, SLOT, written, Spaced};
 ghost use Rattle.context.specs.Steps.{addAll, contextEntries, highestDci};
 ghost use Rattle.transfer.specs.Routes.{queues};
 ghost use Rattle.phase.specs.Lent.{Room};
-ghost use Rattle.settings.specs.Held.{heldIn, settingWords, heldWords};
+ghost use Rattle.settings.specs.Held.{heldIn, heldWords};
 ghost use Rattle.set_configuration.specs.SetConfiguration.{settingsOf, dropContext, restoreContext};
-
-// The endpoint words of a setting; none where lookup finds none.
-fn setting_words<'a>(list: &'a [u32], interface: u8, alternate: u8) -> &'a [u32]
-    ensures { λ r. ⌜ now r ≡ settingWords (now (list .entry)) interface alternate ⌝ }
-{
-    let found = configuration::find_interface_endpoints(list, interface, alternate);
-    match found {
-        Found::Endpoints { start, count } => {
-            let end = start + count;
-            &list[start..end]
-        }
-        Found::NotFound => &list[0..0],
-    }
-}
 
 fn drop_held(ctx: &mut [u8], list: &[u32], interfaces: [u8; 32], alternates: [u8; 32], n: usize)
     requires { ⌜ (32 ≤ length (now ctx)) × (n ≤ 32) ⌝ }
@@ -35,7 +20,7 @@ fn drop_held(ctx: &mut [u8], list: &[u32], interfaces: [u8; 32], alternates: [u8
 {
     let mut i = 0;
     while i < n {
-        let words = setting_words(list, interfaces[i], alternates[i]);
+        let words = settings::setting_words(list, interfaces[i], alternates[i]);
         configure_context::drop_endpoints(ctx, words);
         i += 1;
     }
@@ -58,7 +43,7 @@ fn add_held(
 {
     let mut i = 0;
     while i < n {
-        let words = setting_words(list, interfaces[i], alternates[i]);
+        let words = settings::setting_words(list, interfaces[i], alternates[i]);
         configure_context::add_endpoints(ctx, spacing, speed, words, dcis, rings);
         i += 1;
     }
@@ -83,7 +68,7 @@ fn held_entries(
     let mut entries = configure_context::context_entries(dcis, &[0u32; 0]);
     let mut i = 0;
     while i < n {
-        let words = setting_words(list, interfaces[i], alternates[i]);
+        let words = settings::setting_words(list, interfaces[i], alternates[i]);
         let of_setting = configure_context::context_entries(dcis, words);
         entries = greater(entries, of_setting);
         i += 1;

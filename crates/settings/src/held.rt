@@ -5,7 +5,7 @@ ghost use mathlib.Core.List.{List};
 ghost use Prim.Native.Nat.{ℕ, _≤_, _-_};
 ghost use lib.ListN.{length, drop};
 ghost use Rattle.laws.proofs.Distinct.{distinct};
-ghost use Rattle.settings.specs.Held.{heldIn, interfacesOf, isHeld, alternateOf, withoutSetting, withSetting, isFound, allFound, settingsSound, SettingsAs};
+ghost use Rattle.settings.specs.Held.{heldIn, interfacesOf, isHeld, alternateOf, withoutSetting, withSetting, settingWords, isFound, allFound, settingsSound, SettingsAs};
 
 pub struct Settings {
     pub interfaces: [u8; 32],
@@ -67,6 +67,20 @@ fn interfaces_distinct(interfaces: [u8; 32], n: usize) -> bool
         }
     }
     true
+}
+
+// The endpoint words of a setting; none where lookup finds none.
+pub fn setting_words<'a>(list: &'a [u32], interface: u8, alternate: u8) -> &'a [u32]
+    ensures { λ r. ⌜ now r ≡ settingWords (now (list .entry)) interface alternate ⌝ }
+{
+    let found = configuration::find_interface_endpoints(list, interface, alternate);
+    match found {
+        Found::Endpoints { start, count } => {
+            let end = start + count;
+            &list[start..end]
+        }
+        Found::NotFound => &list[0..0],
+    }
 }
 
 fn is_found(found: Found) -> bool

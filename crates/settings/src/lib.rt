@@ -5,6 +5,7 @@ mod matching;
 pub use held::Settings;
 pub use held::alternate_of;
 pub use held::is_held;
+pub use held::setting_words;
 pub use held::settings_sound;
 pub use held::with_setting;
 pub use held::without_setting;

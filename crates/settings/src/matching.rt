@@ -1,6 +1,5 @@
 // Whether a record's endpoints are those of its held settings, compared by place.
 use super::held;
-use configuration::Found;
 use endpoint::Cells;
 use endpoint::Owner;
 ghost use mathlib.Core.Path.{_≡_};
@@ -33,11 +32,8 @@ fn places_of(words: &[u32]) -> [bool; 30]
 fn setting_places(list: &[u32], interface: u8, alternate: u8) -> [bool; 30]
     ensures { λ r. ⌜ r ≡ placesOf (settingWords (now (list .entry)) interface alternate) ⌝ }
 {
-    let found = configuration::find_interface_endpoints(list, interface, alternate);
-    match found {
-        Found::Endpoints { start, count } => places_of(&list[start..start + count]),
-        Found::NotFound => [false; 30],
-    }
+    let words = held::setting_words(list, interface, alternate);
+    places_of(words)
 }
 
 // Whether a place has a word exactly if it has a ring.

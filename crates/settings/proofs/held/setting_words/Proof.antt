@@ -2,10 +2,10 @@ use native.Mathlib.Omega.{arith}
 use native.Mathlib.Nat.{add-sub-cancel-left}
 use mathlib.Core.Path.{sym, _∙_}
 use Rattle.configuration.proofs.Laws.{found-inside}
 use Rattle.settings.specs.Held.{settingWords, foundWords}
 use borrow.Author.Needs.{needs}
-use Rattle.set_configuration.proofs.held.setting_words.Statement.{statement}
-use Rattle.set_configuration.proofs.held.setting_words.Tie as tie
+use Rattle.settings.proofs.held.setting_words.Statement.{statement}
+use Rattle.settings.proofs.held.setting_words.Tie as tie
 
 find-interface-endpoints-requires : tie.Need-find-interface-endpoints-requires
 find-interface-endpoints-requires c κs = search needs

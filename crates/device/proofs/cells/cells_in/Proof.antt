@@ -1,8 +1,8 @@
 use Prim.Native.Nat.{_-_}
 use Rattle.device.specs.Device.{cellsIn}
 use Rattle.device.proofs.Facts.{count-facts}
-use Rattle.device.proofs.record.Device.cells.Statement.{statement}
-use Rattle.device.proofs.record.Device.cells.Tie as tie
+use Rattle.device.proofs.cells.cells_in.Statement.{statement}
+use Rattle.device.proofs.cells.cells_in.Tie as tie
 
 cells-of-requires : tie.Need-cells-of-requires
 cells-of-requires c κs = count-facts _ (c .before .before .pre) .endpoints
@@ -11,5 +11,5 @@ returns : tie.Need-returns
 unfolding cellsIn
 returns c = c .cells-of .ensures
 
-pub cells-spec : {M : Type 1} → statement M
-cells-spec = tie.close (tie.spec cells-of-requires returns)
+pub cells-in-spec : {M : Type 1} → statement M
+cells-in-spec = tie.close (tie.spec cells-of-requires returns)

@@ -1,0 +1,155 @@
+-- What a claim whose checks have passed may rely on, and what it leaves.
+use Prim.Native.Nat.{ℕ, suc, _+_, _-_, _≤_, _<_}
+use mathlib.Core.Path.{_≡_, refl, sym, _∙_}
+use mathlib.Core.Bool.{true, cond}
+use mathlib.Core.List.{List, [], _∷_, _++_, append-assoc}
+use native.Mathlib.Numerals.{add-one}
+use native.Mathlib.Omega.{arith}
+use borrow.Author.Tests.{eq-eqb, ne-eqb}
+use lib.ListN.{length, getD, set, take, length-append, length-set}
+use lib.Seq.{set-append-seam, take-suc, length-take-le}
+use Rattle.answer.specs.declared.Answer.{Answer}
+use Rattle.answer.specs.Answer.{number}
+use Rattle.configuration.specs.Lookup.{findEndpoints}
+use Rattle.command.specs.Course.{played}
+use Rattle.context.specs.Place.{Spaced}
+use Rattle.endpoint.specs.declared.cells.Cells.{Cells}
+use Rattle.endpoint.specs.declared.cells.Owner.{Owner}
+use Rattle.endpoint.specs.Cells.{claimedCells, withActive}
+use Rattle.endpoint.specs.Endpoint.{padded}
+use Rattle.settings.specs.Held.{Held, isFound, settingWords, withSetting}
+use Rattle.settings.proofs.Laws.{with-fits}
+use Rattle.phase.specs.declared.Ended.{Ended}
+use Rattle.phase.specs.Lent as lent
+use Rattle.phase.proofs.Laws.{queues-as, room-as}
+use Rattle.claim.specs.declared.ClaimArgs.{ClaimArgs}
+use Rattle.claim.specs.Claim.{claimOf, claimCourse}
+use Rattle.device.specs.declared.check.Check.the-variants.{Pass}
+use Rattle.device.specs.declared.record.Device.{Device}
+use Rattle.device.specs.Device.{listOf, cellsIn, heldOf, quarantinedOf, withCells, withHeld, withQuarantined}
+use Rattle.device.specs.Sound.{countsFit}
+use Rattle.device.specs.Left.{leaves, ended}
+use Rattle.device.specs.Check.{recordCheck}
+use Rattle.device.specs.Claim.{claimCheck, pendingOf, claimIn, ClaimAs, quarantines, claimRecord}
+use Rattle.device.proofs.Counts.{sound-counts}
+use Rattle.device.proofs.Facts.{none-quarantined}
+use Rattle.device.proofs.Laws.{pass-if, passed}
+
+-- one more ring at the end of an array
+padded-put :
+    (n : ℕ) (l : List ℕ) (a : ℕ) → length l < n → set (padded n 0 l) (length l) a ≡ padded n 0 (l ++ (a ∷ []))
+unfolding padded
+padded-put n l a h =
+    let m : n - length l ≡ suc (n - (length l + 1)) = omega arith in
+    let m′ : n - length (l ++ (a ∷ [])) ≡ n - (length l + 1) = simp length-append in
+    rw (m, m′, set-append-seam, append-assoc) refl
+
+-- The first i of some rings at the front of an array, zeros after them.
+pub record Filled (rings out : List ℕ) (i : ℕ) : Type 0 where
+  pub full : length rings ≡ 30
+  pub room : length out ≡ 61
+  pub written : out ≡ padded 61 0 (take i rings)
+
+-- one more
+pub fill-next : {rings out : List ℕ} {i : ℕ} → Filled rings out i → i < 30 → Filled rings (set out i (getD rings i 0)) (i + 1)
+fill-next {rings} {out} {i} f h =
+    let l : length rings ≡ 30 = f .full in
+    let t : length (take i rings) ≡ i = length-take-le i rings (omega arith) in
+    let s : take (i + 1) rings ≡ take i rings ++ (getD rings i 0 ∷ []) = rw (add-one i) (take-suc rings i 0 (omega arith)) in
+    let p : set (padded 61 0 (take i rings)) (length (take i rings)) (getD rings i 0)
+    ≡ padded 61 0 (take i rings ++ (getD rings i 0 ∷ [])) =
+    padded-put 61 (take i rings) (getD rings i 0) (omega (arith, t)) in
+    record {
+      full = l;
+      room = length-set out i (getD rings i 0) ∙ f .room;
+      written = rw (s, f .written, ← p, t);
+    }
+
+-- other endpoints leave the quarantined rings
+pub quarantined-cells : (c : Cells) (d : Device) → quarantinedOf (withCells c d) ≡ quarantinedOf d
+unfolding quarantinedOf withCells
+quarantined-cells c d = refl
+
+-- the record of a claim that moved the settings, step by step
+pub moved-made :
+    (d e r : Device) (c x : Cells) (i : ℕ) (by : List ℕ) (hs : List Held) → x ≡ claimedCells i by c → e ≡ withCells x d →
+    r ≡ withHeld hs e → r ≡ withHeld hs (withCells (claimedCells i by c) d)
+moved-made d e r c x i by hs p q h = rw (h, q, p)
+
+-- of one that did not, after 14
+pub kept-broken :
+    (d e r : Device) (c x : Cells) (who : Owner) (active n : ℕ) (a : Answer) (rings : List ℕ) → x ≡ withActive who active c →
+    e ≡ withCells x d → n ≡ number a → n ≡ 14 → r ≡ withQuarantined rings e →
+    r ≡ quarantines a rings (withCells (withActive who active c) d)
+unfolding quarantines
+kept-broken d e r c x who active n a rings p q m t h = rw (h, q, p, eq-eqb (number a) 14 (sym m ∙ t))
+
+-- and after any other answer
+pub kept-other :
+    (d e : Device) (c x : Cells) (who : Owner) (active n : ℕ) (a : Answer) (rings : List ℕ) → x ≡ withActive who active c →
+    e ≡ withCells x d → n ≡ number a → (n ≡ 14 → ⊥) → e ≡ quarantines a rings (withCells (withActive who active c) d)
+unfolding quarantines
+kept-other d e c x who active n a rings p q m t = rw (q, p, ne-eqb (number a) 14 (λ z. t (m ∙ z)))
+
+pub record ClaimFacts (d : Device) (i alt ctx log : ℕ) : Type 0 where
+  pub counts : countsFit d ≡ true
+  pub spaced : Spaced (d .spacing) ctx
+  pub room : 64 ≤ log
+  pub list : d .«list_len» ≤ 256
+  pub held : d .«held_count» ≤ 32
+  pub fits : length (withSetting i alt (heldOf d)) ≤ 32
+  pub free : quarantinedOf d ≡ []
+
+-- what the course of a claim asks
+pub claim-room : (d : Device) (i alt : ℕ) (a : ClaimArgs) (c : Cells) (by : List ℕ) (ctx : ℕ) → ClaimAs a d c i alt by →
+    Spaced (d .spacing) ctx → lent.Room (a .spacing) ctx (a .old) (a .all)
+claim-room d i alt a c by ctx s h = rw (s .spacing) (room-as (d .spacing) ctx (a .old) (a .all) _ _ h (s .old) (s .all))
+
+module _ (d : Device) (i alt : ℕ) (rings : List ℕ) where
+  -- a setting that passed its check is one that lookup finds
+  found-if : claimCheck d i alt rings ≡ Pass → isFound (findEndpoints (listOf d) i alt) ≡ true
+  unfolding claimCheck
+  found-if e = let s : (isFound (findEndpoints (listOf d) i alt) ≡ true) × _ = pass-if _ _ _ e in s .0
+
+  -- what it says that the checks of a claim passed
+  pub claim-passed : (ctx routes log : ℕ) → recordCheck d ctx routes log (claimCheck d i alt rings) ≡ Pass →
+      ClaimFacts d i alt ctx log
+  claim-passed ctx routes log e =
+      let p = passed d ctx routes log (claimCheck d i alt rings) e in
+      let f = p .0 .facts in
+      record {
+        counts = sound-counts d (p .0 .is-sound);
+        spaced = p .0 .spaced;
+        room = p .0 .room;
+        list = f .counts .list;
+        held = f .counts .held;
+        fits = with-fits (listOf d) (heldOf d) i alt (f .list) (f .settings) (found-if (p .1));
+        free = none-quarantined d (p .0 .usable) (p .0 .is-sound);
+      }
+
+  -- the claim that the code's arguments stand for
+  claim-of : (a : ClaimArgs) (c : Cells) (by : List ℕ) → c ≡ cellsIn d → by ≡ pendingOf d i alt rings → ClaimAs a d c i alt by →
+      claimOf a (cond (a .held) (settingWords (listOf d) (a .interface) (a .«old_alternate»)) [])
+      (settingWords (listOf d) (a .interface) (a .alternate))
+      ≡ claimIn d i alt rings
+  unfolding claimIn lent.dcisIn
+  claim-of a c by e p s =
+      let old = queues-as (a .old) _ (s .old) in
+      let pending = queues-as (a .pending) by (s .pending) in
+      rw (s .slot, s .spacing, s .speed, s .interface, s .alternate, s .held, s .oldAlternate, old, pending, s .all .dcis, e, p)
+
+  -- what a claim leaves is what the end of its course makes
+  pub claim-left :
+      (a : ClaimArgs) (c : Cells) (by o ctx routes log ctx′ routes′ log′ : List ℕ) (x : Ended) (made : Device) → c ≡ cellsIn d →
+      by ≡ pendingOf d i alt rings → ClaimAs a d c i alt by →
+      lent.leaves x ctx′ routes′ log′
+      ≡ played o 0
+      (claimCourse (claimOf a (cond (a .held) (settingWords (listOf d) (a .interface) (a .«old_alternate»)) [])
+      (settingWords (listOf d) (a .interface) (a .alternate))) ctx routes)
+      log →
+      made ≡ claimRecord d i alt rings (lent.leaves x ctx′ routes′ [] .end) →
+      leaves (record { device = made; answer = x .answer; count = x .count }) ctx′ routes′ log′
+      ≡ ended (claimRecord d i alt rings) (played o 0 (claimCourse (claimIn d i alt rings) ctx routes) log)
+  unfolding ended
+  claim-left a c by o ctx routes log ctx′ routes′ log′ x made e p s run m =
+      rw (← claim-of a c by e p s, ← run, m)

@@ -1,0 +1,16 @@
+// The endpoints of a record by place.
+use super::record::Device;
+use endpoint::Cells;
+ghost use mathlib.Core.Path.{_≡_};
+ghost use mathlib.Core.Bool.{true};
+ghost use Rattle.device.specs.Device.{cellsIn};
+ghost use Rattle.device.specs.Sound.{countsFit};
+
+pub fn cells_in(d: Device) -> Cells
+    requires { ⌜ countsFit d ≡ true ⌝ }
+    ensures { λ r. ⌜ r ≡ cellsIn d ⌝ }
+{
+    let eps = d.eps;
+    let owners = d.ep_interfaces;
+    endpoint::cells_of(eps, owners, d.ep_count)
+}

@@ -1,0 +1,351 @@
+// The claim of an interface's alternate setting.
+use super::cells;
+use super::check::Check;
+use super::record::Called;
+use super::record::Device;
+use super::update;
+use answer::Answer;
+use claim::ClaimArgs;
+use configuration::Found;
+use endpoint::Cells;
+use endpoint::Owner;
+use endpoint::Queues;
+use phase::Ended;
+ghost use mathlib.Core.Path.{_≡_};
+ghost use mathlib.Core.Bool.{true, cond};
+ghost use mathlib.Core.List.{List, []};
+ghost use Prim.Native.Nat.{ℕ, _≤_};
+ghost use lib.ListN.{length, take};
+ghost use Rattle.answer.specs.declared.Answer.the-variants as answer;
+ghost use Rattle.command.specs.Course.{played};
+ghost use Rattle.configuration.specs.Lookup.{findEndpoints};
+ghost use Rattle.ring.specs.Rings.{offerOk};
+ghost use Rattle.endpoint.specs.declared.cells.Owner.the-variants.{Interface};
+ghost use Rattle.endpoint.specs.Cells.{pendingRings, claimedCells, withActive, QueuesAs};
+ghost use Rattle.endpoint.specs.Endpoint.{padded};
+ghost use Rattle.settings.specs.Held.{isFound, settingWords, withSetting};
+ghost use Rattle.settings.specs.Match.{addressesFree};
+ghost use Rattle.phase.specs.Lent as lent;
+ghost use Rattle.claim.specs.Claim.{claimOf, claimCourse};
+ghost use Rattle.device.specs.declared.check.Check.the-variants.{Pass};
+ghost use Rattle.device.specs.Device.{cellsIn, heldOf, quarantinedOf, withCells, withHeld, withQuarantined};
+ghost use Rattle.device.specs.Sound.{countsFit};
+ghost use Rattle.device.specs.Left.{leaves, ended};
+ghost use Rattle.device.specs.Check.{unless, recordCheck};
+ghost use Rattle.device.specs.Claim.{claimCheck, pendingOf, claimIn, ClaimAs, quarantines, claimRecord, claim};
+
+// 9, 10, of the words that lookup found.
+fn words_check(
+    words: &[u32],
+    interface: u8,
+    c: Cells,
+    rings: &[u64],
+    control: u64,
+    quarantined: &[u64],
+) -> Check
+    ensures { λ r. ⌜ r ≡ unless (addressesFree (now (words .entry)) interface c) answer.InvalidParameter (unless (offerOk (length (now (words .entry))) (now (rings .entry)) (c .rings) control (now (quarantined .entry))) answer.Rings Pass) ⌝ }
+{
+    if !settings::addresses_free(words, interface, c) {
+        return Check::Refuse(Answer::InvalidParameter);
+    }
+    if ring::offer_ok(words.len(), rings, &c.rings, control, quarantined) {
+        return Check::Pass;
+    }
+    Check::Refuse(Answer::Rings)
+}
+
+// 8, 9, 10.
+fn setting_check(
+    list: &[u32],
+    interface: u8,
+    alternate: u8,
+    c: Cells,
+    rings: &[u64],
+    control: u64,
+    quarantined: &[u64],
+) -> Check
+    ensures { λ r. ⌜ (let words = settingWords (now (list .entry)) interface alternate in r ≡ unless (isFound (findEndpoints (now (list .entry)) interface alternate)) answer.NotFound (unless (addressesFree words interface c) answer.InvalidParameter (unless (offerOk (length words) (now (rings .entry)) (c .rings) control (now (quarantined .entry))) answer.Rings Pass))) ⌝ }
+{
+    let found = configuration::find_interface_endpoints(list, interface, alternate);
+    match found {
+        Found::Endpoints { start, count } => words_check(
+            &list[start..start + count],
+            interface,
+            c,
+            rings,
+            control,
+            quarantined,
+        ),
+        Found::NotFound => Check::Refuse(Answer::NotFound),
+    }
+}
+
+fn lent_check(
+    list: [u32; 256],
+    n: usize,
+    interface: u8,
+    alternate: u8,
+    c: Cells,
+    rings: &[u64],
+    control: u64,
+    quarantined: [u64; 61],
+    m: usize,
+) -> Check
+    requires { ⌜ (n ≤ 256) × (m ≤ 61) ⌝ }
+    ensures { λ r. ⌜ (let words = settingWords (take n list) interface alternate in r ≡ unless (isFound (findEndpoints (take n list) interface alternate)) answer.NotFound (unless (addressesFree words interface c) answer.InvalidParameter (unless (offerOk (length words) (now (rings .entry)) (c .rings) control (take m quarantined)) answer.Rings Pass))) ⌝ }
+{
+    setting_check(
+        &list[0..n],
+        interface,
+        alternate,
+        c,
+        rings,
+        control,
+        &quarantined[0..m],
+    )
+}
+
+fn own_check(d: Device, interface: u8, alternate: u8, rings: &[u64]) -> Check
+    requires { ⌜ countsFit d ≡ true ⌝ }
+    ensures { λ r. ⌜ r ≡ claimCheck d interface alternate (now (rings .entry)) ⌝ }
+{
+    let list = d.list;
+    let quarantined = d.quarantined;
+    let c = cells::cells_in(d);
+    lent_check(
+        list,
+        d.list_len,
+        interface,
+        alternate,
+        c,
+        rings,
+        d.control,
+        quarantined,
+        d.quarantined_count,
+    )
+}
+
+fn claim_check(
+    d: Device,
+    ctx: usize,
+    routes: usize,
+    log: usize,
+    interface: u8,
+    alternate: u8,
+    rings: &[u64],
+) -> Check
+    ensures { λ r. ⌜ r ≡ recordCheck d ctx routes log (claimCheck d interface alternate (now (rings .entry))) ⌝ }
+{
+    let check = d.record_check(ctx, routes, log);
+    match check {
+        Check::Refuse(a) => Check::Refuse(a),
+        Check::Pass => own_check(d, interface, alternate, rings),
+    }
+}
+
+// The rings offered for a setting's words, by place.
+fn setting_rings(list: &[u32], interface: u8, alternate: u8, rings: &[u64]) -> [u64; 30]
+    ensures { λ r. ⌜ r ≡ pendingRings (settingWords (now (list .entry)) interface alternate) (now (rings .entry)) ⌝ }
+{
+    let words = settings::setting_words(list, interface, alternate);
+    endpoint::pending_rings(words, rings)
+}
+
+fn lent_rings(list: [u32; 256], n: usize, interface: u8, alternate: u8, rings: &[u64]) -> [u64; 30]
+    requires { ⌜ n ≤ 256 ⌝ }
+    ensures { λ r. ⌜ r ≡ pendingRings (settingWords (take n list) interface alternate) (now (rings .entry)) ⌝ }
+{
+    setting_rings(&list[0..n], interface, alternate, rings)
+}
+
+fn pending_of(d: Device, interface: u8, alternate: u8, rings: &[u64]) -> [u64; 30]
+    requires { ⌜ countsFit d ≡ true ⌝ }
+    ensures { λ r. ⌜ r ≡ pendingOf d interface alternate (now (rings .entry)) ⌝ }
+{
+    let list = d.list;
+    lent_rings(list, d.list_len, interface, alternate, rings)
+}
+
+fn claim_args(d: Device, c: Cells, interface: u8, alternate: u8, pending: [u64; 30]) -> ClaimArgs
+    requires { ⌜ countsFit d ≡ true ⌝ }
+    ensures { λ r. ⌜ ClaimAs r d c interface alternate pending ⌝ }
+{
+    let interfaces = d.interfaces;
+    let alternates = d.alternates;
+    let n = d.held_count;
+    let slot = d.slot;
+    let own = endpoint::owned_rings(Owner::Interface(interface), c);
+    let rings = c.rings;
+    ClaimArgs {
+        slot: slot,
+        spacing: d.spacing,
+        speed: d.port_speed,
+        interface: interface,
+        alternate: alternate,
+        held: settings::is_held(interfaces, n, interface),
+        old_alternate: settings::alternate_of(interfaces, alternates, n, interface),
+        old: endpoint::queues_of(own),
+        pending: endpoint::queues_of(pending),
+        all: endpoint::queues_of(rings),
+    }
+}
+
+fn lent_claim(
+    ctx: &mut [u8],
+    routes: &mut [u64],
+    log: &mut [u32],
+    outcomes: &[u8],
+    a: ClaimArgs,
+    list: [u32; 256],
+    n: usize,
+) -> Ended
+    requires { ⌜ lent.Room (a .spacing) (length (now ctx)) (a .old) (a .all) ⌝ }
+    requires { ⌜ a .pending .count ≤ 30 ⌝ }
+    requires { ⌜ (64 ≤ length (now log)) × (n ≤ 256) ⌝ }
+    ensures { λ r. ⌜ lent.leaves r (now (ctx .exit)) (now (routes .exit)) (now (log .exit)) ≡ played (now (outcomes .entry)) 0 (claimCourse (claimOf a (cond (a .held) (settingWords (take n list) (a .interface) (a .«old_alternate»)) []) (settingWords (take n list) (a .interface) (a .alternate))) (now (ctx .entry)) (now (routes .entry))) (now (log .entry)) ⌝ }
+{
+    claim::claim_interface(ctx, routes, log, outcomes, a, &list[0..n])
+}
+
+// The first n of some rings as all that are quarantined.
+fn quarantined_rings(rings: [u64; 30], n: usize) -> [u64; 61]
+    requires { ⌜ n ≤ 30 ⌝ }
+    ensures { λ r. ⌜ (r ≡ padded 61 0 (take n rings)) × (length (take n rings) ≡ n) ⌝ }
+{
+    let mut quarantined = [0u64; 61];
+    let mut i = 0;
+    while i < n {
+        quarantined[i] = rings[i];
+        i += 1;
+    }
+    quarantined
+}
+
+fn with_quarantined(mut d: Device, q: Queues) -> Device
+    requires { ⌜ (quarantinedOf d ≡ []) × (q .count ≤ 30) ⌝ }
+    ensures { λ r. ⌜ r ≡ withQuarantined (take (q .count) (q .rings)) d ⌝ }
+{
+    let rings = q.rings;
+    let quarantined = quarantined_rings(rings, q.count);
+    d.quarantined = quarantined;
+    d.quarantined_count = q.count;
+    d
+}
+
+// The record of a claim that moved the settings.
+fn moved_record(d: Device, c: Cells, interface: u8, alternate: u8, pending: [u64; 30]) -> Device
+    requires { ⌜ (d .«held_count» ≤ 32) × (length (withSetting interface alternate (heldOf d)) ≤ 32) ⌝ }
+    ensures { λ r. ⌜ r ≡ withHeld (withSetting interface alternate (heldOf d)) (withCells (claimedCells interface pending c) d) ⌝ }
+{
+    let interfaces = d.interfaces;
+    let alternates = d.alternates;
+    let s = settings::with_setting(interfaces, alternates, d.held_count, interface, alternate);
+    let claimed = endpoint::claimed_cells(interface, pending, c);
+    let e = update::with_cells(d, claimed);
+    update::with_held(e, s)
+}
+
+// The record of one that did not: after 14 the pending rings are quarantined.
+fn kept_record(d: Device, c: Cells, interface: u8, active: usize, a: Answer, q: Queues) -> Device
+    requires { ⌜ (quarantinedOf d ≡ []) × (q .count ≤ 30) ⌝ }
+    ensures { λ r. ⌜ r ≡ quarantines a (take (q .count) (q .rings)) (withCells (withActive (Interface interface) active c) d) ⌝ }
+{
+    let revoked = endpoint::with_active(Owner::Interface(interface), active, c);
+    let e = update::with_cells(d, revoked);
+    if answer::answer_number(a) == 14 {
+        return with_quarantined(e, q);
+    }
+    e
+}
+
+// The record that the end of the course makes.
+fn claim_record(
+    d: Device,
+    c: Cells,
+    interface: u8,
+    alternate: u8,
+    pending: [u64; 30],
+    q: Queues,
+    e: Ended,
+) -> Device
+    requires { ⌜ (d .«held_count» ≤ 32) × (length (withSetting interface alternate (heldOf d)) ≤ 32) ⌝ }
+    requires { ⌜ (c ≡ cellsIn d) × (quarantinedOf d ≡ []) × QueuesAs q pending ⌝ }
+    ensures { λ r. ⌜ ((ctx routes rings : List ℕ) → pending ≡ pendingOf d interface alternate rings → r ≡ claimRecord d interface alternate rings (lent.leaves e ctx routes [] .end)) ⌝ }
+{
+    let a = e.answer;
+    if e.moved {
+        return update::marked(moved_record(d, c, interface, alternate, pending), a);
+    }
+    update::marked(kept_record(d, c, interface, e.active, a, q), a)
+}
+
+// What is done where the checks have passed.
+fn claim_run(
+    d: Device,
+    ctx: &mut [u8],
+    routes: &mut [u64],
+    log: &mut [u32],
+    outcomes: &[u8],
+    interface: u8,
+    alternate: u8,
+    rings: &[u64],
+) -> Called
+    requires { ⌜ recordCheck d (length (now ctx)) (length (now routes)) (length (now log)) (claimCheck d interface alternate (now rings)) ≡ Pass ⌝ }
+    ensures { λ r. ⌜ leaves r (now (ctx .exit)) (now (routes .exit)) (now (log .exit)) ≡ ended (claimRecord d interface alternate (now (rings .entry))) (played (now (outcomes .entry)) 0 (claimCourse (claimIn d interface alternate (now (rings .entry))) (now (ctx .entry)) (now (routes .entry))) (now (log .entry))) ⌝ }
+{
+    let c = cells::cells_in(d);
+    let pending = pending_of(d, interface, alternate, rings);
+    let a = claim_args(d, c, interface, alternate, pending);
+    let list = d.list;
+    let q = a.pending;
+    let e = lent_claim(ctx, routes, log, outcomes, a, list, d.list_len);
+    let answer = e.answer;
+    Called {
+        device: claim_record(d, c, interface, alternate, pending, q, e),
+        answer: answer,
+        count: e.count,
+    }
+}
+
+impl Device {
+    // The old endpoints are stopped and dropped, those of the setting added with the rings offered, and the device switched.
+    pub fn claim(
+        mut self,
+        ctx: &mut [u8],
+        routes: &mut [u64],
+        log: &mut [u32],
+        outcomes: &[u8],
+        interface: u8,
+        alternate: u8,
+        rings: &[u64],
+    ) -> Called
+        ensures { λ r. ⌜ leaves r (now (ctx .exit)) (now (routes .exit)) (now (log .exit)) ≡ claim self (now (ctx .entry)) (now (routes .entry)) (now (log .entry)) (now (outcomes .entry)) interface alternate (now (rings .entry)) ⌝ }
+    {
+        let check = claim_check(
+            self,
+            ctx.len(),
+            routes.len(),
+            log.len(),
+            interface,
+            alternate,
+            rings,
+        );
+        match check {
+            Check::Refuse(a) => Called {
+                device: self,
+                answer: a,
+                count: 0,
+            },
+            Check::Pass => claim_run(
+                self,
+                ctx,
+                routes,
+                log,
+                outcomes,
+                interface,
+                alternate,
+                rings,
+            ),
+        }
+    }
+}
