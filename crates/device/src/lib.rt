@@ -4,6 +4,8 @@ mod check;
 mod claim_interface;
 mod hub_update;
 mod record;
+mod release_interface;
+mod set_value;
 mod sound;
 mod update;
 

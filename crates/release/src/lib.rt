@@ -2,6 +2,7 @@
 use answer::Answer;
 use command::Command;
 use command::Sent;
+use configuration::Found;
 use def::SlotId;
 use endpoint::Queues;
 use phase::Ended;
@@ -11,6 +12,7 @@ ghost use Prim.Native.Nat.{_+_, _≤_};
 ghost use lib.ListN.{length};
 ghost use Rattle.command.specs.Course.{played};
 ghost use Rattle.phase.specs.Lent.{leaves, Room};
+ghost use Rattle.settings.specs.Held.{settingWords};
 ghost use Rattle.release.specs.Release.{releaseOf, releasePublish, releaseResume, releaseConfigure, releaseCourse};
 
 // The interface's setting (alternate 0 where it holds none), its endpoints, and all endpoints of the record.
@@ -119,5 +121,27 @@ pub fn run_release(
         Sent::Done => configure(ctx, routes, log, outcomes, n, a, words),
         Sent::Failed(code) => phase::stays(Answer::Failed(code), n, a.old.count),
         Sent::Cut => phase::stays(Answer::Cut, n, stop.active),
+    }
+}
+
+// The same where the words are those that lookup finds in a list, none where it does not find the setting.
+pub fn release_interface(
+    ctx: &mut [u8],
+    routes: &mut [u64],
+    log: &mut [u32],
+    outcomes: &[u8],
+    a: ReleaseArgs,
+    list: &[u32],
+) -> Ended
+    requires { ⌜ Room (a .spacing) (length (now ctx)) (a .old) (a .all) ⌝ }
+    requires { ⌜ 64 ≤ length (now log) ⌝ }
+    ensures { λ r. ⌜ leaves r (now (ctx .exit)) (now (routes .exit)) (now (log .exit)) ≡ played (now (outcomes .entry)) 0 (releaseCourse (releaseOf a (settingWords (now (list .entry)) (a .interface) (a .alternate))) (now (ctx .entry)) (now (routes .entry))) (now (log .entry)) ⌝ }
+{
+    let found = configuration::find_interface_endpoints(list, a.interface, a.alternate);
+    match found {
+        Found::Endpoints { start, count } => {
+            run_release(ctx, routes, log, outcomes, a, &list[start..start + count])
+        }
+        Found::NotFound => run_release(ctx, routes, log, outcomes, a, &[0u32; 0]),
     }
 }

@@ -1,0 +1,185 @@
+// The release of an interface.
+use super::cells;
+use super::check::Check;
+use super::record::Called;
+use super::record::Device;
+use super::update;
+use answer::Answer;
+use configuration::Found;
+use endpoint::Cells;
+use endpoint::Owner;
+use phase::Ended;
+use release::ReleaseArgs;
+ghost use mathlib.Core.Path.{_≡_};
+ghost use mathlib.Core.Bool.{true};
+ghost use mathlib.Core.List.{List, []};
+ghost use Prim.Native.Nat.{ℕ, _≤_};
+ghost use lib.ListN.{length, take, replicate};
+ghost use Rattle.command.specs.Course.{played};
+ghost use Rattle.configuration.specs.Lookup.{findEndpoints};
+ghost use Rattle.context.specs.Place.{Spaced};
+ghost use Rattle.endpoint.specs.Order.{PLACES};
+ghost use Rattle.endpoint.specs.declared.cells.Owner.the-variants.{Interface};
+ghost use Rattle.endpoint.specs.Cells.{ownedRings, claimedCells, QueuesAs};
+ghost use Rattle.phase.specs.Lent as lent;
+ghost use Rattle.settings.specs.Held.{isFound, settingWords, withoutSetting};
+ghost use Rattle.release.specs.Release.{releaseOf, releaseCourse};
+ghost use Rattle.device.specs.Device.{listOf, cellsIn, heldOf, withCells, withHeld};
+ghost use Rattle.device.specs.Left.{leaves, ended};
+ghost use Rattle.device.specs.Sound.{countsFit};
+ghost use Rattle.device.specs.Check.{recordCheck};
+ghost use Rattle.device.specs.Release.{releaseCheck, releaseIn, releaseRecord, release};
+
+// Whether an interface has an alternate 0.
+fn has_alternate(list: [u32; 256], n: usize, interface: u8) -> bool
+    requires { ⌜ n ≤ 256 ⌝ }
+    ensures { λ r. ⌜ r ≡ isFound (findEndpoints (take n list) interface 0) ⌝ }
+{
+    let found = configuration::find_interface_endpoints(&list[0..n], interface, 0);
+    match found {
+        Found::Endpoints { .. } => true,
+        Found::NotFound => false,
+    }
+}
+
+// 8, for an unclaimed interface only.
+fn setting_check(d: Device, interface: u8) -> Check
+    requires { ⌜ countsFit d ≡ true ⌝ }
+    ensures { λ r. ⌜ r ≡ releaseCheck d interface ⌝ }
+{
+    let interfaces = d.interfaces;
+    let list = d.list;
+    if settings::is_held(interfaces, d.held_count, interface) {
+        return Check::Pass;
+    }
+    if has_alternate(list, d.list_len, interface) {
+        return Check::Pass;
+    }
+    Check::Refuse(Answer::NotFound)
+}
+
+fn release_check(d: Device, ctx: usize, routes: usize, log: usize, interface: u8) -> Check
+    ensures { λ r. ⌜ r ≡ recordCheck d ctx routes log (releaseCheck d interface) ⌝ }
+{
+    let check = d.record_check(ctx, routes, log);
+    match check {
+        Check::Refuse(a) => Check::Refuse(a),
+        Check::Pass => setting_check(d, interface),
+    }
+}
+
+// What the course works on.
+fn release_args(d: Device, c: Cells, interface: u8) -> ReleaseArgs
+    requires { ⌜ countsFit d ≡ true ⌝ }
+    requires { ⌜ c ≡ cellsIn d ⌝ }
+    ensures { λ r. ⌜ (releaseOf r (settingWords (listOf d) (r .interface) (r .alternate)) ≡ releaseIn d interface) × (r .spacing ≡ d .spacing) × QueuesAs (r .old) (ownedRings (Interface interface) (cellsIn d)) × QueuesAs (r .all) ((cellsIn d) .rings) ⌝ }
+{
+    let interfaces = d.interfaces;
+    let alternates = d.alternates;
+    let alternate = settings::alternate_of(interfaces, alternates, d.held_count, interface);
+    let own = endpoint::owned_rings(Owner::Interface(interface), c);
+    let old = endpoint::queues_of(own);
+    let rings = c.rings;
+    let all = endpoint::queues_of(rings);
+    let slot = d.slot;
+    ReleaseArgs {
+        slot: slot,
+        spacing: d.spacing,
+        speed: d.port_speed,
+        interface: interface,
+        alternate: alternate,
+        old: old,
+        all: all,
+    }
+}
+
+// The course, with the list lent to it.
+fn release_listed(
+    ctx: &mut [u8],
+    routes: &mut [u64],
+    log: &mut [u32],
+    outcomes: &[u8],
+    a: ReleaseArgs,
+    list: [u32; 256],
+    n: usize,
+) -> Ended
+    requires { ⌜ lent.Room (a .spacing) (length (now ctx)) (a .old) (a .all) ⌝ }
+    requires { ⌜ (64 ≤ length (now log)) × (n ≤ 256) ⌝ }
+    ensures { λ r. ⌜ lent.leaves r (now (ctx .exit)) (now (routes .exit)) (now (log .exit)) ≡ played (now (outcomes .entry)) 0 (releaseCourse (releaseOf a (settingWords (take n list) (a .interface) (a .alternate))) (now (ctx .entry)) (now (routes .entry))) (now (log .entry)) ⌝ }
+{
+    release::release_interface(ctx, routes, log, outcomes, a, &list[0..n])
+}
+
+// The record without the interface's setting and endpoints.
+fn released(d: Device, c: Cells, interface: u8) -> Device
+    requires { ⌜ countsFit d ≡ true ⌝ }
+    ensures { λ r. ⌜ r ≡ withHeld (withoutSetting interface (heldOf d)) (withCells (claimedCells interface (replicate PLACES 0) c) d) ⌝ }
+{
+    let interfaces = d.interfaces;
+    let alternates = d.alternates;
+    let held = settings::without_setting(interfaces, alternates, d.held_count, interface);
+    let left = endpoint::claimed_cells(interface, [0u64; 30], c);
+    update::with_held(update::with_cells(d, left), held)
+}
+
+// The record that the end of the course makes.
+fn release_record(d: Device, c: Cells, e: Ended, interface: u8) -> Device
+    requires { ⌜ countsFit d ≡ true ⌝ }
+    requires { ⌜ c ≡ cellsIn d ⌝ }
+    ensures { λ r. ⌜ ((ctx routes : List ℕ) → r ≡ releaseRecord d interface (lent.leaves e ctx routes [] .end)) ⌝ }
+{
+    let answer = e.answer;
+    if e.moved {
+        return update::marked(released(d, c, interface), answer);
+    }
+    let left = endpoint::with_active(Owner::Interface(interface), e.active, c);
+    update::marked(update::with_cells(d, left), answer)
+}
+
+// What is done where the checks have passed.
+fn release_run(
+    d: Device,
+    ctx: &mut [u8],
+    routes: &mut [u64],
+    log: &mut [u32],
+    outcomes: &[u8],
+    interface: u8,
+) -> Called
+    requires { ⌜ (countsFit d ≡ true) × Spaced (d .spacing) (length (now ctx)) × (64 ≤ length (now log)) ⌝ }
+    ensures { λ r. ⌜ leaves r (now (ctx .exit)) (now (routes .exit)) (now (log .exit)) ≡ ended (releaseRecord d interface) (played (now (outcomes .entry)) 0 (releaseCourse (releaseIn d interface) (now (ctx .entry)) (now (routes .entry))) (now (log .entry))) ⌝ }
+{
+    let c = cells::cells_in(d);
+    let a = release_args(d, c, interface);
+    let list = d.list;
+    let e = release_listed(ctx, routes, log, outcomes, a, list, d.list_len);
+    let answer = e.answer;
+    Called {
+        device: release_record(d, c, e, interface),
+        answer: answer,
+        count: e.count,
+    }
+}
+
+impl Device {
+    // The interface's endpoints are stopped and dropped, its setting is no longer held.
+    pub fn release(
+        mut self,
+        ctx: &mut [u8],
+        routes: &mut [u64],
+        log: &mut [u32],
+        outcomes: &[u8],
+        interface: u8,
+    ) -> Called
+        ensures { λ r. ⌜ leaves r (now (ctx .exit)) (now (routes .exit)) (now (log .exit)) ≡ release self (now (ctx .entry)) (now (routes .entry)) (now (log .entry)) (now (outcomes .entry)) interface ⌝ }
+    {
+        let check = release_check(self, ctx.len(), routes.len(), log.len(), interface);
+        match check {
+            Check::Refuse(a) => Called {
+                device: self,
+                answer: a,
+                count: 0,
+            },
+            Check::Pass => release_run(self, ctx, routes, log, outcomes, interface),
+        }
+    }
+}

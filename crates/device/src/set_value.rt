@@ -1,0 +1,152 @@
+// The setting of a configuration, which ends all held settings.
+use super::cells;
+use super::check::Check;
+use super::record::Called;
+use super::record::Device;
+use super::update;
+use answer::Answer;
+use endpoint::Cells;
+use endpoint::Owner;
+use phase::Ended;
+use set_configuration::SettingsArgs;
+use settings::Settings;
+ghost use mathlib.Core.Path.{_≡_};
+ghost use mathlib.Core.Bool.{true, cond};
+ghost use mathlib.Core.List.{List, []};
+ghost use Prim.Native.Nat.{ℕ, _+_, _*_, _≤_};
+ghost use lib.ListN.{length, take};
+ghost use Rattle.command.specs.Course.{played};
+ghost use Rattle.context.specs.Place.{Spaced};
+ghost use Rattle.endpoint.specs.Cells.{QueuesAs};
+ghost use Rattle.phase.specs.Lent as lent;
+ghost use Rattle.set_configuration.specs.SetConfiguration.{settingsOf, setCourse};
+ghost use Rattle.device.specs.Device.{listOf, cellsIn, withConfiguration};
+ghost use Rattle.device.specs.Left.{leaves, ended, isAccepted};
+ghost use Rattle.device.specs.Sound.{countsFit};
+ghost use Rattle.device.specs.SetConfiguration.{settingsIn, bare, setRecord, setConfiguration};
+
+// What the course works on.
+fn settings_args(d: Device, c: Cells, value: u8) -> SettingsArgs
+    requires { ⌜ countsFit d ≡ true ⌝ }
+    requires { ⌜ c ≡ cellsIn d ⌝ }
+    ensures { λ r. ⌜ (settingsOf r (listOf d) ≡ settingsIn d value) × (r .spacing ≡ d .spacing) × (r .held ≤ 32) × QueuesAs (r .old) ((cellsIn d) .rings) ⌝ }
+{
+    let interfaces = d.interfaces;
+    let alternates = d.alternates;
+    let rings = c.rings;
+    let old = endpoint::queues_of(rings);
+    let slot = d.slot;
+    SettingsArgs {
+        slot: slot,
+        spacing: d.spacing,
+        speed: d.port_speed,
+        value: value,
+        interfaces: interfaces,
+        alternates: alternates,
+        held: d.held_count,
+        old: old,
+    }
+}
+
+// The course, with the list lent to it.
+fn set_listed(
+    ctx: &mut [u8],
+    routes: &mut [u64],
+    log: &mut [u32],
+    outcomes: &[u8],
+    a: SettingsArgs,
+    list: [u32; 256],
+    n: usize,
+) -> Ended
+    requires { ⌜ lent.Room (a .spacing) (length (now ctx)) (a .old) (a .old) ⌝ }
+    requires { ⌜ (a .held ≤ 32) × (64 ≤ length (now log)) × (n ≤ 256) ⌝ }
+    ensures { λ r. ⌜ lent.leaves r (now (ctx .exit)) (now (routes .exit)) (now (log .exit)) ≡ played (now (outcomes .entry)) 0 (setCourse (settingsOf a (take n list)) (now (ctx .entry)) (now (routes .entry))) (now (log .entry)) ⌝ }
+{
+    set_configuration::run_set_configuration(ctx, routes, log, outcomes, 0, a, &list[0..n])
+}
+
+// The record without held settings.
+fn bare(d: Device) -> Device
+    ensures { λ r. ⌜ r ≡ bare d ⌝ }
+{
+    let none = Settings {
+        interfaces: [0u8; 32],
+        alternates: [0u8; 32],
+        count: 0,
+    };
+    let left = endpoint::no_cells();
+    update::with_held(update::with_cells(d, left), none)
+}
+
+// The value is the record's where the call is accepted.
+fn configured(mut d: Device, a: Answer, value: u8) -> Device
+    ensures { λ r. ⌜ r ≡ cond (isAccepted a) (withConfiguration value d) d ⌝ }
+{
+    if answer::answer_number(a) == 0 {
+        d.configured = true;
+        d.current_config_value = value;
+        return d;
+    }
+    d
+}
+
+// The record that the end of the course makes.
+fn set_record(d: Device, c: Cells, e: Ended, value: u8) -> Device
+    requires { ⌜ c ≡ cellsIn d ⌝ }
+    ensures { λ r. ⌜ ((ctx routes : List ℕ) → r ≡ setRecord d value (lent.leaves e ctx routes [] .end)) ⌝ }
+{
+    let answer = e.answer;
+    if e.moved {
+        return update::marked(configured(bare(d), answer, value), answer);
+    }
+    let left = endpoint::with_active(Owner::Any, e.active, c);
+    update::marked(update::with_cells(d, left), answer)
+}
+
+// What is done where the checks have passed.
+fn set_run(
+    d: Device,
+    ctx: &mut [u8],
+    routes: &mut [u64],
+    log: &mut [u32],
+    outcomes: &[u8],
+    value: u8,
+) -> Called
+    requires { ⌜ (countsFit d ≡ true) × Spaced (d .spacing) (length (now ctx)) × (64 ≤ length (now log)) ⌝ }
+    ensures { λ r. ⌜ leaves r (now (ctx .exit)) (now (routes .exit)) (now (log .exit)) ≡ ended (setRecord d value) (played (now (outcomes .entry)) 0 (setCourse (settingsIn d value) (now (ctx .entry)) (now (routes .entry))) (now (log .entry))) ⌝ }
+{
+    let c = cells::cells_in(d);
+    let a = settings_args(d, c, value);
+    let list = d.list;
+    let e = set_listed(ctx, routes, log, outcomes, a, list, d.list_len);
+    let answer = e.answer;
+    Called {
+        device: set_record(d, c, e, value),
+        answer: answer,
+        count: e.count,
+    }
+}
+
+impl Device {
+    // All endpoints are stopped and dropped, and the device and the controller are told the value.
+    pub fn set_configuration(
+        mut self,
+        ctx: &mut [u8],
+        routes: &mut [u64],
+        log: &mut [u32],
+        outcomes: &[u8],
+        value: u8,
+    ) -> Called
+        ensures { λ r. ⌜ leaves r (now (ctx .exit)) (now (routes .exit)) (now (log .exit)) ≡ setConfiguration self (now (ctx .entry)) (now (routes .entry)) (now (log .entry)) (now (outcomes .entry)) value ⌝ }
+    {
+        let check = self.record_check(ctx.len(), routes.len(), log.len());
+        match check {
+            Check::Refuse(a) => Called {
+                device: self,
+                answer: a,
+                count: 0,
+            },
+            Check::Pass => set_run(self, ctx, routes, log, outcomes, value),
+        }
+    }
+}
