@@ -28,6 +28,8 @@ use Rattle.device.specs.declared.record.Device.{Device}
 use Rattle.device.specs.Left.{Left, refused, isAccepted}
 use Rattle.device.specs.Check.{unless}
 use Rattle.device.specs.Calls.{onCheck}
+use Rattle.bring_up.specs.declared.run.BringUpArgs.{BringUpArgs}
+use Rattle.bring_up.specs.declared.run.Ended.{Ended}
 
 -- What a bring-up is told of the device: its place, what is read from it, and its descriptor list.
 pub record BringUp : Type 0 where
@@ -51,18 +53,29 @@ pub record BringUp : Type 0 where
 unfoldable pub spacingOf : ℕ → ℕ
 spacingOf len = cond (eqb len 1056) 32 (cond (eqb len 2112) 64 0)
 
--- 11, 1, 2, 3, 6, 4, 5, 10, 17.
-unfoldable pub bringUpCheck : BringUp → ℕ → List ℕ → ℕ → Check
-bringUpCheck a ctx routes log =
+-- 11, 1, 2, 3, then what follows.
+unfoldable pub slotCheck : BringUp → ℕ → ℕ → ℕ → Check → Check
+slotCheck a ctx routes log next =
     unless (leb 1 (a .slot) && (leb (a .slot) (a .n) && leb (a .n) 255)) answer.SlotLimitReached
     (unless (eqb ctx 1056 || eqb ctx 2112) answer.ContextLength
-    (unless (eqb (length routes) (32 * (a .n + 1))) answer.RoutesLength
-    (unless (leb 64 log) answer.LogTooShort
-    (unless (speedKnown (a .speed)) answer.Speed
+    (unless (eqb routes (32 * (a .n + 1))) answer.RoutesLength
+    (unless (leb 64 log) answer.LogTooShort next)))
+
+-- 6, 4, 5, 10, then what follows.
+unfoldable pub deviceCheck : BringUp → Check → Check
+deviceCheck a next =
+    unless (speedKnown (a .speed)) answer.Speed
     (unless (validList (a .list)) answer.DescriptorList
     (unless (chainOk (a .hubs) (a .hasParent) (a .parent)) answer.HubChain
-    (unless (ringOk (a .ring)) answer.Rings
-    (unless (eqb (routeOf routes (a .slot) 1) 0) answer.QueueFull Pass))))))))
+    (unless (ringOk (a .ring)) answer.Rings next)))
+
+-- 17: the word of Dci 1 is not 0.
+unfoldable pub queueCheck : BringUp → List ℕ → Check
+queueCheck a routes = unless (eqb (routeOf routes (a .slot) 1) 0) answer.QueueFull Pass
+
+-- 11, 1, 2, 3, 6, 4, 5, 10, 17.
+unfoldable pub bringUpCheck : BringUp → ℕ → List ℕ → ℕ → Check
+bringUpCheck a ctx routes log = slotCheck a ctx (length routes) log (deviceCheck a (queueCheck a routes))
 
 -- What was read of the device, or set: the configuration value, if any, and the words of the list.
 pub record Reading : Type 0 where
@@ -131,32 +144,43 @@ bringUpConfigs a spacing zero i ctx routes = bringUpSet a spacing ctx routes
 bringUpConfigs a spacing (suc k) i ctx routes =
     step (command.ReadConfig i) (readUpTo a i) ctx routes (bringUpConfigs a spacing k (i + 1) ctx routes)
 
--- A device without configurations is brought up when its descriptor is read.
+-- The device descriptor is read; a device without configurations is brought up then.
 unfoldable pub bringUpDevice : BringUp → ℕ → List ℕ → List ℕ → Course Brought
 bringUpDevice a spacing ctx routes =
-    step command.ReadConfiguration nothingRead ctx routes
-    (step command.ReadDevice (readUpTo a 0) ctx routes
+    step command.ReadDevice (readUpTo a 0) ctx routes
     (cond (eqb (length (a .list)) 0)
     (ends (brought answer.Accepted (readUpTo a 0) ctx routes))
-    (bringUpConfigs a spacing (configurations (a .list)) 0 ctx routes)))
+    (bringUpConfigs a spacing (configurations (a .list)) 0 ctx routes))
 
--- The control endpoint's packet size, from a header of eight bytes.
+-- The configuration that is set now is read.
+unfoldable pub bringUpConfiguration : BringUp → ℕ → List ℕ → List ℕ → Course Brought
+bringUpConfiguration a spacing ctx routes =
+    step command.ReadConfiguration nothingRead ctx routes (bringUpDevice a spacing ctx routes)
+
+-- The control endpoint's packet size is told to the controller.
+unfoldable pub bringUpPacket : BringUp → ℕ → List ℕ → List ℕ → Course Brought
+bringUpPacket a spacing ctx routes =
+    let next = written spacing (maxPacketWrites (a .packet)) ctx in
+    step command.Evaluate nothingRead next routes (bringUpConfiguration a spacing next routes)
+
+-- It is read in a header of eight bytes.
 unfoldable pub bringUpHeader : BringUp → ℕ → List ℕ → List ℕ → Course Brought
 bringUpHeader a spacing ctx routes =
-    let next = written spacing (maxPacketWrites (a .packet)) ctx in
     step command.ReadHeader nothingRead ctx routes
-    (cond (eqb (a .header) 8)
-    (step command.Evaluate nothingRead next routes (bringUpDevice a spacing next routes))
+    (cond (eqb (a .header) 8) (bringUpPacket a spacing ctx routes)
     (ends (brought answer.ShortHeader nothingRead ctx routes)))
 
--- Control's route is registered, and the device addressed.
-unfoldable pub bringUpCourse : BringUp → ℕ → List ℕ → List ℕ → Course Brought
-bringUpCourse a spacing ctx routes =
+-- The device is addressed, over a context of all zero.
+unfoldable pub bringUpAddress : BringUp → ℕ → List ℕ → List ℕ → Course Brought
+bringUpAddress a spacing ctx routes =
     let route = routeString (a .hubs) (a .hasParent) (a .parent) (a .port) in
     let translator = translatorOf (a .speed) (a .hubs) (a .hasParent) (a .parent) (a .port) in
     let next = addressContext spacing (a .speed) route translator (a .rootPort) (a .ring) ctx in
-    let registered = withRoute routes (a .slot) 1 (a .ring) in
-    step command.Address nothingRead next registered (bringUpHeader a spacing next registered)
+    step command.Address nothingRead next routes (bringUpHeader a spacing next routes)
+
+-- Control's route is registered first.
+unfoldable pub bringUpCourse : BringUp → ℕ → List ℕ → List ℕ → Course Brought
+bringUpCourse a spacing ctx routes = bringUpAddress a spacing ctx (withRoute routes (a .slot) 1 (a .ring))
 
 -- The record of a device that holds no setting.
 unfoldable pub broughtRecord : BringUp → ℕ → Brought → Device
@@ -226,3 +250,37 @@ bringUp a ctx routes log outcomes =
     onCheck (bringUpCheck a (length ctx) routes (length log))
     (broughtLeft a spacing (played outcomes 0 (bringUpCourse a spacing ctx routes) log))
     (λ x. refused noDevice x ctx routes log)
+
+-- The same from the code's arguments.
+abbrev pub bringUpOf : BringUpArgs → List ℕ → List ℕ → BringUp
+bringUpOf a hubs list =
+    record {
+      slot = a .slot .0;
+      n = a .n;
+      speed = a .speed;
+      hubs = hubs;
+      hasParent = a .«has_parent»;
+      parent = a .parent;
+      port = a .port;
+      rootPort = a .«root_port»;
+      ring = a .ring;
+      header = a .header;
+      packet = a .packet;
+      value = a .value;
+      list = list;
+    }
+
+-- What a phase leaves, as a course's end says it.
+abbrev pub leavesRead : Ended → List ℕ → List ℕ → List ℕ → List ℕ → Played Brought
+leavesRead r list ctx routes log =
+    record {
+      end =
+          record {
+            answer = r .answer;
+            read = record { configured = r .configured; value = r .value; list = firstConfigurations (r .configurations) list };
+            ctx = ctx;
+            routes = routes;
+          };
+      count = r .count;
+      log = log;
+    }

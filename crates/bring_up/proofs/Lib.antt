@@ -1,0 +1,6 @@
+pub mod Accepted
+pub mod Checks
+pub mod Ends
+pub mod Laws
+pub mod Lists
+pub mod Steps

@@ -1,0 +1,57 @@
+use Rattle.bring_up.specs.BringUp.{deviceCheck}
+use borrow.Author.Tests.{not-true, not-false}
+use borrow.Author.Needs.{needs}
+use Rattle.bring_up.proofs.check.device_check.Statement.{statement}
+use Rattle.bring_up.proofs.check.device_check.Tie as tie
+use Rattle.bring_up.proofs.check.device_check.Reads as reads
+use Rattle.bring_up.proofs.check.device_check.Lts as lts
+use Rattle.bring_up.proofs.check.ring_ok.Reads as ring-ok-reads
+use Rattle.configuration.proofs.valid_list.Reads as valid-list-reads
+use Rattle.def.proofs.speed_known.Reads as speed-known-reads
+use Rattle.hub.proofs.chain_ok.Reads as chain-ok-reads
+
+speed-known-requires : tie.Need-speed-known-requires
+speed-known-requires c κs = search needs
+
+returns : tie.Need-returns
+unfolding deviceCheck
+returns c = rw (← c .before .speed-known .ensures, not-true (c .before .speed-known .result) (c .if1 .taken))
+
+valid-list-requires : tie.Need-valid-list-requires
+valid-list-requires c κs = search needs
+
+returns-2 : tie.Need-returns-2
+unfolding deviceCheck
+returns-2 c = rw (← c .before .before .before .speed-known .ensures, not-false (c .before .before .before .speed-known .result) (c .before .before .if1 .left), ← c .before .valid-list .ensures, not-true (c .before .valid-list .result) (c .if2 .taken))
+
+chain-ok-requires : tie.Need-chain-ok-requires
+chain-ok-requires c κs = search needs
+
+returns-3 : tie.Need-returns-3
+unfolding deviceCheck
+returns-3 c = rw (← c .before .before .before .before .before .speed-known .ensures, not-false (c .before .before .before .before .before .speed-known .result) (c .before .before .before .before .if1 .left), ← c .before .before .before .valid-list .ensures, not-false (c .before .before .before .valid-list .result) (c .before .before .if2 .left), ← c .before .chain-ok .ensures, not-true (c .before .chain-ok .result) (c .if3 .taken))
+
+ring-ok-requires : tie.Need-ring-ok-requires
+ring-ok-requires c κs = search needs
+
+returns-4 : tie.Need-returns-4
+unfolding deviceCheck
+returns-4 c = rw (← c .before .before .before .before .before .before .before .speed-known .ensures, not-false (c .before .before .before .before .before .before .before .speed-known .result) (c .before .before .before .before .before .before .if1 .left), ← c .before .before .before .before .before .valid-list .ensures, not-false (c .before .before .before .before .before .valid-list .result) (c .before .before .before .before .if2 .left), ← c .before .before .before .chain-ok .ensures, not-false (c .before .before .before .chain-ok .result) (c .before .before .if3 .left), ← c .before .ring-ok .ensures, not-true (c .before .ring-ok .result) (c .if4 .taken))
+
+returns-5 : tie.Need-returns-5
+unfolding deviceCheck
+returns-5 c = rw (← c .before .before .before .before .before .before .before .speed-known .ensures, not-false (c .before .before .before .before .before .before .before .speed-known .result) (c .before .before .before .before .before .before .if1 .left), ← c .before .before .before .before .before .valid-list .ensures, not-false (c .before .before .before .before .before .valid-list .result) (c .before .before .before .before .if2 .left), ← c .before .before .before .chain-ok .ensures, not-false (c .before .before .before .chain-ok .result) (c .before .before .if3 .left), ← c .before .ring-ok .ensures, not-false (c .before .ring-ok .result) (c .if4 .left))
+
+pub device-check-spec : {M : Type 1} → statement M
+device-check-spec =
+    tie.close
+    (tie.spec
+    speed-known-requires
+    returns
+    valid-list-requires
+    returns-2
+    chain-ok-requires
+    returns-3
+    ring-ok-requires
+    returns-4
+    returns-5)

@@ -1,0 +1,41 @@
+use Rattle.bring_up.specs.BringUp.{broughtRecord, noDevice}
+use lib.Seq.{length-take-le}
+use borrow.Author.Needs.{needs}
+use Rattle.bring_up.proofs.record.brought_device.Statement.{statement}
+use Rattle.bring_up.proofs.record.brought_device.Tie as tie
+use Rattle.bring_up.proofs.record.brought_device.Reads as reads
+use Rattle.bring_up.proofs.record.brought_device.Lts as lts
+use Rattle.bring_up.proofs.list.count_words.Reads as count-words-reads
+use Rattle.bring_up.proofs.list.first_words.Reads as first-words-reads
+use Rattle.bring_up.proofs.run.accepted.Reads as accepted-reads
+use Rattle.bring_up.proofs.record.no_device.Reads as no-device-reads
+
+count-words-requires : tie.Need-count-words-requires
+count-words-requires c κs = search needs
+
+first-words-requires : tie.Need-first-words-requires
+first-words-requires c κs = search needs
+
+no-device-requires : tie.Need-no-device-requires
+no-device-requires c κs = search needs
+
+accepted-requires : tie.Need-accepted-requires
+accepted-requires c κs = search needs
+
+cast-d : tie.Need-cast-d
+cast-d c = search needs
+
+returns : tie.Need-returns
+unfolding broughtRecord noDevice
+returns c = λ hubs ctx routes log. let e = c .before .before .before .before .before .count-words .ensures in rw (c .before .accepted .ensures, c .before .before .before .first-words .ensures, c .before .before .no-device .ensures, e .1, length-take-le _ _ (e .0))
+
+pub brought-device-spec : {M : Type 1} → statement M
+brought-device-spec =
+    tie.close
+    (tie.spec
+    count-words-requires
+    first-words-requires
+    no-device-requires
+    accepted-requires
+    cast-d
+    returns)

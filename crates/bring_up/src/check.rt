@@ -1,0 +1,93 @@
+// The checks of a bring-up, in 01's order.
+use super::run::BringUpArgs;
+use answer::Answer;
+use device::Check;
+ghost use mathlib.Core.Path.{_≡_};
+ghost use mathlib.Core.Bool.{_||_};
+ghost use mathlib.Core.List.{List};
+ghost use Prim.Native.Nat.{ℕ};
+ghost use lib.Dec.{eqb};
+ghost use Rattle.ring.specs.Rings.{ringOk};
+ghost use Rattle.device.specs.declared.check.Check.the-variants.{Pass};
+ghost use Rattle.bring_up.specs.BringUp.{bringUpOf, slotCheck, deviceCheck};
+
+fn context_known(ctx: usize) -> bool
+    ensures { λ r. ⌜ r ≡ (eqb ctx 1056 || eqb ctx 2112) ⌝ }
+{
+    if ctx == 1056 {
+        return true;
+    }
+    ctx == 2112
+}
+
+fn ring_ok(ring: u64) -> bool
+    ensures { λ r. ⌜ r ≡ ringOk ring ⌝ }
+{
+    if ring == 0 {
+        return false;
+    }
+    ring % 16 == 0
+}
+
+// 11, 1, 2, 3.
+fn slot_check(a: BringUpArgs, ctx: usize, routes: usize, log: usize) -> Check
+    ensures { λ r. ⌜ ((hubs list : List ℕ) → r ≡ slotCheck (bringUpOf a hubs list) ctx routes log Pass) ⌝ }
+{
+    let slot = a.slot.0 as usize;
+    if slot < 1 {
+        return Check::Refuse(Answer::SlotLimitReached);
+    }
+    if a.n < slot {
+        return Check::Refuse(Answer::SlotLimitReached);
+    }
+    if 255 < a.n {
+        return Check::Refuse(Answer::SlotLimitReached);
+    }
+    if !context_known(ctx) {
+        return Check::Refuse(Answer::ContextLength);
+    }
+    if routes != 32 * (a.n + 1) {
+        return Check::Refuse(Answer::RoutesLength);
+    }
+    if log < 64 {
+        return Check::Refuse(Answer::LogTooShort);
+    }
+    Check::Pass
+}
+
+// 6, 4, 5, 10.
+fn device_check(a: BringUpArgs, hubs: &[u64], list: &[u32]) -> Check
+    ensures { λ r. ⌜ r ≡ deviceCheck (bringUpOf a (now (hubs .entry)) (now (list .entry))) Pass ⌝ }
+{
+    if !def::speed_known(a.speed) {
+        return Check::Refuse(Answer::Speed);
+    }
+    if !configuration::valid_list(list) {
+        return Check::Refuse(Answer::DescriptorList);
+    }
+    if !hub::chain_ok(hubs, a.has_parent, a.parent) {
+        return Check::Refuse(Answer::HubChain);
+    }
+    if !ring_ok(a.ring) {
+        return Check::Refuse(Answer::Rings);
+    }
+    Check::Pass
+}
+
+// All but 17, which registering control's route finds.
+pub fn bring_up_check(
+    a: BringUpArgs,
+    ctx: usize,
+    routes: usize,
+    log: usize,
+    hubs: &[u64],
+    list: &[u32],
+) -> Check
+    ensures { λ r. ⌜ (let b = bringUpOf a (now (hubs .entry)) (now (list .entry)) in r ≡ slotCheck b ctx routes log (deviceCheck b Pass)) ⌝ }
+{
+    let check = slot_check(a, ctx, routes, log);
+    match check {
+        Check::Refuse(x) => Check::Refuse(x),
+        Check::Pass => device_check(a, hubs, list),
+    }
+}
