@@ -6,6 +6,7 @@ use lib.Dec.{eqb}
 use mathlib.Core.List.{List, [], _∷_, _++_, append-assoc, append-nil, map, flatten}
 use native.Mathlib.Numerals.{add-one}
 use native.Mathlib.Nat.{add-zero}
+use native.Mathlib.Decide.{decLt}
 use native.Mathlib.Omega.{arith}
 use borrow.Author.Tests.{lt-ltb, le-ltb}
 use lib.ListN.{length, getD, set, take, drop, length-set, length-append}
@@ -14,6 +15,7 @@ use Rattle.endpoint.specs.Cells.{tabulated}
 use Rattle.endpoint.specs.declared.entry.Handle.{Handle}
 use Rattle.endpoint.specs.declared.entry.Endpoint.{Endpoint}
 use Rattle.device.specs.declared.record.Device.{Device}
+use Rattle.image.specs.Fits.{Below}
 use Rattle.image.specs.Image.{isSet, handleIn, byteAt, wordAt, numberAt, endpointIn, read, below}
 
 tabulated-snoc : {A : Type 0} (f : ℕ → A) (k a : ℕ) → tabulated f (suc k) a ≡ tabulated f k a ++ (f (a + k) ∷ [])
@@ -74,6 +76,26 @@ put-done {from} {k} {old} {values} {p} {image} w e g h =
     let same : k ≡ p = omega arith in
     ap (λ (m : ℕ). take (from + m) image) same ∙ w .put
     ∙ ap (λ (l : List ℕ). take from old ++ l) (take-all p values (omega arith))
+
+-- The first p values of a list are below a bound.
+pub record Low (bound : ℕ) (values : List ℕ) (p : ℕ) : Type 0 where
+  pub low : (i : ℕ) → i < p → getD values i 0 < bound
+
+pub low-none : (bound : ℕ) (values : List ℕ) → Low bound values 0
+low-none bound values = record { low = λ i h. absurd (omega arith) }
+
+pub low-next :
+    {bound : ℕ} {values : List ℕ} {p : ℕ} (v : ℕ) → Low bound values p → v ≡ getD values p 0 → v < bound →
+    Low bound values (p + 1)
+low-next {bound} {values} {p} v w e h = record { low = λ i g. go i g (decLt i p) }
+  where
+    go : (i : ℕ) → i < p + 1 → Dec (i < p) → getD values i 0 < bound
+    go i g (yes l) = w .low i l
+    go i g (no l) = let same : i ≡ p = omega arith in rw (same, ← e) h
+
+pub low-done :
+    {bound : ℕ} {values : List ℕ} {p : ℕ} (k : ℕ) → Low bound values p → length values ≡ k → k ≤ p → Below bound values
+low-done k w e h i g = w .low i (omega arith)
 
 -- What a list's elements say, element by element.
 pub length-mapped : {A : Type 0} {k : ℕ} (f : A → ℕ) (l : List A) → length l ≡ k → length (map f l) ≡ k

@@ -5,9 +5,10 @@ use endpoint::Handle;
 ghost use mathlib.Core.Path.{_≡_};
 ghost use mathlib.Core.Bool.{Bool};
 ghost use mathlib.Core.List.{[], _∷_, _++_, map};
-ghost use Prim.Native.Nat.{_+_, _≤_};
+ghost use Prim.Native.Nat.{_+_, _≤_, _<_};
 ghost use lib.ListN.{length, take};
-ghost use Rattle.image.specs.Image.{flag, revoked, handleWord, addressWord, ringWord, stored};
+ghost use Rattle.image.specs.Image.{WORDS, flag, revoked, handleWord, addressWord, ringWord, stored};
+ghost use Rattle.image.specs.Fits.{Below, Fits};
 
 fn flag(on: bool) -> u64
     ensures { λ r. ⌜ r ≡ flag on ⌝ }
@@ -26,13 +27,13 @@ fn revoked(h: Handle) -> u64
 
 // An address, an interface or an alternate as a word.
 fn wide(x: u8) -> u64
-    ensures { λ r. ⌜ r ≡ x ⌝ }
+    ensures { λ r. ⌜ (r ≡ x) × (r < 256) ⌝ }
 {
     x as u64
 }
 
 fn wide_word(x: u32) -> u64
-    ensures { λ r. ⌜ r ≡ x ⌝ }
+    ensures { λ r. ⌜ (r ≡ x) × (r < 4294967296) ⌝ }
 {
     x as u64
 }
@@ -61,7 +62,7 @@ fn put_handles(image: &mut [u64], eps: [Endpoint; 30])
 
 fn put_bytes(image: &mut [u64], slot: u8, n: u8, port_speed: u8, current_config_value: u8)
     requires { ⌜ length (now image) ≡ 514 ⌝ }
-    ensures { λ r. ⌜ take 37 (now (image .exit)) ≡ take 33 (now (image .entry)) ++ (slot ∷ n ∷ «port_speed» ∷ «current_config_value» ∷ []) ⌝ }
+    ensures { λ r. ⌜ (take 37 (now (image .exit)) ≡ take 33 (now (image .entry)) ++ (slot ∷ n ∷ «port_speed» ∷ «current_config_value» ∷ [])) × (slot < 256) × (n < 256) × («port_speed» < 256) × («current_config_value» < 256) ⌝ }
 {
     image[33] = wide(slot);
     image[34] = wide(n);
@@ -71,7 +72,7 @@ fn put_bytes(image: &mut [u64], slot: u8, n: u8, port_speed: u8, current_config_
 
 fn put_addresses(image: &mut [u64], eps: [Endpoint; 30])
     requires { ⌜ length (now image) ≡ 514 ⌝ }
-    ensures { λ r. ⌜ take 67 (now (image .exit)) ≡ take 37 (now (image .entry)) ++ map addressWord eps ⌝ }
+    ensures { λ r. ⌜ (take 67 (now (image .exit)) ≡ take 37 (now (image .entry)) ++ map addressWord eps) × (length eps ≡ 30) × Below 256 (map addressWord eps) ⌝ }
 {
     let mut i = 0;
     while i < 30 {
@@ -83,7 +84,7 @@ fn put_addresses(image: &mut [u64], eps: [Endpoint; 30])
 
 fn put_owners(image: &mut [u64], owners: [u8; 30])
     requires { ⌜ length (now image) ≡ 514 ⌝ }
-    ensures { λ r. ⌜ take 97 (now (image .exit)) ≡ take 67 (now (image .entry)) ++ owners ⌝ }
+    ensures { λ r. ⌜ (take 97 (now (image .exit)) ≡ take 67 (now (image .entry)) ++ owners) × (length owners ≡ 30) × Below 256 owners ⌝ }
 {
     let mut i = 0;
     while i < 30 {
@@ -95,7 +96,7 @@ fn put_owners(image: &mut [u64], owners: [u8; 30])
 // The interfaces and the alternates of held settings.
 fn put_settings(image: &mut [u64], from: usize, numbers: [u8; 32])
     requires { ⌜ from + 32 ≤ length (now image) ⌝ }
-    ensures { λ r. ⌜ take (from + 32) (now (image .exit)) ≡ take from (now (image .entry)) ++ numbers ⌝ }
+    ensures { λ r. ⌜ (take (from + 32) (now (image .exit)) ≡ take from (now (image .entry)) ++ numbers) × (length numbers ≡ 32) × Below 256 numbers ⌝ }
 {
     let mut i = 0;
     while i < 32 {
@@ -106,7 +107,7 @@ fn put_settings(image: &mut [u64], from: usize, numbers: [u8; 32])
 
 fn put_list(image: &mut [u64], list: [u32; 256])
     requires { ⌜ length (now image) ≡ 514 ⌝ }
-    ensures { λ r. ⌜ take 417 (now (image .exit)) ≡ take 161 (now (image .entry)) ++ list ⌝ }
+    ensures { λ r. ⌜ (take 417 (now (image .exit)) ≡ take 161 (now (image .entry)) ++ list) × (length list ≡ 256) × Below 4294967296 list ⌝ }
 {
     let mut i = 0;
     while i < 256 {
@@ -149,7 +150,7 @@ fn put_rings(image: &mut [u64], eps: [Endpoint; 30])
 
 fn put_quarantined(image: &mut [u64], rings: [u64; 61])
     requires { ⌜ length (now image) ≡ 514 ⌝ }
-    ensures { λ r. ⌜ take 514 (now (image .exit)) ≡ take 453 (now (image .entry)) ++ rings ⌝ }
+    ensures { λ r. ⌜ (take 514 (now (image .exit)) ≡ take 453 (now (image .entry)) ++ rings) × (length rings ≡ 61) ⌝ }
 {
     let mut i = 0;
     while i < 61 {
@@ -158,9 +159,9 @@ fn put_quarantined(image: &mut [u64], rings: [u64; 61])
     }
 }
 
-// A buffer of another length is left as it is.
+// A buffer of another length is left as it is. The image holds the record whole, since its numbers are of their types.
 pub fn encode(d: Device, image: &mut [u64])
-    ensures { λ r. ⌜ now (image .exit) ≡ stored d (now (image .entry)) ⌝ }
+    ensures { λ r. ⌜ (now (image .exit) ≡ stored d (now (image .entry))) × (length (now (image .entry)) ≡ WORDS → Fits d) ⌝ }
 {
     if image.len() != 514 {
         return;

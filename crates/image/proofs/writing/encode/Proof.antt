@@ -10,7 +10,7 @@ use Rattle.image.proofs.writing.encode.Tie as tie
 
 returns : tie.Need-returns
 unfolding stored
-returns c = rw (ne-eqb _ _ (c .if1 .taken)) refl
+returns c = (rw (ne-eqb _ _ (c .if1 .taken)) refl, λ e. absurd (c .if1 .taken e))
 
 put-flags-requires : tie.Need-put-flags-requires
 put-flags-requires c κs = search needs
@@ -34,7 +34,7 @@ put-settings-requires-2 : tie.Need-put-settings-requires-2
 put-settings-requires-2 c κs = search needs
 
 put-list-requires : tie.Need-put-list-requires
-put-list-requires c κs = search needs
+put-list-requires c κs = omega (arith, c .before .before .before .put-settings2 .kept .0, c .before .before .before .before .before .before .before .put-settings .kept .0, c .before .before .before .before .before .before .before .before .before .before .before .put-owners .kept .0, c .before .before .before .before .before .before .before .before .before .before .before .before .before .before .before .put-addresses .kept .0, c .before .before .before .before .before .before .before .before .before .before .before .before .before .before .before .before .before .before .before .put-bytes .kept .0, c .before .before .before .before .before .before .before .before .before .before .before .before .before .before .before .before .before .before .before .before .before .before .before .put-handles .kept .0, c .before .before .before .before .before .before .before .before .before .before .before .before .before .before .before .before .before .before .before .before .before .before .before .before .before .before .before .put-flags .kept .0, c .before .before .before .before .before .before .before .before .before .before .before .before .before .before .before .before .before .before .before .before .before .before .before .before .before .before .before .before .before .before .before .before .before .before .before .before .if1 .left)
 
 put-numbers-requires : tie.Need-put-numbers-requires
 put-numbers-requires c κs = omega (arith, c .before .before .before .put-list .kept .0, c .before .before .before .before .before .before .before .put-settings2 .kept .0, c .before .before .before .before .before .before .before .before .before .before .before .put-settings .kept .0, c .before .before .before .before .before .before .before .before .before .before .before .before .before .before .before .put-owners .kept .0, c .before .before .before .before .before .before .before .before .before .before .before .before .before .before .before .before .before .before .before .put-addresses .kept .0, c .before .before .before .before .before .before .before .before .before .before .before .before .before .before .before .before .before .before .before .before .before .before .before .put-bytes .kept .0, c .before .before .before .before .before .before .before .before .before .before .before .before .before .before .before .before .before .before .before .before .before .before .before .before .before .before .before .put-handles .kept .0, c .before .before .before .before .before .before .before .before .before .before .before .before .before .before .before .before .before .before .before .before .before .before .before .before .before .before .before .before .before .before .before .put-flags .kept .0, c .before .before .before .before .before .before .before .before .before .before .before .before .before .before .before .before .before .before .before .before .before .before .before .before .before .before .before .before .before .before .before .before .before .before .before .before .before .before .before .before .if1 .left)
@@ -50,7 +50,7 @@ same-length c = omega (arith, c .before .before .put-quarantined .kept .0, c .be
 
 returns-2 : tie.Need-returns-2
 unfolding stored encode parts
-returns-2 c = rw (eq-eqb _ _ (c .before .before .before .before .before .before .before .before .before .before .before .before .before .before .before .before .before .before .before .before .before .before .before .before .before .before .before .before .before .before .before .before .before .before .before .before .before .before .before .before .before .before .before .before .before .before .before .before .before .before .before .if1 .left)) (sym (take-all 514 (c .before .before .put-quarantined .last .0) (omega (arith, c .before .before .put-quarantined .kept .0, c .before .before .before .before .before .before .put-rings .kept .0, c .before .before .before .before .before .before .before .before .before .before .put-numbers .kept .0, c .before .before .before .before .before .before .before .before .before .before .before .before .before .before .put-list .kept .0, c .before .before .before .before .before .before .before .before .before .before .before .before .before .before .before .before .before .before .put-settings2 .kept .0, c .before .before .before .before .before .before .before .before .before .before .before .before .before .before .before .before .before .before .before .before .before .before .put-settings .kept .0, c .before .before .before .before .before .before .before .before .before .before .before .before .before .before .before .before .before .before .before .before .before .before .before .before .before .before .put-owners .kept .0, c .before .before .before .before .before .before .before .before .before .before .before .before .before .before .before .before .before .before .before .before .before .before .before .before .before .before .before .before .before .before .put-addresses .kept .0, c .before .before .before .before .before .before .before .before .before .before .before .before .before .before .before .before .before .before .before .before .before .before .before .before .before .before .before .before .before .before .before .before .before .before .put-bytes .kept .0, c .before .before .before .before .before .before .before .before .before .before .before .before .before .before .before .before .before .before .before .before .before .before .before .before .before .before .before .before .before .before .before .before .before .before .before .before .before .before .put-handles .kept .0, c .before .before .before .before .before .before .before .before .before .before .before .before .before .before .before .before .before .before .before .before .before .before .before .before .before .before .before .before .before .before .before .before .before .before .before .before .before .before .before .before .before .before .put-flags .kept .0, c .before .before .before .before .before .before .before .before .before .before .before .before .before .before .before .before .before .before .before .before .before .before .before .before .before .before .before .before .before .before .before .before .before .before .before .before .before .before .before .before .before .before .before .before .before .before .before .before .before .before .before .if1 .left))) ∙ encoded _ _ _ _ _ _ _ _ _ _ _ (c .before .before .before .before .before .before .before .before .before .before .before .before .before .before .before .before .before .before .before .before .before .before .before .before .before .before .before .before .before .before .before .before .before .before .before .before .before .before .before .before .before .before .put-flags .ensures) (c .before .before .before .before .before .before .before .before .before .before .before .before .before .before .before .before .before .before .before .before .before .before .before .before .before .before .before .before .before .before .before .before .before .before .before .before .before .before .put-handles .ensures) (c .before .before .before .before .before .before .before .before .before .before .before .before .before .before .before .before .before .before .before .before .before .before .before .before .before .before .before .before .before .before .before .before .before .before .put-bytes .ensures) (c .before .before .before .before .before .before .before .before .before .before .before .before .before .before .before .before .before .before .before .before .before .before .before .before .before .before .before .before .before .before .put-addresses .ensures) (c .before .before .before .before .before .before .before .before .before .before .before .before .before .before .before .before .before .before .before .before .before .before .before .before .before .before .put-owners .ensures) (c .before .before .before .before .before .before .before .before .before .before .before .before .before .before .before .before .before .before .before .before .before .before .put-settings .ensures) (c .before .before .before .before .before .before .before .before .before .before .before .before .before .before .before .before .before .before .put-settings2 .ensures) (c .before .before .before .before .before .before .before .before .before .before .before .before .before .before .put-list .ensures) (c .before .before .before .before .before .before .before .before .before .before .put-numbers .ensures) (c .before .before .before .before .before .before .put-rings .ensures) (c .before .before .put-quarantined .ensures))
+returns-2 c = (rw (eq-eqb _ _ (c .before .before .before .before .before .before .before .before .before .before .before .before .before .before .before .before .before .before .before .before .before .before .before .before .before .before .before .before .before .before .before .before .before .before .before .before .before .before .before .before .before .before .before .before .before .before .before .before .before .before .before .if1 .left)) (sym (take-all 514 (c .before .before .put-quarantined .last .0) (omega (arith, c .before .before .put-quarantined .kept .0, c .before .before .before .before .before .before .put-rings .kept .0, c .before .before .before .before .before .before .before .before .before .before .put-numbers .kept .0, c .before .before .before .before .before .before .before .before .before .before .before .before .before .before .put-list .kept .0, c .before .before .before .before .before .before .before .before .before .before .before .before .before .before .before .before .before .before .put-settings2 .kept .0, c .before .before .before .before .before .before .before .before .before .before .before .before .before .before .before .before .before .before .before .before .before .before .put-settings .kept .0, c .before .before .before .before .before .before .before .before .before .before .before .before .before .before .before .before .before .before .before .before .before .before .before .before .before .before .put-owners .kept .0, c .before .before .before .before .before .before .before .before .before .before .before .before .before .before .before .before .before .before .before .before .before .before .before .before .before .before .before .before .before .before .put-addresses .kept .0, c .before .before .before .before .before .before .before .before .before .before .before .before .before .before .before .before .before .before .before .before .before .before .before .before .before .before .before .before .before .before .before .before .before .before .put-bytes .kept .0, c .before .before .before .before .before .before .before .before .before .before .before .before .before .before .before .before .before .before .before .before .before .before .before .before .before .before .before .before .before .before .before .before .before .before .before .before .before .before .put-handles .kept .0, c .before .before .before .before .before .before .before .before .before .before .before .before .before .before .before .before .before .before .before .before .before .before .before .before .before .before .before .before .before .before .before .before .before .before .before .before .before .before .before .before .before .before .put-flags .kept .0, c .before .before .before .before .before .before .before .before .before .before .before .before .before .before .before .before .before .before .before .before .before .before .before .before .before .before .before .before .before .before .before .before .before .before .before .before .before .before .before .before .before .before .before .before .before .before .before .before .before .before .before .if1 .left))) ∙ encoded _ _ _ _ _ _ _ _ _ _ _ (c .before .before .before .before .before .before .before .before .before .before .before .before .before .before .before .before .before .before .before .before .before .before .before .before .before .before .before .before .before .before .before .before .before .before .before .before .before .before .before .before .before .before .put-flags .ensures) (c .before .before .before .before .before .before .before .before .before .before .before .before .before .before .before .before .before .before .before .before .before .before .before .before .before .before .before .before .before .before .before .before .before .before .before .before .before .before .put-handles .ensures) (c .before .before .before .before .before .before .before .before .before .before .before .before .before .before .before .before .before .before .before .before .before .before .before .before .before .before .before .before .before .before .before .before .before .before .put-bytes .ensures .0) (c .before .before .before .before .before .before .before .before .before .before .before .before .before .before .before .before .before .before .before .before .before .before .before .before .before .before .before .before .before .before .put-addresses .ensures .0) (c .before .before .before .before .before .before .before .before .before .before .before .before .before .before .before .before .before .before .before .before .before .before .before .before .before .before .put-owners .ensures .0) (c .before .before .before .before .before .before .before .before .before .before .before .before .before .before .before .before .before .before .before .before .before .before .put-settings .ensures .0) (c .before .before .before .before .before .before .before .before .before .before .before .before .before .before .before .before .before .before .put-settings2 .ensures .0) (c .before .before .before .before .before .before .before .before .before .before .before .before .before .before .put-list .ensures .0) (c .before .before .before .before .before .before .before .before .before .before .put-numbers .ensures) (c .before .before .before .before .before .before .put-rings .ensures) (c .before .before .put-quarantined .ensures .0)), λ e. record { slot = c .before .before .before .before .before .before .before .before .before .before .before .before .before .before .before .before .before .before .before .before .before .before .before .before .before .before .before .before .before .before .before .before .before .before .put-bytes .ensures .1; n = c .before .before .before .before .before .before .before .before .before .before .before .before .before .before .before .before .before .before .before .before .before .before .before .before .before .before .before .before .before .before .before .before .before .before .put-bytes .ensures .2; speed = c .before .before .before .before .before .before .before .before .before .before .before .before .before .before .before .before .before .before .before .before .before .before .before .before .before .before .before .before .before .before .before .before .before .before .put-bytes .ensures .3; value = c .before .before .before .before .before .before .before .before .before .before .before .before .before .before .before .before .before .before .before .before .before .before .before .before .before .before .before .before .before .before .before .before .before .before .put-bytes .ensures .4; list = (c .before .before .before .before .before .before .before .before .before .before .before .before .before .before .put-list .ensures .1, c .before .before .before .before .before .before .before .before .before .before .before .before .before .before .put-list .ensures .2); eps = (c .before .before .before .before .before .before .before .before .before .before .before .before .before .before .before .before .before .before .before .before .before .before .before .before .before .before .before .before .before .before .put-addresses .ensures .1, c .before .before .before .before .before .before .before .before .before .before .before .before .before .before .before .before .before .before .before .before .before .before .before .before .before .before .before .before .before .before .put-addresses .ensures .2); owners = (c .before .before .before .before .before .before .before .before .before .before .before .before .before .before .before .before .before .before .before .before .before .before .before .before .before .before .put-owners .ensures .1, c .before .before .before .before .before .before .before .before .before .before .before .before .before .before .before .before .before .before .before .before .before .before .before .before .before .before .put-owners .ensures .2); interfaces = (c .before .before .before .before .before .before .before .before .before .before .before .before .before .before .before .before .before .before .before .before .before .before .put-settings .ensures .1, c .before .before .before .before .before .before .before .before .before .before .before .before .before .before .before .before .before .before .before .before .before .before .put-settings .ensures .2); alternates = (c .before .before .before .before .before .before .before .before .before .before .before .before .before .before .before .before .before .before .put-settings2 .ensures .1, c .before .before .before .before .before .before .before .before .before .before .before .before .before .before .before .before .before .before .put-settings2 .ensures .2); quarantined = c .before .before .put-quarantined .ensures .1 })
 
 pub encode-spec : {M : Type 1} → statement M
 encode-spec =

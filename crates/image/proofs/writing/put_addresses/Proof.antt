@@ -1,3 +1,4 @@
+use Rattle.image.proofs.Steps.{Low, low-none, low-next, low-done}
 use Prim.Native.Nat.{_≤_, _-_}
 use mathlib.Core.Path.{_≡_, _∙_}
 use mathlib.Core.List.{map}
@@ -12,13 +13,13 @@ use Rattle.image.proofs.writing.put_addresses.Tie as tie
 
 abbrev Inv-loop : tie.InvT-loop
 Inv-loop image₀ eps i₀ image i =
-    (length image₀ ≡ 514) × (length eps ≡ 30) × (i ≤ 30) × (length (map addressWord eps) ≡ 30) × Put 37 image₀ (map addressWord eps) i image
+    (length image₀ ≡ 514) × (length eps ≡ 30) × (i ≤ 30) × (length (map addressWord eps) ≡ 30) × Put 37 image₀ (map addressWord eps) i image × Low 256 (map addressWord eps) i
 
 abbrev μ-loop : tie.MeasureT-loop
 μ-loop image₀ eps i₀ image i = 30 - i
 
 loop-holds : tie.Need-loop-holds Inv-loop μ-loop
-loop-holds c = (search needs, search needs, search needs, length-mapped addressWord (c .before .args .t2) (search needs), put-none _ _ _)
+loop-holds c = (search needs, search needs, search needs, length-mapped addressWord (c .before .args .t2) (search needs), put-none _ _ _, low-none _ _)
 
 mul-e : tie.Need-mul-e Inv-loop μ-loop
 mul-e c = search needs
@@ -46,13 +47,13 @@ loop-less c = search needs
 
 loop-again : tie.Need-loop-again Inv-loop μ-loop
 unfolding addressWord
-loop-again c = (search needs, search needs, search needs, c .before .before .before .loop .inv .3, put-next _ (c .before .before .before .loop .inv .4) (omega (arith, c .before .before .before .loop .inv .3, c .before .before .loop-test .taken)) (omega (arith, c .before .before .before .loop .inv .0, c .before .before .loop-test .taken)) (c .wide .ensures ∙ mapped addressWord (c .before .before .before .before .before .args .t2) _ blank (c .before .before .before .loop .inv .1) (c .before .before .loop-test .taken)))
+loop-again c = (search needs, search needs, search needs, c .before .before .before .loop .inv .3, put-next _ (c .before .before .before .loop .inv .4) (omega (arith, c .before .before .before .loop .inv .3, c .before .before .loop-test .taken)) (omega (arith, c .before .before .before .loop .inv .0, c .before .before .loop-test .taken)) (c .wide .ensures .0 ∙ mapped addressWord (c .before .before .before .before .before .args .t2) _ blank (c .before .before .before .loop .inv .1) (c .before .before .loop-test .taken)), low-next _ (c .before .before .before .loop .inv .5) (c .wide .ensures .0 ∙ mapped addressWord (c .before .before .before .before .before .args .t2) _ blank (c .before .before .before .loop .inv .1) (c .before .before .loop-test .taken)) (c .wide .ensures .1))
 
 same-length : tie.Need-same-length Inv-loop μ-loop
 same-length c = c .before .loop .inv .4 .size
 
 returns : tie.Need-returns Inv-loop μ-loop
-returns c = put-done (c .before .loop .inv .4) (c .before .loop .inv .3) (c .loop-test .left) (c .before .loop .inv .2)
+returns c = (put-done (c .before .loop .inv .4) (c .before .loop .inv .3) (c .loop-test .left) (c .before .loop .inv .2), c .before .loop .inv .1, low-done _ (c .before .loop .inv .5) (c .before .loop .inv .3) (c .loop-test .left))
 
 pub put-addresses-spec : {M : Type 1} → statement M
 put-addresses-spec =

@@ -31,7 +31,7 @@ same-length : tie.Need-same-length
 same-length c = search needs
 
 returns : tie.Need-returns
-returns c = rw (c .wide4 .ensures, c .before .wide3 .ensures, c .before .before .wide2 .ensures, c .before .before .before .wide .ensures) (put-four (c .before .before .before .before .before .args .image .now) (c .before .before .before .before .before .args .slot) (c .before .before .before .before .before .args .n) (c .before .before .before .before .before .args .port-speed) (c .before .before .before .before .before .args .current-config-value) (c .before .before .before .before .before .pre))
+returns c = (rw (c .wide4 .ensures .0, c .before .wide3 .ensures .0, c .before .before .wide2 .ensures .0, c .before .before .before .wide .ensures .0) (put-four (c .before .before .before .before .before .args .image .now) (c .before .before .before .before .before .args .slot) (c .before .before .before .before .before .args .n) (c .before .before .before .before .before .args .port-speed) (c .before .before .before .before .before .args .current-config-value) (c .before .before .before .before .before .pre)), rw (← c .before .before .before .wide .ensures .0) (c .before .before .before .wide .ensures .1), rw (← c .before .before .wide2 .ensures .0) (c .before .before .wide2 .ensures .1), rw (← c .before .wide3 .ensures .0) (c .before .wide3 .ensures .1), rw (← c .wide4 .ensures .0) (c .wide4 .ensures .1))
 
 pub put-bytes-spec : {M : Type 1} → statement M
 put-bytes-spec =

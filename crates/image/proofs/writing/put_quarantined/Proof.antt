@@ -45,7 +45,7 @@ same-length : tie.Need-same-length Inv-loop μ-loop
 same-length c = c .before .loop .inv .3 .size
 
 returns : tie.Need-returns Inv-loop μ-loop
-returns c = put-done (c .before .loop .inv .3) (c .before .loop .inv .1) (c .loop-test .left) (c .before .loop .inv .2)
+returns c = (put-done (c .before .loop .inv .3) (c .before .loop .inv .1) (c .loop-test .left) (c .before .loop .inv .2), c .before .loop .inv .1)
 
 pub put-quarantined-spec : {M : Type 1} → statement M
 put-quarantined-spec =
