@@ -1,5 +1,6 @@
 -- A call across the C boundary: the record comes in a lent buffer as an image, and goes back in it.
 use Prim.Native.Nat.{ℕ}
+use mathlib.Core.Path.{_≡_}
 use mathlib.Core.Bool.{Bool, true, false}
 use mathlib.Core.List.{List}
 use Rattle.answer.specs.declared.Answer.{Answer}
@@ -7,6 +8,7 @@ use Rattle.answer.specs.declared.Answer.the-variants.{Unusable}
 use Rattle.answer.specs.Answer.{number, codeOf}
 use Rattle.device.specs.Left.{Left}
 use Rattle.image.specs.Image.{encode}
+use Rattle.image.specs.Fits.{Fits}
 use Rattle.xhci_device.specs.declared.returned.Answered.{Answered}
 
 -- What a function returns, and leaves in the four buffers.
@@ -35,3 +37,8 @@ crossed true left image ctx routes log =
     }
 crossed false left image ctx routes log =
     record { answered = answeredOf Unusable 0; image = image; ctx = ctx; routes = routes; log = log }
+
+-- A call across the boundary is what the definition says, and where there was a record, the one left fits its image: the next call reads it back.
+pub record CrossedAs (x : Crossed) (ok : Bool) (left : Left) (image ctx routes log : List ℕ) : Type 0 where
+  pub equal : x ≡ crossed ok left image ctx routes log
+  pub fits : ok ≡ true → Fits (left .device)

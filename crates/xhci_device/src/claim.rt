@@ -1,10 +1,9 @@
 // The claim of an interface's alternate setting.
 use super::returned;
 use super::returned::Answered;
-ghost use mathlib.Core.Path.{_≡_};
 ghost use Rattle.device.specs.Claim.{claim};
 ghost use Rattle.image.specs.Image.{decode, isImage};
-ghost use Rattle.xhci_device.specs.Crossed.{crosses, crossed};
+ghost use Rattle.xhci_device.specs.Crossed.{crosses, CrossedAs};
 
 #[no_mangle]
 pub extern "C" fn xhci_device_claim(
@@ -17,7 +16,7 @@ pub extern "C" fn xhci_device_claim(
     alternate: u8,
     rings: &[u64],
 ) -> Answered
-    ensures { λ r. ⌜ crosses r (now (image .exit)) (now (ctx .exit)) (now (routes .exit)) (now (log .exit)) ≡ crossed (isImage (now (image .entry))) (claim (decode (now (image .entry))) (now (ctx .entry)) (now (routes .entry)) (now (log .entry)) (now (outcomes .entry)) interface alternate (now (rings .entry))) (now (image .entry)) (now (ctx .entry)) (now (routes .entry)) (now (log .entry)) ⌝ }
+    ensures { λ r. ⌜ CrossedAs (crosses r (now (image .exit)) (now (ctx .exit)) (now (routes .exit)) (now (log .exit))) (isImage (now (image .entry))) (claim (decode (now (image .entry))) (now (ctx .entry)) (now (routes .entry)) (now (log .entry)) (now (outcomes .entry)) interface alternate (now (rings .entry))) (now (image .entry)) (now (ctx .entry)) (now (routes .entry)) (now (log .entry)) ⌝ }
 {
     if !image::is_image(image) {
         return returned::no_record();

@@ -3,12 +3,11 @@ use super::returned;
 use super::returned::Answered;
 use bring_up::BringUpArgs;
 use def::SlotId;
-ghost use mathlib.Core.Path.{_≡_};
 ghost use lib.Dec.{eqb};
 ghost use lib.ListN.{length};
 ghost use Rattle.bring_up.specs.BringUp.{bringUp};
 ghost use Rattle.image.specs.Image.{WORDS, isSet};
-ghost use Rattle.xhci_device.specs.Crossed.{crosses, crossed};
+ghost use Rattle.xhci_device.specs.Crossed.{crosses, CrossedAs};
 
 // The image may hold anything; it gets the new record.
 #[no_mangle]
@@ -32,7 +31,7 @@ pub extern "C" fn xhci_device_bring_up(
     packet: u8,
     value: u8,
 ) -> Answered
-    ensures { λ r. ⌜ crosses r (now (image .exit)) (now (ctx .exit)) (now (routes .exit)) (now (log .exit)) ≡ crossed (eqb (length (now (image .entry))) WORDS) (bringUp (record { slot = slot; n = n; speed = speed; hubs = now (hubs .entry); hasParent = isSet «has_parent»; parent = parent; port = port; rootPort = «root_port»; ring = ring; header = header; packet = packet; value = value; list = now (list .entry) }) (now (ctx .entry)) (now (routes .entry)) (now (log .entry)) (now (outcomes .entry))) (now (image .entry)) (now (ctx .entry)) (now (routes .entry)) (now (log .entry)) ⌝ }
+    ensures { λ r. ⌜ CrossedAs (crosses r (now (image .exit)) (now (ctx .exit)) (now (routes .exit)) (now (log .exit))) (eqb (length (now (image .entry))) WORDS) (bringUp (record { slot = slot; n = n; speed = speed; hubs = now (hubs .entry); hasParent = isSet «has_parent»; parent = parent; port = port; rootPort = «root_port»; ring = ring; header = header; packet = packet; value = value; list = now (list .entry) }) (now (ctx .entry)) (now (routes .entry)) (now (log .entry)) (now (outcomes .entry))) (now (image .entry)) (now (ctx .entry)) (now (routes .entry)) (now (log .entry)) ⌝ }
 {
     if image.len() != 514 {
         return returned::no_record();

@@ -5,6 +5,7 @@ ghost use mathlib.Core.Path.{_≡_};
 ghost use lib.ListN.{length};
 ghost use Rattle.answer.specs.declared.Answer.the-variants.{Unusable};
 ghost use Rattle.image.specs.Image.{encode};
+ghost use Rattle.image.specs.Fits.{Fits};
 ghost use Rattle.xhci_device.specs.Crossed.{answeredOf};
 
 // Document 01's answer, the code of 13, and how many words were logged.
@@ -37,7 +38,7 @@ pub fn no_record() -> Answered
 // The end of a call: its record goes back.
 pub fn finish(called: Called, image: &mut [u64]) -> Answered
     requires { ⌜ length (now image) ≡ 514 ⌝ }
-    ensures { λ r. ⌜ (r ≡ answeredOf (called .answer) (called .count)) × (now (image .exit) ≡ encode (called .device)) ⌝ }
+    ensures { λ r. ⌜ (r ≡ answeredOf (called .answer) (called .count)) × (now (image .exit) ≡ encode (called .device)) × Fits (called .device) ⌝ }
 {
     let d = called.device;
     let a = called.answer;

@@ -1,10 +1,9 @@
 // The setting of a configuration, which ends all held settings.
 use super::returned;
 use super::returned::Answered;
-ghost use mathlib.Core.Path.{_≡_};
 ghost use Rattle.device.specs.SetConfiguration.{setConfiguration};
 ghost use Rattle.image.specs.Image.{decode, isImage};
-ghost use Rattle.xhci_device.specs.Crossed.{crosses, crossed};
+ghost use Rattle.xhci_device.specs.Crossed.{crosses, CrossedAs};
 
 #[no_mangle]
 pub extern "C" fn xhci_device_set_configuration(
@@ -15,7 +14,7 @@ pub extern "C" fn xhci_device_set_configuration(
     outcomes: &[u8],
     value: u8,
 ) -> Answered
-    ensures { λ r. ⌜ crosses r (now (image .exit)) (now (ctx .exit)) (now (routes .exit)) (now (log .exit)) ≡ crossed (isImage (now (image .entry))) (setConfiguration (decode (now (image .entry))) (now (ctx .entry)) (now (routes .entry)) (now (log .entry)) (now (outcomes .entry)) value) (now (image .entry)) (now (ctx .entry)) (now (routes .entry)) (now (log .entry)) ⌝ }
+    ensures { λ r. ⌜ CrossedAs (crosses r (now (image .exit)) (now (ctx .exit)) (now (routes .exit)) (now (log .exit))) (isImage (now (image .entry))) (setConfiguration (decode (now (image .entry))) (now (ctx .entry)) (now (routes .entry)) (now (log .entry)) (now (outcomes .entry)) value) (now (image .entry)) (now (ctx .entry)) (now (routes .entry)) (now (log .entry)) ⌝ }
 {
     if !image::is_image(image) {
         return returned::no_record();

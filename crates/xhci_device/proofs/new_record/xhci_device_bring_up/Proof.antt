@@ -31,7 +31,7 @@ same-length-4 c = search needs
 
 returns-2 : tie.Need-returns-2
 unfolding isSet
-returns-2 c = cross-done _ _ _ _ _ _ (c .before .before .before .before .before .before .before .before .before .before .bring-up .result) _ _ _ _ _ (eq-eqb _ _ (c .before .before .before .before .before .before .before .before .before .before .before .before .before .before .if1 .left)) (c .before .before .before .before .before .before .before .before .before .before .bring-up .ensures) (c .before .before .finish .ensures .0) (c .before .before .finish .ensures .1)
+returns-2 c = cross-done _ _ _ _ _ _ (c .before .before .before .before .before .before .before .before .before .before .bring-up .result) _ _ _ _ _ (eq-eqb _ _ (c .before .before .before .before .before .before .before .before .before .before .before .before .before .before .if1 .left)) (c .before .before .before .before .before .before .before .before .before .before .bring-up .ensures) (c .before .before .finish .ensures .0) (c .before .before .finish .ensures .1) (c .before .before .finish .ensures .2)
 
 pub xhci-device-bring-up-spec : {M : Type 1} → statement M
 xhci-device-bring-up-spec =

@@ -16,7 +16,7 @@ same-length c = search needs
 
 returns : tie.Need-returns
 unfolding stored
-returns c = (c .before .before .before .before .answer-of .ensures, c .before .before .encode .ensures ∙ rw (eq-eqb _ _ (c .before .before .before .before .before .before .before .pre)) refl)
+returns c = (c .before .before .before .before .answer-of .ensures, c .before .before .encode .ensures .0 ∙ rw (eq-eqb _ _ (c .before .before .before .before .before .before .before .pre)) refl, c .before .before .encode .ensures .1 (c .before .before .before .before .before .before .before .pre))
 
 pub finish-spec : {M : Type 1} → statement M
 finish-spec = tie.close (tie.spec answer-of-requires encode-requires same-length returns)
