@@ -1,0 +1,54 @@
+use Prim.Native.Nat.{_≤_, _-_, _+_}
+use mathlib.Core.Path.{refl}
+use lib.ListN.{length}
+use borrow.Author.Needs.{needs}
+use Rattle.image.specs.Image.{byteAt}
+use Rattle.image.proofs.Steps.{Read, read-none, read-next, read-done}
+use Rattle.image.proofs.reading.settings_in.Statement.{statement}
+use Rattle.image.proofs.reading.settings_in.Tie as tie
+
+abbrev Inv-loop : tie.InvT-loop
+Inv-loop image from numbers₀ i₀ numbers i =
+    (from + 32 ≤ length image) × (i ≤ 32) × Read 32 (byteAt image) from i numbers
+
+abbrev μ-loop : tie.MeasureT-loop
+μ-loop image from numbers₀ i₀ numbers i = 32 - i
+
+loop-holds : tie.Need-loop-holds Inv-loop μ-loop
+loop-holds c = (search needs, search needs, read-none _ _ _ _ refl)
+
+add-byte-at : tie.Need-add-byte-at Inv-loop μ-loop
+add-byte-at c = search needs
+
+byte-at-requires : tie.Need-byte-at-requires Inv-loop μ-loop
+byte-at-requires c κs = search needs
+
+array-write-numbers : tie.Need-array-write-numbers Inv-loop μ-loop
+array-write-numbers c = search needs
+
+add-i : tie.Need-add-i Inv-loop μ-loop
+add-i c = search needs
+
+loop-less : tie.Need-loop-less Inv-loop μ-loop
+loop-less c = search needs
+
+loop-again : tie.Need-loop-again Inv-loop μ-loop
+loop-again c = (search needs, search needs, read-next _ (c .before .before .loop .inv .2) (c .before .loop-test .taken) (c .byte-at .ensures))
+
+returns : tie.Need-returns Inv-loop μ-loop
+returns c = read-done (c .before .loop .inv .2) (c .loop-test .left) (c .before .loop .inv .1)
+
+pub settings-in-spec : {M : Type 1} → statement M
+settings-in-spec =
+    tie.close
+    (tie.spec
+    Inv-loop
+    μ-loop
+    loop-holds
+    add-byte-at
+    byte-at-requires
+    array-write-numbers
+    add-i
+    loop-less
+    loop-again
+    returns)

@@ -1,0 +1,54 @@
+// The bring-up of a slot, which makes its record.
+use super::returned;
+use super::returned::Answered;
+use bring_up::BringUpArgs;
+use def::SlotId;
+ghost use lib.Dec.{eqb};
+ghost use lib.ListN.{length};
+ghost use Rattle.bring_up.specs.BringUp.{bringUp};
+ghost use Rattle.image.specs.Image.{WORDS, isSet};
+ghost use Rattle.xhci_device.specs.Crossed.{crosses, CrossedAs};
+
+// The image may hold anything; it gets the new record.
+#[no_mangle]
+pub extern "C" fn xhci_device_bring_up(
+    image: &mut [u64],
+    ctx: &mut [u8],
+    routes: &mut [u64],
+    log: &mut [u32],
+    outcomes: &[u8],
+    hubs: &[u64],
+    list: &[u32],
+    slot: u8,
+    n: usize,
+    speed: u8,
+    has_parent: u8,
+    parent: usize,
+    port: u8,
+    root_port: u8,
+    ring: u64,
+    header: usize,
+    packet: u8,
+    value: u8,
+) -> Answered
+    ensures { λ r. ⌜ CrossedAs (crosses r (now (image .exit)) (now (ctx .exit)) (now (routes .exit)) (now (log .exit))) (eqb (length (now (image .entry))) WORDS) (bringUp (record { slot = slot; n = n; speed = speed; hubs = now (hubs .entry); hasParent = isSet «has_parent»; parent = parent; port = port; rootPort = «root_port»; ring = ring; header = header; packet = packet; value = value; list = now (list .entry) }) (now (ctx .entry)) (now (routes .entry)) (now (log .entry)) (now (outcomes .entry))) (now (image .entry)) (now (ctx .entry)) (now (routes .entry)) (now (log .entry)) ⌝ }
+{
+    if image.len() != 514 {
+        return returned::no_record();
+    }
+    let a = BringUpArgs {
+        slot: SlotId(slot),
+        n: n,
+        speed: speed,
+        has_parent: has_parent != 0,
+        parent: parent,
+        port: port,
+        root_port: root_port,
+        ring: ring,
+        header: header,
+        packet: packet,
+        value: value,
+    };
+    let called = bring_up::bring_up(ctx, routes, log, outcomes, a, hubs, list);
+    returned::finish(called, image)
+}

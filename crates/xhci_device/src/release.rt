@@ -1,0 +1,25 @@
+// The release of an interface.
+use super::returned;
+use super::returned::Answered;
+ghost use Rattle.device.specs.Release.{release};
+ghost use Rattle.image.specs.Image.{decode, isImage};
+ghost use Rattle.xhci_device.specs.Crossed.{crosses, CrossedAs};
+
+#[no_mangle]
+pub extern "C" fn xhci_device_release(
+    image: &mut [u64],
+    ctx: &mut [u8],
+    routes: &mut [u64],
+    log: &mut [u32],
+    outcomes: &[u8],
+    interface: u8,
+) -> Answered
+    ensures { λ r. ⌜ CrossedAs (crosses r (now (image .exit)) (now (ctx .exit)) (now (routes .exit)) (now (log .exit))) (isImage (now (image .entry))) (release (decode (now (image .entry))) (now (ctx .entry)) (now (routes .entry)) (now (log .entry)) (now (outcomes .entry)) interface) (now (image .entry)) (now (ctx .entry)) (now (routes .entry)) (now (log .entry)) ⌝ }
+{
+    if !image::is_image(image) {
+        return returned::no_record();
+    }
+    let d = image::decode(image);
+    let called = d.release(ctx, routes, log, outcomes, interface);
+    returned::finish(called, image)
+}

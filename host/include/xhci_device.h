@@ -1,0 +1,121 @@
+/* The calls of Nuszkadorj, as libxhci_device.a has them (`rt staticlib xhci_device`).
+ *
+ * A slice is a pointer and a count of elements. The slices of one call must not overlap, and a pointer
+ * may not be null, even with a count of 0. Nothing is kept after a call returns.
+ */
+#ifndef XHCI_DEVICE_H
+#define XHCI_DEVICE_H
+
+#include <stdbool.h>
+#include <stddef.h>
+#include <stdint.h>
+
+#ifdef __cplusplus
+extern "C" {
+#endif
+
+/* Answers. */
+enum {
+    XHCI_DEVICE_ACCEPTED = 0,
+    XHCI_DEVICE_CONTEXT_LENGTH = 1,     /* the context is not 33 blocks of the record's spacing */
+    XHCI_DEVICE_ROUTES_LENGTH = 2,      /* the routes are not 32 * (N + 1) words */
+    XHCI_DEVICE_LOG_TOO_SHORT = 3,      /* the log has less than 64 words */
+    XHCI_DEVICE_DESCRIPTOR_LIST = 4,
+    XHCI_DEVICE_HUB_CHAIN = 5,
+    XHCI_DEVICE_SPEED = 6,
+    XHCI_DEVICE_THINK_TIME = 7,
+    XHCI_DEVICE_NOT_FOUND = 8,
+    XHCI_DEVICE_INVALID_PARAMETER = 9,  /* an address that another interface owns */
+    XHCI_DEVICE_RINGS = 10,
+    XHCI_DEVICE_SLOT_LIMIT_REACHED = 11,
+    XHCI_DEVICE_UNUSABLE = 12,          /* a record marked unusable or not sound, or no record */
+    XHCI_DEVICE_FAILED = 13,            /* a command failed: `code` */
+    XHCI_DEVICE_INTERFACE_BROKEN = 14,
+    XHCI_DEVICE_CUT = 15,               /* no outcome was left for a command */
+    XHCI_DEVICE_SHORT_HEADER = 16,
+    XHCI_DEVICE_QUEUE_FULL = 17,        /* bring-up: the slot has a route for control */
+    XHCI_DEVICE_INVALID_ENDPOINT = 18   /* an old endpoint's route is not its ring */
+};
+
+/* What a call returns. */
+struct xhci_device_answered {
+    uint32_t answer;
+    uint32_t code;  /* of 13, else 0 */
+    size_t count;   /* how many words were logged */
+};
+
+/* A record is an image of 514 words, one for each number and each element of its arrays.
+ * Words that no record has (a wrong count of words, a flag above 1, a byte above 255, a descriptor word
+ * of more than 32 bits) are no record: 12, and nothing changes.
+ */
+#define XHCI_DEVICE_RECORD_WORDS 514
+
+/* Where the words stand. Of an array, the first `.._COUNT` elements (`LIST_LEN` of the list) are in use. */
+enum {
+    XHCI_DEVICE_USABLE = 0,                 /* flags: 0 or 1 */
+    XHCI_DEVICE_CONFIGURED = 1,             /* a configuration value was read or set */
+    XHCI_DEVICE_CONTROL_REVOKED = 2,
+    XHCI_DEVICE_EP_REVOKED = 3,             /* 30 */
+    XHCI_DEVICE_SLOT = 33,                  /* bytes */
+    XHCI_DEVICE_N = 34,
+    XHCI_DEVICE_PORT_SPEED = 35,
+    XHCI_DEVICE_CURRENT_CONFIG_VALUE = 36,
+    XHCI_DEVICE_EP_ADDRESSES = 37,          /* 30 */
+    XHCI_DEVICE_EP_INTERFACES = 67,         /* 30 */
+    XHCI_DEVICE_INTERFACES = 97,            /* 32, of the held settings */
+    XHCI_DEVICE_ALTERNATES = 129,           /* 32 */
+    XHCI_DEVICE_LIST = 161,                 /* 256 descriptor words */
+    XHCI_DEVICE_SPACING = 417,
+    XHCI_DEVICE_LIST_LEN = 418,
+    XHCI_DEVICE_EP_COUNT = 419,
+    XHCI_DEVICE_HELD_COUNT = 420,
+    XHCI_DEVICE_QUARANTINED_COUNT = 421,
+    XHCI_DEVICE_CONTROL = 422,              /* control's ring */
+    XHCI_DEVICE_EP_RINGS = 423,             /* 30 */
+    XHCI_DEVICE_QUARANTINED = 453           /* 61 */
+};
+
+/* How many words an image has: 514. */
+size_t xhci_device_record_words(void);
+
+/* Whether words are a record that is marked usable. */
+bool xhci_device_is_usable(const uint64_t *image, size_t image_len);
+
+/* Whether words are a record that is sound. */
+bool xhci_device_is_sound(const uint64_t *image, size_t image_len);
+
+/* The bring-up of a slot: makes the record, whatever the image held. */
+struct xhci_device_answered xhci_device_bring_up(
+    uint64_t *image, size_t image_len, uint8_t *ctx, size_t ctx_len, uint64_t *routes, size_t routes_len,
+    uint32_t *log, size_t log_len, const uint8_t *outcomes, size_t outcomes_len,
+    const uint64_t *hubs, size_t hubs_len, const uint32_t *list, size_t list_len,
+    uint8_t slot, size_t n, uint8_t speed, uint8_t has_parent, size_t parent, uint8_t port,
+    uint8_t root_port, uint64_t ring, size_t header, uint8_t packet, uint8_t value);
+
+/* The claim of an interface's alternate setting, with a ring for each of its endpoint words. */
+struct xhci_device_answered xhci_device_claim(
+    uint64_t *image, size_t image_len, uint8_t *ctx, size_t ctx_len, uint64_t *routes, size_t routes_len,
+    uint32_t *log, size_t log_len, const uint8_t *outcomes, size_t outcomes_len,
+    uint8_t interface, uint8_t alternate, const uint64_t *rings, size_t rings_len);
+
+/* The release of an interface. */
+struct xhci_device_answered xhci_device_release(
+    uint64_t *image, size_t image_len, uint8_t *ctx, size_t ctx_len, uint64_t *routes, size_t routes_len,
+    uint32_t *log, size_t log_len, const uint8_t *outcomes, size_t outcomes_len, uint8_t interface);
+
+/* The setting of a configuration value, which ends all held settings. */
+struct xhci_device_answered xhci_device_set_configuration(
+    uint64_t *image, size_t image_len, uint8_t *ctx, size_t ctx_len, uint64_t *routes, size_t routes_len,
+    uint32_t *log, size_t log_len, const uint8_t *outcomes, size_t outcomes_len, uint8_t value);
+
+/* The hub update: number of ports, multi (0 or not), think time in nanoseconds. */
+struct xhci_device_answered xhci_device_hub_update(
+    uint64_t *image, size_t image_len, uint8_t *ctx, size_t ctx_len, uint64_t *routes, size_t routes_len,
+    uint32_t *log, size_t log_len, const uint8_t *outcomes, size_t outcomes_len,
+    uint8_t ports, uint8_t multi, uint32_t ns);
+
+#ifdef __cplusplus
+}
+#endif
+
+#endif
