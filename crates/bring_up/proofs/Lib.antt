@@ -4,3 +4,4 @@ pub mod Ends
 pub mod Laws
 pub mod Lists
 pub mod Steps
+pub mod Words

@@ -1,8 +1,9 @@
-pub mod Demand3
-pub mod Good
 mod BringUp
 mod Claim
 mod Claimed
+pub mod Demand3
+pub mod Few
+pub mod Good
 mod Hub
 mod Made
 pub mod Outside

@@ -114,3 +114,7 @@ abbrev pub OutsideUntouched : Type 0
 OutsideUntouched =
     (c : Call) (d : Device) (routes : List ℕ) →
     Untouched (slotOf (c .asked) d) routes ((left (c .asked) (c .buffers) d routes) .routes)
+
+-- Every call logs at most 64 words, so that the shortest log has room for them.
+abbrev pub FewWords : Type 0
+FewWords = (c : Call) (d : Device) (routes : List ℕ) → (left (c .asked) (c .buffers) d routes) .count ≤ 64
