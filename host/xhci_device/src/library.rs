@@ -153,13 +153,7 @@ pub fn bring_up(image: &mut [u64], memory: Memory<'_>, args: &BringUp<'_>) -> (A
     })
 }
 
-pub fn claim(
-    image: &mut [u64],
-    memory: Memory<'_>,
-    interface: u8,
-    alternate: u8,
-    rings: &[u64],
-) -> (Answer, usize) {
+pub fn claim(image: &mut [u64], memory: Memory<'_>, interface: u8, alternate: u8, rings: &[u64]) -> (Answer, usize) {
     let Memory { ctx, routes, log, outcomes } = memory;
     // SAFETY: each pointer comes with its slice's length, and the slices written are borrowed for this call alone.
     told(unsafe {
