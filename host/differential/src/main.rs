@@ -20,7 +20,7 @@ use compare::Pair;
 use tally::Tally;
 
 const USAGE: &str = "usage: differential [--reference NAME] [--subject NAME] [--seed N] [--calls N] [--part NAME] [--sample]
-layers: library, model, original; parts: refusals, records, outcomes, intervals, ports, packets, think, slots, random (default: all)";
+layers: library, model, original; parts: refusals, records, routes, outcomes, intervals, ports, packets, think, slots, random (default: all)";
 
 struct Options {
     reference: String,
