@@ -3,7 +3,7 @@
 
 mod words;
 
-use scenario::{Answer, BringUp, Buffers, Cannot, Claim, HubUpdate, Layer, Outcome, Record};
+use scenario::{Answer, BringUp, Buffers, Cannot, Claim, HubUpdate, Layer, Outcome, Record, proper};
 use xhci_device::{Memory, SlotId};
 
 pub struct Library;
@@ -20,7 +20,7 @@ fn told((answer, count): (xhci_device::Answer, usize)) -> Answer {
 /// A call on the record that is given.
 fn on(record: &Record, call: impl FnOnce(&mut xhci_device::Record) -> (xhci_device::Answer, usize)) -> Outcome {
     let mut record = words::image(record).ok_or(Cannot::NoSuchInput)?;
-    let answer = told(call(&mut record));
+    let answer = told(proper(|| call(&mut record)));
     Ok((words::record(&record), answer))
 }
 
@@ -40,7 +40,7 @@ impl Layer for Library {
             hubs: &args.hubs,
             list: &args.list,
         };
-        let (record, answer, count) = xhci_device::Record::bring_up(memory(buffers), &args);
+        let (record, answer, count) = proper(|| xhci_device::Record::bring_up(memory(buffers), &args));
         Ok((words::record(&record), told((answer, count))))
     }
 
