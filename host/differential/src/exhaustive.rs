@@ -11,9 +11,10 @@ use crate::tally::Tally;
 
 type Part = fn(&mut Pair, &mut Tally);
 
-pub const PARTS: [(&str, Part); 8] = [
+pub const PARTS: [(&str, Part); 9] = [
     ("refusals", faults::refusals),
     ("records", faults::records),
+    ("routes", faults::routes),
     ("outcomes", outcomes),
     ("intervals", intervals),
     ("ports", ports),

@@ -112,6 +112,22 @@ pub fn records(pair: &mut Pair, tally: &mut Tally) {
     }
 }
 
+/// Each word of the slot's row, with rings that are offered, live or strange in it. A word that already holds a
+/// ring offered has no counterpart in the original, which makes its rings itself.
+pub fn routes(pair: &mut Pair, tally: &mut Tally) {
+    let rings: &[u64] = if pair.listed { &[0, 0x7000] } else { &[0, 1, 0x1000, 0x2000, 0x7000, 0x9000, 0x9010] };
+    for call in calls(&sharing_list()) {
+        for place in 0..32 * rings.len() {
+            let (dci, ring) = (place / rings.len(), rings[place % rings.len()]);
+            for outcomes in [vec![0; 64], vec![0, 0, 0, 9], vec![0, 0, 0, 0, 9, 9]] {
+                let mut given = Buffers { outcomes, ..sound_buffers() };
+                given.routes[32 + dci] = ring;
+                pair.compare(tally, &Case::new(call.clone(), &sound_record(), given));
+            }
+        }
+    }
+}
+
 /// Adds a record, changed in one way.
 type With<'a> = &'a mut dyn FnMut(&dyn Fn(&mut Record));
 

@@ -20,7 +20,7 @@ use compare::Pair;
 use tally::Tally;
 
 const USAGE: &str = "usage: differential [--reference NAME] [--subject NAME] [--seed N] [--calls N] [--part NAME] [--sample]
-layers: original, model; parts: refusals, records, outcomes, intervals, ports, packets, think, slots, random (default: all)";
+layers: library, model, original; parts: refusals, records, routes, outcomes, intervals, ports, packets, think, slots, random (default: all)";
 
 struct Options {
     reference: String,
@@ -35,7 +35,7 @@ struct Options {
 fn options() -> Option<Options> {
     let mut options = Options {
         reference: "original".to_string(),
-        subject: "model".to_string(),
+        subject: "library".to_string(),
         seed: 1,
         calls: 600_000,
         part: None,
@@ -99,13 +99,13 @@ fn main() -> ExitCode {
 mod tests {
     use super::*;
 
-    /// A short run; without the original, of the model against itself.
-    #[test]
-    fn no_difference_is_unlisted() {
-        let listed = runner::layer("original").is_some();
-        let reference = runner::layer(if listed { "original" } else { "model" }).expect("a layer");
-        let subject = runner::layer("model").expect("the model");
-        let mut pair = Pair { reference, subject, listed };
+    /// A short run.
+    fn library_against(name: &str) {
+        let Some(reference) = runner::layer(name) else {
+            return;
+        };
+        let subject = runner::layer("library").expect("the library");
+        let mut pair = Pair { reference, subject, listed: name == "original" };
         let mut tally = Tally::default();
         for (name, part) in exhaustive::PARTS {
             if ["refusals", "records", "packets"].contains(&name) {
@@ -114,5 +114,15 @@ mod tests {
         }
         random::run(&mut pair, &mut tally, 1, 5_000);
         assert_eq!(tally.first_difference(&mut pair), None);
+    }
+
+    #[test]
+    fn the_library_is_the_model() {
+        library_against("model");
+    }
+
+    #[test]
+    fn no_difference_from_the_original_is_unlisted() {
+        library_against("original");
     }
 }

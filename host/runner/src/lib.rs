@@ -3,9 +3,9 @@
 
 use scenario::Layer;
 
-/// The proved library takes its place here when it can be linked.
 pub fn layer(name: &str) -> Option<Box<dyn Layer>> {
     match name {
+        "library" => Some(Box::new(library::Library)),
         "model" => Some(Box::new(model::Model)),
         "original" => original::layer(),
         _ => None,

@@ -7,7 +7,7 @@ use std::process::ExitCode;
 
 use scenario::{Event, Layer, Reader, Session, Step, explain_text, left_text};
 
-const USAGE: &str = "usage: scenario [--explain] [--layer model|original] FILE   (FILE - is standard input)";
+const USAGE: &str = "usage: scenario [--explain] [--layer library|model|original] FILE   (FILE - is standard input)";
 
 struct Options {
     explain: bool,
@@ -17,7 +17,7 @@ struct Options {
 
 fn options() -> Option<Options> {
     let mut arguments = std::env::args().skip(1);
-    let mut options = Options { explain: false, layer: "model".to_string(), file: String::new() };
+    let mut options = Options { explain: false, layer: "library".to_string(), file: String::new() };
     while let Some(argument) = arguments.next() {
         match argument.as_str() {
             "--explain" => options.explain = true,

@@ -24,6 +24,7 @@ fn the_shipped_scenario() {
     assert_eq!(String::from_utf8_lossy(&plain.stdout), include_str!("../scenarios/switch.out"));
     let explained = run(&["--explain", "-"], SWITCH);
     assert_eq!(String::from_utf8_lossy(&explained.stdout), include_str!("../scenarios/switch.explained"));
+    assert_eq!(run(&["--layer", "model", "-"], SWITCH).stdout, plain.stdout);
     if runner::layer("original").is_some() {
         assert_eq!(run(&["--layer", "original", "-"], SWITCH).stdout, plain.stdout);
     }

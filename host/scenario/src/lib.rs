@@ -3,6 +3,7 @@
 #![forbid(unsafe_code)]
 
 mod call;
+mod clock;
 mod explain;
 mod layer;
 mod parse;
@@ -10,6 +11,7 @@ mod print;
 mod session;
 
 pub use call::*;
+pub use clock::{proper, start_clock, stop_clock};
 pub use explain::explain_text;
 pub use layer::{Cannot, Layer, Outcome};
 pub use parse::{Event, Malformed, Reader, parse};

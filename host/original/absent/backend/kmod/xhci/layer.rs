@@ -7,7 +7,7 @@ use std::sync::{Arc, Once};
 use std::task::{Context, Poll, Waker};
 
 use ax_sync::SpinLock;
-use scenario::{Answer, BringUp, Buffers, Cannot, Claim, Endpoint, HubUpdate, Layer, Outcome, Record};
+use scenario::{Answer, BringUp, Buffers, Cannot, Claim, Endpoint, HubUpdate, Layer, Outcome, Record, proper};
 use usb_if::descriptor::{ConfigurationDescriptor, DeviceDescriptor, EndpointType};
 use usb_if::endpoint::EndpointInfo;
 use usb_if::err::{TransferError, USBError};
@@ -183,7 +183,7 @@ fn bring_up(args: &BringUp, buffers: &mut Buffers) -> Outcome {
         configurations: words::configurations(&args.list).ok_or(Cannot::NoSuchInput)?,
         ..Script::default()
     });
-    let (number, code) = answer(poll(device.init(&mut host, &info)));
+    let (number, code) = answer(proper(|| poll(device.init(&mut host, &info))));
     let script = bus::end();
     if number == 17 {
         return refused(17, Record::default());
@@ -297,7 +297,7 @@ impl Original {
         let mut device = device(record, configurations)?;
         load(&mut device, buffers);
         bus::begin(Script { outcomes: buffers.outcomes.clone(), rings: rings.to_vec(), ..Script::default() });
-        let (number, code) = answer(call(&mut device));
+        let (number, code) = answer(proper(|| call(&mut device)));
         let script = bus::end();
         let kept = kept(&device, record.clone());
         let rings_matter = !matches!(number, 8 | 9);

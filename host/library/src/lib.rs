@@ -1,0 +1,62 @@
+//! The proved library as a `Layer`.
+#![forbid(unsafe_code)]
+
+mod words;
+
+use scenario::{Answer, BringUp, Buffers, Cannot, Claim, HubUpdate, Layer, Outcome, Record, proper};
+use xhci_device::{Memory, SlotId};
+
+pub struct Library;
+
+fn memory(buffers: &mut Buffers) -> Memory<'_> {
+    let Buffers { ctx, routes, log, outcomes } = buffers;
+    Memory { ctx, routes, log, outcomes }
+}
+
+fn told((answer, count): (xhci_device::Answer, usize)) -> Answer {
+    Answer { number: answer.number(), code: answer.code(), count }
+}
+
+/// A call on the record that is given.
+fn on(record: &Record, call: impl FnOnce(&mut xhci_device::Record) -> (xhci_device::Answer, usize)) -> Outcome {
+    let mut record = words::image(record).ok_or(Cannot::NoSuchInput)?;
+    let answer = told(proper(|| call(&mut record)));
+    Ok((words::record(&record), answer))
+}
+
+impl Layer for Library {
+    fn bring_up(&mut self, args: &BringUp, buffers: &mut Buffers) -> Outcome {
+        let args = xhci_device::BringUp {
+            slot: SlotId(args.slot),
+            n: args.n as usize,
+            speed: args.speed,
+            parent: args.has_parent.then_some(args.parent as usize),
+            port: args.port,
+            root_port: args.root_port,
+            ring: args.ring,
+            header: args.header as usize,
+            packet: args.packet,
+            value: args.config,
+            hubs: &args.hubs,
+            list: &args.list,
+        };
+        let (record, answer, count) = proper(|| xhci_device::Record::bring_up(memory(buffers), &args));
+        Ok((words::record(&record), told((answer, count))))
+    }
+
+    fn claim(&mut self, record: &Record, args: &Claim, buffers: &mut Buffers) -> Outcome {
+        on(record, |r| r.claim(memory(buffers), args.interface, args.alternate, &args.rings))
+    }
+
+    fn release(&mut self, record: &Record, interface: u8, buffers: &mut Buffers) -> Outcome {
+        on(record, |r| r.release(memory(buffers), interface))
+    }
+
+    fn set_configuration(&mut self, record: &Record, value: u8, buffers: &mut Buffers) -> Outcome {
+        on(record, |r| r.set_configuration(memory(buffers), value))
+    }
+
+    fn hub_update(&mut self, record: &Record, args: &HubUpdate, buffers: &mut Buffers) -> Outcome {
+        on(record, |r| r.hub_update(memory(buffers), args.ports, args.multi, args.think))
+    }
+}

@@ -1,0 +1,110 @@
+//! What a call answers.
+
+/// In the order of 01's numbers, which begin at 0.
+#[derive(Clone, Copy, Debug, PartialEq, Eq)]
+pub enum Answer {
+    Accepted,
+    /// The context is not 33 blocks of the record's spacing.
+    ContextLength,
+    /// The routes are not 32 × (N + 1) words.
+    RoutesLength,
+    /// The log has less than 64 words.
+    LogTooShort,
+    DescriptorList,
+    HubChain,
+    Speed,
+    ThinkTime,
+    NotFound,
+    /// An address that another interface owns.
+    InvalidParameter,
+    Rings,
+    SlotLimitReached,
+    /// The record is marked unusable or is not sound.
+    Unusable,
+    /// A command failed, with this code.
+    Failed(u8),
+    InterfaceBroken,
+    /// No outcome was left for a command.
+    Cut,
+    ShortHeader,
+    /// Bring-up: the slot has a route for control.
+    QueueFull,
+    /// An old endpoint's route is not its ring.
+    InvalidEndpoint,
+}
+
+impl Answer {
+    /// The answer of a number; `code` counts for 13 only. None above 18.
+    pub fn of(number: u8, code: u8) -> Option<Answer> {
+        Some(match number {
+            0 => Answer::Accepted,
+            1 => Answer::ContextLength,
+            2 => Answer::RoutesLength,
+            3 => Answer::LogTooShort,
+            4 => Answer::DescriptorList,
+            5 => Answer::HubChain,
+            6 => Answer::Speed,
+            7 => Answer::ThinkTime,
+            8 => Answer::NotFound,
+            9 => Answer::InvalidParameter,
+            10 => Answer::Rings,
+            11 => Answer::SlotLimitReached,
+            12 => Answer::Unusable,
+            13 => Answer::Failed(code),
+            14 => Answer::InterfaceBroken,
+            15 => Answer::Cut,
+            16 => Answer::ShortHeader,
+            17 => Answer::QueueFull,
+            18 => Answer::InvalidEndpoint,
+            _ => return None,
+        })
+    }
+
+    /// 01's number.
+    pub fn number(self) -> u8 {
+        match self {
+            Answer::Accepted => 0,
+            Answer::ContextLength => 1,
+            Answer::RoutesLength => 2,
+            Answer::LogTooShort => 3,
+            Answer::DescriptorList => 4,
+            Answer::HubChain => 5,
+            Answer::Speed => 6,
+            Answer::ThinkTime => 7,
+            Answer::NotFound => 8,
+            Answer::InvalidParameter => 9,
+            Answer::Rings => 10,
+            Answer::SlotLimitReached => 11,
+            Answer::Unusable => 12,
+            Answer::Failed(_) => 13,
+            Answer::InterfaceBroken => 14,
+            Answer::Cut => 15,
+            Answer::ShortHeader => 16,
+            Answer::QueueFull => 17,
+            Answer::InvalidEndpoint => 18,
+        }
+    }
+
+    /// The code of a failed command, else 0.
+    pub fn code(self) -> u8 {
+        match self {
+            Answer::Failed(code) => code,
+            _ => 0,
+        }
+    }
+}
+
+#[cfg(test)]
+mod tests {
+    use super::Answer;
+
+    #[test]
+    fn numbers_name_the_answers() {
+        for number in 0..=18 {
+            let answer = Answer::of(number, 7).expect("an answer");
+            assert_eq!(answer.number(), number);
+            assert_eq!(answer.code(), if number == 13 { 7 } else { 0 });
+        }
+        assert_eq!(Answer::of(19, 0), None);
+    }
+}

@@ -1,0 +1,49 @@
+//! What a call is given.
+
+use crate::SlotId;
+
+/// The memory that a call works on, and an outcome byte for each command that it may send: 0 done,
+/// otherwise a failure code. Without one the call is cut.
+#[derive(Debug)]
+pub struct Memory<'a> {
+    /// The input context: 33 blocks of 32 or of 64 bytes.
+    pub ctx: &'a mut [u8],
+    /// 32 words for each slot, slot 0 included: the rings by slot and Dci.
+    pub routes: &'a mut [u64],
+    /// At least 64 words; the commands are logged from the first on.
+    pub log: &'a mut [u32],
+    pub outcomes: &'a [u8],
+}
+
+impl Memory<'_> {
+    /// The same memory, for one call.
+    pub fn again(&mut self) -> Memory<'_> {
+        Memory { ctx: self.ctx, routes: self.routes, log: self.log, outcomes: self.outcomes }
+    }
+}
+
+/// A device that is to be brought up.
+#[derive(Clone, Copy, Debug)]
+pub struct BringUp<'a> {
+    pub slot: SlotId,
+    /// N, the number of slots that the routes serve.
+    pub n: usize,
+    /// xHCI's speed id, 1 to 5.
+    pub speed: u8,
+    /// The hub that the device is on: its place in `hubs`.
+    pub parent: Option<usize>,
+    /// The port on that hub.
+    pub port: u8,
+    pub root_port: u8,
+    /// Control's ring.
+    pub ring: u64,
+    /// How many bytes ReadHeader reads, and the packet byte among them.
+    pub header: usize,
+    pub packet: u8,
+    /// What ReadConfiguration reads.
+    pub value: u8,
+    /// Hub words.
+    pub hubs: &'a [u64],
+    /// Descriptor words.
+    pub list: &'a [u32],
+}

@@ -1,0 +1,248 @@
+//! The archive's functions (host/include/xhci_device.h). Each writes to the slices that it is given and to
+//! nothing else, and keeps no pointer; a `&mut` slice overlaps no other.
+#![allow(unsafe_code)]
+
+use crate::{Answer, BringUp, Memory};
+
+pub const WORDS: usize = 514;
+
+#[repr(C)]
+struct Answered {
+    answer: u32,
+    code: u32,
+    count: usize,
+}
+
+unsafe extern "C" {
+    #[cfg(test)]
+    fn xhci_device_record_words() -> usize;
+    fn xhci_device_is_usable(image: *const u64, image_len: usize) -> bool;
+    fn xhci_device_is_sound(image: *const u64, image_len: usize) -> bool;
+    fn xhci_device_bring_up(
+        image: *mut u64,
+        image_len: usize,
+        ctx: *mut u8,
+        ctx_len: usize,
+        routes: *mut u64,
+        routes_len: usize,
+        log: *mut u32,
+        log_len: usize,
+        outcomes: *const u8,
+        outcomes_len: usize,
+        hubs: *const u64,
+        hubs_len: usize,
+        list: *const u32,
+        list_len: usize,
+        slot: u8,
+        n: usize,
+        speed: u8,
+        has_parent: u8,
+        parent: usize,
+        port: u8,
+        root_port: u8,
+        ring: u64,
+        header: usize,
+        packet: u8,
+        value: u8,
+    ) -> Answered;
+    fn xhci_device_claim(
+        image: *mut u64,
+        image_len: usize,
+        ctx: *mut u8,
+        ctx_len: usize,
+        routes: *mut u64,
+        routes_len: usize,
+        log: *mut u32,
+        log_len: usize,
+        outcomes: *const u8,
+        outcomes_len: usize,
+        interface: u8,
+        alternate: u8,
+        rings: *const u64,
+        rings_len: usize,
+    ) -> Answered;
+    fn xhci_device_release(
+        image: *mut u64,
+        image_len: usize,
+        ctx: *mut u8,
+        ctx_len: usize,
+        routes: *mut u64,
+        routes_len: usize,
+        log: *mut u32,
+        log_len: usize,
+        outcomes: *const u8,
+        outcomes_len: usize,
+        interface: u8,
+    ) -> Answered;
+    fn xhci_device_set_configuration(
+        image: *mut u64,
+        image_len: usize,
+        ctx: *mut u8,
+        ctx_len: usize,
+        routes: *mut u64,
+        routes_len: usize,
+        log: *mut u32,
+        log_len: usize,
+        outcomes: *const u8,
+        outcomes_len: usize,
+        value: u8,
+    ) -> Answered;
+    fn xhci_device_hub_update(
+        image: *mut u64,
+        image_len: usize,
+        ctx: *mut u8,
+        ctx_len: usize,
+        routes: *mut u64,
+        routes_len: usize,
+        log: *mut u32,
+        log_len: usize,
+        outcomes: *const u8,
+        outcomes_len: usize,
+        ports: u8,
+        multi: u8,
+        ns: u32,
+    ) -> Answered;
+}
+
+fn told(answered: Answered) -> (Answer, usize) {
+    let answer = Answer::of(answered.answer as u8, answered.code as u8);
+    (answer.expect("the library answers 0 to 18"), answered.count)
+}
+
+pub fn is_usable(image: &[u64]) -> bool {
+    // SAFETY: reads a slice, of which pointer and length are given.
+    unsafe { xhci_device_is_usable(image.as_ptr(), image.len()) }
+}
+
+pub fn is_sound(image: &[u64]) -> bool {
+    // SAFETY: reads a slice, of which pointer and length are given.
+    unsafe { xhci_device_is_sound(image.as_ptr(), image.len()) }
+}
+
+pub fn bring_up(image: &mut [u64], memory: Memory<'_>, args: &BringUp<'_>) -> (Answer, usize) {
+    let Memory { ctx, routes, log, outcomes } = memory;
+    // SAFETY: each pointer comes with its slice's length, and the slices written are borrowed for this call alone.
+    told(unsafe {
+        xhci_device_bring_up(
+            image.as_mut_ptr(),
+            image.len(),
+            ctx.as_mut_ptr(),
+            ctx.len(),
+            routes.as_mut_ptr(),
+            routes.len(),
+            log.as_mut_ptr(),
+            log.len(),
+            outcomes.as_ptr(),
+            outcomes.len(),
+            args.hubs.as_ptr(),
+            args.hubs.len(),
+            args.list.as_ptr(),
+            args.list.len(),
+            args.slot.0,
+            args.n,
+            args.speed,
+            u8::from(args.parent.is_some()),
+            args.parent.unwrap_or(0),
+            args.port,
+            args.root_port,
+            args.ring,
+            args.header,
+            args.packet,
+            args.value,
+        )
+    })
+}
+
+pub fn claim(image: &mut [u64], memory: Memory<'_>, interface: u8, alternate: u8, rings: &[u64]) -> (Answer, usize) {
+    let Memory { ctx, routes, log, outcomes } = memory;
+    // SAFETY: each pointer comes with its slice's length, and the slices written are borrowed for this call alone.
+    told(unsafe {
+        xhci_device_claim(
+            image.as_mut_ptr(),
+            image.len(),
+            ctx.as_mut_ptr(),
+            ctx.len(),
+            routes.as_mut_ptr(),
+            routes.len(),
+            log.as_mut_ptr(),
+            log.len(),
+            outcomes.as_ptr(),
+            outcomes.len(),
+            interface,
+            alternate,
+            rings.as_ptr(),
+            rings.len(),
+        )
+    })
+}
+
+pub fn release(image: &mut [u64], memory: Memory<'_>, interface: u8) -> (Answer, usize) {
+    let Memory { ctx, routes, log, outcomes } = memory;
+    // SAFETY: each pointer comes with its slice's length, and the slices written are borrowed for this call alone.
+    told(unsafe {
+        xhci_device_release(
+            image.as_mut_ptr(),
+            image.len(),
+            ctx.as_mut_ptr(),
+            ctx.len(),
+            routes.as_mut_ptr(),
+            routes.len(),
+            log.as_mut_ptr(),
+            log.len(),
+            outcomes.as_ptr(),
+            outcomes.len(),
+            interface,
+        )
+    })
+}
+
+pub fn set_configuration(image: &mut [u64], memory: Memory<'_>, value: u8) -> (Answer, usize) {
+    let Memory { ctx, routes, log, outcomes } = memory;
+    // SAFETY: each pointer comes with its slice's length, and the slices written are borrowed for this call alone.
+    told(unsafe {
+        xhci_device_set_configuration(
+            image.as_mut_ptr(),
+            image.len(),
+            ctx.as_mut_ptr(),
+            ctx.len(),
+            routes.as_mut_ptr(),
+            routes.len(),
+            log.as_mut_ptr(),
+            log.len(),
+            outcomes.as_ptr(),
+            outcomes.len(),
+            value,
+        )
+    })
+}
+
+pub fn hub_update(image: &mut [u64], memory: Memory<'_>, ports: u8, multi: bool, ns: u32) -> (Answer, usize) {
+    let Memory { ctx, routes, log, outcomes } = memory;
+    // SAFETY: each pointer comes with its slice's length, and the slices written are borrowed for this call alone.
+    told(unsafe {
+        xhci_device_hub_update(
+            image.as_mut_ptr(),
+            image.len(),
+            ctx.as_mut_ptr(),
+            ctx.len(),
+            routes.as_mut_ptr(),
+            routes.len(),
+            log.as_mut_ptr(),
+            log.len(),
+            outcomes.as_ptr(),
+            outcomes.len(),
+            ports,
+            u8::from(multi),
+            ns,
+        )
+    })
+}
+
+#[cfg(test)]
+mod tests {
+    #[test]
+    fn the_archive_has_this_image() {
+        // SAFETY: takes nothing.
+        assert_eq!(unsafe { super::xhci_device_record_words() }, super::WORDS);
+    }
+}

@@ -1,0 +1,179 @@
+//! The record of a slot, which each call reads and leaves anew.
+
+use crate::library::{self, WORDS};
+use crate::{Answer, BringUp, Dci, Memory, SlotId};
+
+/// A record: the image that the library reads and writes. A bring-up makes it.
+#[derive(Clone, Debug, PartialEq, Eq)]
+pub struct Record {
+    words: [u64; WORDS],
+}
+
+/// An endpoint of a record, with the interface that owns it.
+#[derive(Clone, Copy, Debug, PartialEq, Eq)]
+pub struct Endpoint {
+    pub address: u8,
+    pub interface: u8,
+    pub ring: u64,
+    /// Otherwise revoked.
+    pub active: bool,
+}
+
+impl Endpoint {
+    pub fn dci(&self) -> Dci {
+        Dci::of_address(self.address)
+    }
+}
+
+/// A held setting.
+#[derive(Clone, Copy, Debug, PartialEq, Eq)]
+pub struct Setting {
+    pub interface: u8,
+    pub alternate: u8,
+}
+
+/// The value of a configuration that was read or set.
+#[derive(Clone, Copy, Debug, PartialEq, Eq)]
+pub struct Configuration(pub u8);
+
+// Where the words stand (host/include/xhci_device.h).
+const CONFIGURED: usize = 1;
+const CONTROL_REVOKED: usize = 2;
+const EP_REVOKED: usize = 3;
+const SLOT: usize = 33;
+const N: usize = 34;
+const PORT_SPEED: usize = 35;
+const CURRENT_CONFIG_VALUE: usize = 36;
+const EP_ADDRESSES: usize = 37;
+const EP_INTERFACES: usize = 67;
+const INTERFACES: usize = 97;
+const ALTERNATES: usize = 129;
+const LIST: usize = 161;
+const SPACING: usize = 417;
+const LIST_LEN: usize = 418;
+const EP_COUNT: usize = 419;
+const HELD_COUNT: usize = 420;
+const QUARANTINED_COUNT: usize = 421;
+const CONTROL: usize = 422;
+const EP_RINGS: usize = 423;
+const QUARANTINED: usize = 453;
+
+/// The calls.
+impl Record {
+    /// The bring-up of a slot. The record is there after every answer, and usable after `Accepted` alone.
+    pub fn bring_up(memory: Memory<'_>, args: &BringUp<'_>) -> (Record, Answer, usize) {
+        let mut record = Record { words: [0; WORDS] };
+        let (answer, count) = library::bring_up(&mut record.words, memory, args);
+        (record, answer, count)
+    }
+
+    /// The claim of an interface's alternate setting, with a ring for each of its endpoint words.
+    pub fn claim(&mut self, memory: Memory<'_>, interface: u8, alternate: u8, rings: &[u64]) -> (Answer, usize) {
+        library::claim(&mut self.words, memory, interface, alternate, rings)
+    }
+
+    /// The release of an interface.
+    pub fn release(&mut self, memory: Memory<'_>, interface: u8) -> (Answer, usize) {
+        library::release(&mut self.words, memory, interface)
+    }
+
+    /// The setting of a configuration value, which ends all held settings.
+    pub fn set_configuration(&mut self, memory: Memory<'_>, value: u8) -> (Answer, usize) {
+        library::set_configuration(&mut self.words, memory, value)
+    }
+
+    /// The hub update: number of ports, multi, think time in nanoseconds.
+    pub fn hub_update(&mut self, memory: Memory<'_>, ports: u8, multi: bool, ns: u32) -> (Answer, usize) {
+        library::hub_update(&mut self.words, memory, ports, multi, ns)
+    }
+}
+
+/// What a record says.
+impl Record {
+    pub fn is_usable(&self) -> bool {
+        library::is_usable(&self.words)
+    }
+
+    /// Whether the calls can have left it; they refuse any other.
+    pub fn is_sound(&self) -> bool {
+        library::is_sound(&self.words)
+    }
+
+    pub fn slot(&self) -> SlotId {
+        SlotId(self.words[SLOT] as u8)
+    }
+
+    /// N, the number of slots that the routes serve.
+    pub fn n(&self) -> u8 {
+        self.words[N] as u8
+    }
+
+    /// The context's block size.
+    pub fn spacing(&self) -> usize {
+        self.words[SPACING] as usize
+    }
+
+    pub fn port_speed(&self) -> u8 {
+        self.words[PORT_SPEED] as u8
+    }
+
+    /// The configuration value last read or set.
+    pub fn configuration(&self) -> Option<Configuration> {
+        (self.words[CONFIGURED] != 0).then_some(Configuration(self.words[CURRENT_CONFIG_VALUE] as u8))
+    }
+
+    /// Control's ring.
+    pub fn control(&self) -> u64 {
+        self.words[CONTROL]
+    }
+
+    pub fn control_revoked(&self) -> bool {
+        self.words[CONTROL_REVOKED] != 0
+    }
+
+    /// How many elements of an array are in use.
+    fn count(&self, at: usize, room: usize) -> usize {
+        usize::try_from(self.words[at]).map_or(room, |count| count.min(room))
+    }
+
+    /// The descriptor words.
+    pub fn list(&self) -> impl ExactSizeIterator<Item = u32> + '_ {
+        (0..self.count(LIST_LEN, 256)).map(|i| self.words[LIST + i] as u32)
+    }
+
+    pub fn endpoints(&self) -> impl ExactSizeIterator<Item = Endpoint> + '_ {
+        (0..self.count(EP_COUNT, 30)).map(|i| Endpoint {
+            address: self.words[EP_ADDRESSES + i] as u8,
+            interface: self.words[EP_INTERFACES + i] as u8,
+            ring: self.words[EP_RINGS + i],
+            active: self.words[EP_REVOKED + i] == 0,
+        })
+    }
+
+    /// The held settings.
+    pub fn held(&self) -> impl ExactSizeIterator<Item = Setting> + '_ {
+        (0..self.count(HELD_COUNT, 32)).map(|i| Setting {
+            interface: self.words[INTERFACES + i] as u8,
+            alternate: self.words[ALTERNATES + i] as u8,
+        })
+    }
+
+    /// The rings that broken calls left behind, in the order of arrival.
+    pub fn quarantined(&self) -> impl ExactSizeIterator<Item = u64> + '_ {
+        (0..self.count(QUARANTINED_COUNT, 61)).map(|i| self.words[QUARANTINED + i])
+    }
+}
+
+#[cfg(feature = "words")]
+impl Record {
+    pub const WORDS: usize = WORDS;
+
+    /// A record of any words. A call refuses words that are no sound record with 12 and changes nothing.
+    pub fn from_words(words: [u64; WORDS]) -> Record {
+        Record { words }
+    }
+
+    pub fn words(&self) -> &[u64; WORDS] {
+        &self.words
+    }
+}
