@@ -28,7 +28,8 @@ fn wanted(number: u8) -> usize {
 }
 
 impl Store {
-    /// Keeps a case that fits, over contents of its own.
+    /// Keeps a case that fits, over contents of its own. The program prints arrays as they stand, so both layers
+    /// must leave them in rising order.
     pub fn offer(&mut self, pair: &mut Pair, case: &Case, number: u8) {
         let kept = self.kept.entry((case.name(), number)).or_default();
         if kept.len() >= wanted(number) || !fits(case) {
@@ -37,7 +38,9 @@ impl Store {
         let mut case = case.clone();
         case.buffers.ctx.fill(CONTENT);
         case.buffers.log.fill(LOG_WORD);
-        if matches!(pair.judge(&case).1, Verdict::Same) {
+        if let (Ok(done), Verdict::Same) = pair.judge(&case)
+            && done.returned == done.record
+        {
             kept.push(case);
         }
     }
