@@ -86,7 +86,17 @@ impl Pair {
         let (subject, verdict) = self.judge(case);
         let number = subject.as_ref().map_or(0, |done| done.answer.number);
         tally.count(case, number, &verdict);
+        if matches!(verdict, Verdict::Same)
+            && let Some(mut store) = tally.store.take()
+        {
+            store.offer(self, case, number);
+            tally.store = Some(store);
+        }
         subject.ok()
+    }
+
+    pub fn ask_reference(&mut self, case: &Case) -> Result<Done, Cannot> {
+        Self::ask(&mut *self.reference, case)
     }
 
     /// The subject's number.

@@ -11,15 +11,19 @@ mod refusal;
 mod rng;
 mod rows;
 mod shrink;
+mod store;
 mod tally;
 
+use std::fs;
+use std::path::{Path, PathBuf};
 use std::process::ExitCode;
 use std::time::Instant;
 
 use compare::Pair;
+use store::Store;
 use tally::Tally;
 
-const USAGE: &str = "usage: differential [--reference NAME] [--subject NAME] [--seed N] [--calls N] [--part NAME] [--sample]
+const USAGE: &str = "usage: differential [--reference NAME] [--subject NAME] [--seed N] [--calls N] [--part NAME] [--sample] [--store FOLDER]
 layers: library, model, original; parts: refusals, records, routes, outcomes, intervals, ports, packets, think, slots, random (default: all)";
 
 struct Options {
@@ -30,6 +34,8 @@ struct Options {
     part: Option<String>,
     /// Print a small scenario for each call and answer instead of the counts.
     sample: bool,
+    /// Write a sample of the reference's answers to stdin and stdout of this folder.
+    store: Option<PathBuf>,
 }
 
 fn options() -> Option<Options> {
@@ -40,6 +46,7 @@ fn options() -> Option<Options> {
         calls: 600_000,
         part: None,
         sample: false,
+        store: None,
     };
     let mut arguments = std::env::args().skip(1);
     while let Some(key) = arguments.next() {
@@ -54,6 +61,7 @@ fn options() -> Option<Options> {
             "--seed" => options.seed = value.parse().ok()?,
             "--calls" => options.calls = value.parse().ok()?,
             "--part" => options.part = Some(value),
+            "--store" => options.store = Some(value.into()),
             _ => return None,
         }
     }
@@ -71,6 +79,7 @@ fn main() -> ExitCode {
     };
     let mut pair = Pair { reference, subject, listed: options.reference == "original" };
     let mut tally = Tally::default();
+    tally.store = options.store.is_some().then(Store::default);
     let start = Instant::now();
     for (name, part) in exhaustive::PARTS {
         if options.part.as_deref().is_none_or(|p| p == name) {
@@ -84,6 +93,12 @@ fn main() -> ExitCode {
         print!("{}", tally.sample(&mut pair));
         return ExitCode::SUCCESS;
     }
+    if let (Some(folder), Some(store)) = (&options.store, tally.store.take())
+        && let Err(e) = write(folder, &store, &mut pair)
+    {
+        eprintln!("{}: {e}", folder.display());
+        return ExitCode::from(2);
+    }
     println!("{} against {}, seed {}", options.subject, options.reference, options.seed);
     tally.print(start.elapsed());
     match tally.first_difference(&mut pair) {
@@ -93,6 +108,11 @@ fn main() -> ExitCode {
             ExitCode::FAILURE
         }
     }
+}
+
+fn write(folder: &Path, store: &Store, pair: &mut Pair) -> std::io::Result<()> {
+    fs::write(folder.join("stdin"), store.stdin())?;
+    fs::write(folder.join("stdout"), store.stdout(pair))
 }
 
 #[cfg(test)]
@@ -124,5 +144,21 @@ mod tests {
     #[test]
     fn no_difference_from_the_original_is_unlisted() {
         library_against("original");
+    }
+
+    /// What crates/original_sample replays is what docs/DIFFERENCES.md's command makes.
+    #[test]
+    fn the_stored_sample_is_the_originals() {
+        let Some(reference) = runner::layer("original") else {
+            return;
+        };
+        let subject = runner::layer("library").expect("the library");
+        let mut pair = Pair { reference, subject, listed: true };
+        let mut tally = Tally::default();
+        tally.store = Some(Store::default());
+        random::run(&mut pair, &mut tally, 8, 40_000);
+        let store = tally.store.take().expect("what was kept");
+        assert!(store.stdin() == include_str!("../../../crates/original_sample/stdin"));
+        assert!(store.stdout(&mut pair) == include_str!("../../../crates/original_sample/stdout"));
     }
 }

@@ -10,6 +10,7 @@ use crate::case::Case;
 use crate::compare::{Pair, Verdict};
 use crate::rows;
 use crate::shrink;
+use crate::store::Store;
 
 /// Different cases beyond this many are only counted.
 const KEPT: usize = 1000;
@@ -29,6 +30,8 @@ pub struct Tally {
     /// The first case met for each call and answer.
     sample: BTreeMap<(&'static str, u8), Case>,
     parts: Vec<(&'static str, u64, Duration)>,
+    /// What is to be stored, if anything is.
+    pub store: Option<Store>,
 }
 
 impl Tally {

@@ -1,7 +1,7 @@
 //! The proved library as a `Layer`.
 #![forbid(unsafe_code)]
 
-mod words;
+pub mod words;
 
 use scenario::{Answer, BringUp, Buffers, Cannot, Claim, HubUpdate, Layer, Outcome, Record, proper};
 use xhci_device::{Memory, SlotId};

@@ -15,13 +15,6 @@ pub struct Memory<'a> {
     pub outcomes: &'a [u8],
 }
 
-impl Memory<'_> {
-    /// The same memory, for one call.
-    pub fn again(&mut self) -> Memory<'_> {
-        Memory { ctx: self.ctx, routes: self.routes, log: self.log, outcomes: self.outcomes }
-    }
-}
-
 /// A device that is to be brought up.
 #[derive(Clone, Copy, Debug)]
 pub struct BringUp<'a> {
