@@ -152,6 +152,24 @@ impl<'a> InputHandler<'a> {
         drop_flags(self.ctx, self.spacing)
     }
 
+    pub fn add_flags(self) -> Reading
+        ensures { λ r. ⌜ r ≡ fieldIn (now (self .entry .ctx)) (self .entry .spacing) CONTROL ADD-FLAGS ⌝ }
+    {
+        add_flags(self.ctx, self.spacing)
+    }
+
+    pub fn route_string(self) -> Reading
+        ensures { λ r. ⌜ r ≡ fieldIn (now (self .entry .ctx)) (self .entry .spacing) SLOT ROUTE-STRING ⌝ }
+    {
+        route_string(self.ctx, self.spacing)
+    }
+
+    pub fn context_entries(self) -> Reading
+        ensures { λ r. ⌜ r ≡ fieldIn (now (self .entry .ctx)) (self .entry .spacing) SLOT CONTEXT-ENTRIES ⌝ }
+    {
+        context_entries(self.ctx, self.spacing)
+    }
+
     pub fn max_packet_size(self, dci: Dci) -> Reading
         ensures { λ r. ⌜ r ≡ endpointFieldIn (now (self .entry .ctx)) (self .entry .spacing) (dci .0) MAX-PACKET-SIZE ⌝ }
     {
