@@ -2,18 +2,21 @@
 use Prim.Native.Nat.{ℕ, _+_, _-_, _*_, _<_, _≤_}
 use mathlib.Core.Path.{_≡_, refl}
 use mathlib.Core.Logic.{_⊎_, inl, inr}
-use mathlib.Core.Bool.{Bool, true, false, _&&_, _||_}
+use mathlib.Core.List.{List}
+use mathlib.Core.Bool.{true, false, _&&_, _||_}
 use native.Mathlib.Decide.{decLt}
 use native.Mathlib.Omega.{arith}
 use borrow.Author.Tests.{eqb-true, ltb-true, leb-true, lt-ltb, le-ltb, le-leb, lt-leb, ne-eqb}
 use lib.Dec.{eqb, ltb, leb}
+use lib.ListN.{length}
 use Rattle.laws.proofs.Tests.{and-left, and-right}
 use Rattle.laws.proofs.Cases.{or-cases}
 use Rattle.field.specs.declared.Field.{Field}
 use Rattle.field.specs.Field.{InBlock}
-use Rattle.context.specs.Place.{Spaced}
+use Rattle.context.specs.Place.{readAt, Spaced}
 use Rattle.context.proofs.Laws.{block-room}
-use Rattle.input_handler.specs.View.{isContext, isField}
+use Rattle.input_handler.specs.View.{isContext, isField, fieldIn}
+use Rattle.input_handler.specs.declared.Reading.the-variants.{Value}
 
 pub context-32 : (s len : ℕ) → s ≡ 32 → eqb len 1056 ≡ isContext s len
 unfolding isContext
@@ -68,13 +71,25 @@ unfolding isContext isField
 in-context s len b f c i =
     let inner : (ltb (f .word) 8 && leb (f .low + f .width) 32) ≡ true = and-right (ltb b 33) (ltb (f .word) 8 && leb (f .low + f .width) 32) i in
     let long : len ≡ 33 * s = eqb-true len (33 * s) (and-right (eqb s 32 || eqb s 64) (eqb len (33 * s)) c) in
-    let below : b < 33 = ltb-true b 33 (and-left (ltb b 33) (ltb (f .word) 8 && leb (f .low + f .width) 32) i) in
-    (block-room s b len (spaced (or-cases (eqb s 32) (eqb s 64) (and-left (eqb s 32 || eqb s 64) (eqb len (33 * s)) c)) long) (omega arith),
-    (ltb-true (f .word) 8 (and-left (ltb (f .word) 8) (leb (f .low + f .width) 32) inner),
-    leb-true (f .low + f .width) 32 (and-right (ltb (f .word) 8) (leb (f .low + f .width) 32) inner)))
+    let below : b < 33 = ltb-true b 33 (and-left (ltb b 33) (ltb (f .word) 8 && leb (f .low + f .width) 32) i) in (
+      block-room s b len (spaced (or-cases (eqb s 32) (eqb s 64) (and-left (eqb s 32 || eqb s 64) (eqb len (33 * s)) c)) long) (omega arith),
+      (
+        ltb-true (f .word) 8 (and-left (ltb (f .word) 8) (leb (f .low + f .width) 32) inner),
+        leb-true (f .low + f .width) 32 (and-right (ltb (f .word) 8) (leb (f .low + f .width) 32) inner),
+      ),
+    )
   where
     spaced : (eqb s 32 ≡ true) ⊎ (eqb s 64 ≡ true) → len ≡ 33 * s → Spaced s len
     spaced (inl e) l =
         let x : s ≡ 32 = eqb-true s 32 e in record { wide = omega arith; narrow = omega arith; room = omega arith }
     spaced (inr e) l =
         let x : s ≡ 64 = eqb-true s 64 e in record { wide = omega arith; narrow = omega arith; room = omega arith }
+
+-- What the view reads of a field of a context.
+pub read-of-context :
+    (ctx : List ℕ) (s b : ℕ) (f : Field) →
+    isContext s (length ctx) ≡ true →
+    isField b f ≡ true →
+    fieldIn ctx s b f ≡ Value (readAt s ctx b f)
+unfolding fieldIn
+read-of-context ctx s b f c i = rw (c, i) refl

@@ -1,13 +1,12 @@
-// A view over the lent bytes of an input context (InputHandler of the original's context.rs): reading its fields by name.
-// The view holds a reference, so each function over it is proved by hand; `input_field` is for all other callers.
+// A view over the lent bytes of an input context (InputHandler of the original's context.rs), and what its fields hold.
+// It holds a reference, so each function over it is proved by hand: few, and thin. `input_field` is for all other callers.
 use def::Dci;
 use field::Field;
 ghost use mathlib.Core.Path.{_≡_};
-ghost use mathlib.Core.Bool.{true};
 ghost use Prim.Native.Nat.{_+_, _*_, _≤_};
 ghost use lib.ListN.{length};
 ghost use Rattle.context.specs.Place.{CONTROL, SLOT, readAt};
-ghost use Rattle.block.specs.Fields.{DROP-FLAGS, ADD-FLAGS, ROUTE-STRING, CONTEXT-ENTRIES, MAX-PACKET-SIZE};
+ghost use Rattle.block.specs.Fields.{DROP-FLAGS, ADD-FLAGS, ROUTE-STRING, CONTEXT-ENTRIES, EP-TYPE, MAX-PACKET-SIZE};
 ghost use Rattle.field.specs.Field.{InBlock};
 ghost use Rattle.input_handler.specs.View.{isContext, isField, fieldIn, endpointFieldIn};
 
@@ -47,6 +46,12 @@ const CONTEXT_ENTRIES: Field = Field {
     word: 0,
     low: 27,
     width: 5,
+};
+
+const EP_TYPE: Field = Field {
+    word: 1,
+    low: 3,
+    width: 3,
 };
 
 const MAX_PACKET_SIZE: Field = Field {
@@ -135,14 +140,27 @@ fn context_entries(ctx: &[u8], spacing: usize) -> Reading
     field_in(ctx, spacing, SLOT, CONTEXT_ENTRIES)
 }
 
-fn max_packet_size(ctx: &[u8], spacing: usize, dci: Dci) -> Reading
-    ensures { λ r. ⌜ r ≡ endpointFieldIn (now (ctx .entry)) spacing (dci .0) MAX-PACKET-SIZE ⌝ }
+// A field of an endpoint's block. A Dci of 0 names no endpoint.
+fn endpoint_field(ctx: &[u8], spacing: usize, dci: Dci, f: Field) -> Reading
+    ensures { λ r. ⌜ r ≡ endpointFieldIn (now (ctx .entry)) spacing (dci .0) f ⌝ }
 {
     let d = dci.0;
     if d == 0 {
         return Reading::NoField;
     }
-    field_in(ctx, spacing, d as usize + 1, MAX_PACKET_SIZE)
+    field_in(ctx, spacing, d as usize + 1, f)
+}
+
+fn endpoint_type(ctx: &[u8], spacing: usize, dci: Dci) -> Reading
+    ensures { λ r. ⌜ r ≡ endpointFieldIn (now (ctx .entry)) spacing (dci .0) EP-TYPE ⌝ }
+{
+    endpoint_field(ctx, spacing, dci, EP_TYPE)
+}
+
+fn max_packet_size(ctx: &[u8], spacing: usize, dci: Dci) -> Reading
+    ensures { λ r. ⌜ r ≡ endpointFieldIn (now (ctx .entry)) spacing (dci .0) MAX-PACKET-SIZE ⌝ }
+{
+    endpoint_field(ctx, spacing, dci, MAX_PACKET_SIZE)
 }
 
 impl<'a> InputHandler<'a> {
@@ -170,12 +188,19 @@ impl<'a> InputHandler<'a> {
         context_entries(self.ctx, self.spacing)
     }
 
+    pub fn endpoint_type(self, dci: Dci) -> Reading
+        ensures { λ r. ⌜ r ≡ endpointFieldIn (now (self .entry .ctx)) (self .entry .spacing) (dci .0) EP-TYPE ⌝ }
+    {
+        endpoint_type(self.ctx, self.spacing, dci)
+    }
+
     pub fn max_packet_size(self, dci: Dci) -> Reading
         ensures { λ r. ⌜ r ≡ endpointFieldIn (now (self .entry .ctx)) (self .entry .spacing) (dci .0) MAX-PACKET-SIZE ⌝ }
     {
         max_packet_size(self.ctx, self.spacing, dci)
     }
 
+    // A field of a block: 0 is control, 1 the slot, Dci + 1 an endpoint.
     pub fn field(self, block: usize, f: Field) -> Reading
         ensures { λ r. ⌜ r ≡ fieldIn (now (self .entry .ctx)) (self .entry .spacing) block f ⌝ }
     {
@@ -183,6 +208,7 @@ impl<'a> InputHandler<'a> {
     }
 }
 
+// The same without a view.
 pub fn input_field(ctx: &[u8], spacing: usize, block: usize, f: Field) -> Reading
     ensures { λ r. ⌜ r ≡ fieldIn (now (ctx .entry)) spacing block f ⌝ }
 {

@@ -61,9 +61,10 @@ abbrev viewAt : Lfts 1 → RattleType
 viewAt κs = view.the-row (namedLft 1 0 tt κs)
 
 abbrev stayed : Stays (plain-field.ended .signature .params) (plain-field.ended .kept)
-stayed =
-    (stay-none-slice (0 ∷ []) tt (plain (λ κs. u8)) yes,
-    (stay-none (λ κs. usize) yes, (stay-none (λ κs. usize) yes, (stay-none (λ κs. field.the-row) yes, tt))))
+stayed = (
+  stay-none-slice (0 ∷ []) tt (plain (λ κs. u8)) yes,
+  (stay-none (λ κs. usize) yes, (stay-none (λ κs. usize) yes, (stay-none (λ κs. field.the-row) yes, tt))),
+)
 
 module _ {M : Type 1} (𝓤 : URA M) (H : Heap 𝓤) (A : Atoms 𝓤) (mem : Memory → SProp 𝓤) (run : Routine → Fun 𝓤) where
   abbrev Callee : Contract 𝓤
@@ -196,10 +197,13 @@ module _ {M : Type 1} (𝓤 : URA M) (H : Heap 𝓤) (A : Atoms 𝓤) (W : Given
       Triple 𝓤 (𝓣 .C symbol.name) (Callee 𝓤 H A mem run) →
       Meets 𝓤 H A plain-field.signature (WpFn 𝓤 H (𝓣 .C) (𝓣 .Λ) code.function) (plain-field.spec 𝓤 H A mem run)
   plain-meets 𝓣 known =
-      walk-meets 𝓤 H A plain-field.ended stayed W
-      (goes-none-slice 𝓤 H A W 1 (0 ∷ []) tt (plain (λ κs. u8)) yes,
-      (goes-none 𝓤 H A W 1 (λ κs. usize) yes (λ κs x f. refl),
-      (goes-none 𝓤 H A W 1 (λ κs. usize) yes (λ κs x f. refl), (goes-none 𝓤 H A W 1 (λ κs. field.the-row) yes (λ κs x f. refl), tt))))
+      walk-meets 𝓤 H A plain-field.ended stayed W (
+        goes-none-slice 𝓤 H A W 1 (0 ∷ []) tt (plain (λ κs. u8)) yes,
+        (
+          goes-none 𝓤 H A W 1 (λ κs. usize) yes (λ κs x f. refl),
+          (goes-none 𝓤 H A W 1 (λ κs. usize) yes (λ κs x f. refl), (goes-none 𝓤 H A W 1 (λ κs. field.the-row) yes (λ κs x f. refl), tt)),
+        ),
+      )
       (plain-field.clauses 𝓤 H A mem run)
       (WpFn 𝓤 H (𝓣 .C) (𝓣 .Λ) code.function) (WpFn-mono 𝓤 H (W .laws) 𝓣 code.function) (plain-walks (𝓣 .C) (𝓣 .Λ) (fmOf 𝓤 H (W .laws) 𝓣) known)
 

@@ -1,8 +1,8 @@
 use borrow.Author.Tests.{eq-eqb, ne-eqb}
 use Rattle.input_handler.specs.View.{endpointFieldIn}
 use borrow.Author.Needs.{needs}
-use Rattle.input_handler.proofs.max_packet_size.Statement.{statement}
-use Rattle.input_handler.proofs.max_packet_size.Tie as tie
+use Rattle.input_handler.proofs.endpoint_field.Statement.{statement}
+use Rattle.input_handler.proofs.endpoint_field.Tie as tie
 
 returns : tie.Need-returns
 unfolding endpointFieldIn
@@ -21,6 +21,6 @@ returns-2 : tie.Need-returns-2
 unfolding endpointFieldIn
 returns-2 c = rw (ne-eqb _ _ (c .before .if1 .left), c .field-in .ensures)
 
-pub max-packet-size-spec : {M : Type 1} → statement M
-max-packet-size-spec =
+pub endpoint-field-spec : {M : Type 1} → statement M
+endpoint-field-spec =
     tie.close (tie.spec returns cast-field-in add-field-in field-in-requires returns-2)
