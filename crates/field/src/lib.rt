@@ -2,7 +2,7 @@
 ghost use mathlib.Core.Path.{_≡_};
 ghost use Prim.Native.Nat.{_+_, _*_, _<_, _≤_, _^_};
 ghost use lib.ListN.{length};
-ghost use Rattle.field.specs.Field.{wordAt, putWord, withBits, writeField, InBlock};
+ghost use Rattle.field.specs.Field.{wordAt, putWord, readField, withBits, writeField, InBlock};
 
 pub struct Field {
     pub word: usize,
@@ -57,6 +57,17 @@ fn with_bits(d: u64, low: usize, width: usize, value: u64) -> u64
     let scale = power(low);
     let span = power(width);
     d / end * end + value % span * scale + d % scale
+}
+
+// What a field holds.
+pub fn read_field(block: &[u8], f: Field) -> u64
+    requires { ⌜ (length (now block) ≡ 32) × InBlock f ⌝ }
+    ensures { λ r. ⌜ r ≡ readField (now (block .entry)) f ⌝ }
+{
+    let word = f.word;
+    let scale = power(f.low);
+    let span = power(f.width);
+    word_at(block, word) / scale % span
 }
 
 // Makes a field the low bits of a value, as many as it has.
