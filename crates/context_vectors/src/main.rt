@@ -1,6 +1,7 @@
 // Runs the context facts of document 01 at both spacings, over contents that are not zero; crates/context_vectors/stdout holds what they must be.
 mod show;
 mod steps;
+mod view;
 
 fn narrow() {
     let mut ctx = [0x5au8; 1056];
@@ -17,6 +18,7 @@ fn narrow_address() {
     show::text(b"spacing 32, after Address\n");
     steps::address(&mut ctx, 32);
     steps::claim_one(&mut ctx, 32);
+    view::claimed(&ctx, 32, 64);
 }
 
 fn wide() {
@@ -34,6 +36,7 @@ fn wide_address() {
     show::text(b"spacing 64, after Address\n");
     steps::address(&mut ctx, 64);
     steps::claim_one(&mut ctx, 64);
+    view::claimed(&ctx, 64, 32);
 }
 
 fn main() {

@@ -5,6 +5,11 @@ pub fn text(s: &[u8]) {
     io::write_all(STDOUT_FILENO, s);
 }
 
+pub fn number(x: u64) {
+    io::write_all(STDOUT_FILENO, b" ");
+    io::print_hex(STDOUT_FILENO, x, 8);
+}
+
 fn wide(x: u8) -> u64 {
     x as u64
 }
