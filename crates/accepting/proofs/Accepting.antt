@@ -9,6 +9,8 @@ use borrow.Author.Tests.{eq-eqb, le-leb, not-false}
 use lib.Dec.{eqb}
 use lib.ListN.{length, getD, drop, replicate, length-append, getD-replicate}
 use lib.Seq.{ext-getD, getD-append-seam}
+use Rattle.answer.specs.declared.Check.{Check}
+use Rattle.answer.specs.declared.Check.the-variants.{Pass}
 use Rattle.answer.specs.Answer.{number}
 use Rattle.command.specs.Course.{words, result, played}
 use Rattle.descriptor.specs.Word.{endpointDescriptor}
@@ -27,8 +29,6 @@ use Rattle.settings.specs.Match.{hasPlace}
 use Rattle.settings.proofs.Laws.{held-with, alternate-with, has-place, setting-place, match-facts, match-unheld}
 use Rattle.routing.proofs.Laws.{each-dci, words-dci, words-ring, low-kept, outside-kept, length-kept}
 use Rattle.phase.specs.End.{answerOf}
-use Rattle.device.specs.declared.check.Check.{Check}
-use Rattle.device.specs.declared.check.Check.the-variants.{Pass}
 use Rattle.device.specs.declared.record.Device.{Device}
 use Rattle.device.specs.Device.{listOf, cellsIn, heldOf}
 use Rattle.device.specs.Left.{Left, ended, marked}

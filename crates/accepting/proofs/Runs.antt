@@ -10,6 +10,8 @@ use lib.Dec.{eqb}
 use lib.ListN.{length, getD, replicate}
 use Rattle.answer.specs.declared.Answer.{Answer}
 use Rattle.answer.specs.declared.Answer.the-variants as answer
+use Rattle.answer.specs.declared.Check.{Check}
+use Rattle.answer.specs.declared.Check.the-variants.{Pass}
 use Rattle.answer.specs.Answer.{number}
 use Rattle.command.specs.declared.Command.{Command}
 use Rattle.command.specs.declared.Sent.{Sent}
@@ -38,8 +40,6 @@ use Rattle.claim.proofs.Laws.{outcome-done, claim-accepted}
 use Rattle.release.specs.Release.{Release, releaseCourse, releaseContext, releaseConfigure, releasePublish, releasePublished}
 use Rattle.set_configuration.specs.SetConfiguration.{setCourse, valueContext, dropContext}
 use Rattle.set_configuration.proofs.Laws.{stop-all-done, set-accepted}
-use Rattle.device.specs.declared.check.Check.{Check}
-use Rattle.device.specs.declared.check.Check.the-variants.{Pass}
 use Rattle.device.specs.declared.record.Device.{Device}
 use Rattle.device.specs.Device.{listOf, cellsIn, heldOf}
 use Rattle.device.specs.Left.{Left, ended}

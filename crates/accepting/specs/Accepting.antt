@@ -5,6 +5,8 @@ use mathlib.Core.Bool.{Bool, true, false}
 use mathlib.Core.List.{List, [], _∷_, _++_}
 use lib.ListN.{length, getD}
 use Rattle.answer.specs.declared.Answer.the-variants as answer
+use Rattle.answer.specs.declared.Check.{Check}
+use Rattle.answer.specs.declared.Check.the-variants.{Pass}
 use Rattle.block.specs.Blocks.{wordDci}
 use Rattle.block.specs.Promises.{someDci}
 use Rattle.transfer.specs.Routes.{routeOf}
@@ -13,8 +15,6 @@ use Rattle.endpoint.specs.Cells.{isOwned}
 use Rattle.endpoint.specs.declared.cells.Owner.the-variants.{Interface}
 use Rattle.settings.specs.Held.{isHeld, alternateOf, settingWords, withoutSetting}
 use Rattle.routing.specs.Routing.{RoutedBy}
-use Rattle.device.specs.declared.check.Check.{Check}
-use Rattle.device.specs.declared.check.Check.the-variants.{Pass}
 use Rattle.device.specs.declared.record.Device.{Device}
 use Rattle.device.specs.Device.{listOf, cellsIn, heldOf}
 use Rattle.device.specs.Sound.{sound}

@@ -1,5 +1,7 @@
 -- The answers of the calls: 01, "Who can cause an answer".
 use Prim.Native.Nat.{ℕ}
+use mathlib.Core.Bool.{Bool}
+use lib.Dec.{eqb}
 use Rattle.answer.specs.declared.Answer.{Answer}
 use Rattle.answer.specs.declared.Answer.the-variants.{Accepted, ContextLength, RoutesLength, LogTooShort, DescriptorList, HubChain, Speed, ThinkTime, NotFound, InvalidParameter, Rings, SlotLimitReached, Unusable, Failed, InterfaceBroken, Cut, ShortHeader, QueueFull, InvalidEndpoint}
 
@@ -46,3 +48,12 @@ codeOf Cut = 0
 codeOf ShortHeader = 0
 codeOf QueueFull = 0
 codeOf InvalidEndpoint = 0
+
+abbrev pub isAccepted : Answer → Bool
+isAccepted a = eqb (number a) 0
+
+abbrev pub isBroken : Answer → Bool
+isBroken a = eqb (number a) 14
+
+abbrev pub isCut : Answer → Bool
+isCut a = eqb (number a) 15

@@ -24,6 +24,12 @@ pub enum Answer {
     InvalidEndpoint,
 }
 
+// Whether a call may go on, or its refusal.
+pub enum Check {
+    Pass,
+    Refuse(Answer),
+}
+
 // Document 01's number of an answer.
 pub fn answer_number(a: Answer) -> u8
     ensures { λ r. ⌜ r ≡ number a ⌝ }

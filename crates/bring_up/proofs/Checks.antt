@@ -15,9 +15,9 @@ use Rattle.configuration.specs.Valid.{validList}
 use Rattle.hub.specs.Chain.{chainOk}
 use Rattle.ring.specs.Rings.{ringOk}
 use Rattle.answer.specs.declared.Answer.the-variants as answer
+use Rattle.answer.specs.declared.Check.{Check}
+use Rattle.answer.specs.declared.Check.the-variants.{Pass, Refuse}
 use Rattle.context.specs.Place.{Spaced}
-use Rattle.device.specs.declared.check.Check.{Check}
-use Rattle.device.specs.declared.check.Check.the-variants.{Pass, Refuse}
 use Rattle.device.proofs.Laws.{andThen, then-if, pass-if}
 use Rattle.bring_up.specs.BringUp.{BringUp, spacingOf, slotCheck, deviceCheck, queueCheck, bringUpCheck}
 

@@ -18,15 +18,15 @@ use Rattle.transfer.specs.Routes.{routeIndex, routeOf, withRoute, Outside}
 use Rattle.transfer.proofs.Laws.{index-inside}
 use Rattle.answer.specs.declared.Answer.{Answer}
 use Rattle.answer.specs.declared.Answer.the-variants as answer
-use Rattle.answer.specs.Answer.{number}
+use Rattle.answer.specs.declared.Check.{Check}
+use Rattle.answer.specs.declared.Check.the-variants.{Pass, Refuse}
+use Rattle.answer.specs.Answer.{number, isAccepted, isBroken, isCut}
 use Rattle.command.specs.Course.{played, result}
 use Rattle.set_configuration.proofs.Laws.{AllDone}
 use Rattle.endpoint.specs.Cells.{noCells}
-use Rattle.device.specs.declared.check.Check.{Check}
-use Rattle.device.specs.declared.check.Check.the-variants.{Pass, Refuse}
 use Rattle.device.specs.declared.record.Device.{Device}
 use Rattle.device.specs.Device.{listOf, cellsIn, heldOf, quarantinedOf}
-use Rattle.device.specs.Left.{Left, refused, isAccepted, isBroken, isCut}
+use Rattle.device.specs.Left.{Left, refused}
 use Rattle.device.specs.Sound.{sound}
 use Rattle.device.specs.Calls.{onCheck}
 use Rattle.bring_up.specs.BringUp.{BringUp, Brought, spacingOf, slotCheck, deviceCheck, queueCheck, bringUpCheck, bringUpCourse, broughtRecord, noDevice, broughtLeft, bringUp}

@@ -10,6 +10,8 @@ use Rattle.descriptor.specs.Word.{configurationValue}
 use Rattle.transfer.specs.declared.Registered.the-variants as register
 use Rattle.transfer.specs.Routes.{routeOf, withRoute, registered, withRegistered}
 use Rattle.answer.specs.declared.Answer.the-variants as answer
+use Rattle.answer.specs.declared.Check.the-variants.{Pass, Refuse}
+use Rattle.answer.specs.Answer.{isAccepted}
 use Rattle.command.specs.declared.Command.the-variants as command
 use Rattle.command.specs.declared.Sent.{Sent}
 use Rattle.command.specs.Command.{commandWord, outcomeAt}
@@ -21,8 +23,6 @@ use Rattle.phase.specs.End.{End}
 use Rattle.phase.specs.Arrays.{dcisIn, queuesIn, Room}
 use Rattle.set_configuration.specs.declared.run.SettingsArgs.{SettingsArgs}
 use Rattle.set_configuration.specs.SetConfiguration.{setCourse}
-use Rattle.device.specs.declared.check.Check.the-variants.{Pass, Refuse}
-use Rattle.device.specs.Left.{isAccepted}
 use Rattle.bring_up.specs.BringUp.{BringUp, brought, step, readUpTo, bringUpSettings, bringUpSet, bringUpConfigs, queueCheck}
 
 -- room for a set configuration without endpoints

@@ -14,6 +14,10 @@ use Rattle.transfer.specs.Routes.{routeOf, withRoute}
 use Rattle.ring.specs.Rings.{ringOk}
 use Rattle.answer.specs.declared.Answer.{Answer}
 use Rattle.answer.specs.declared.Answer.the-variants as answer
+use Rattle.answer.specs.declared.Check.{Check}
+use Rattle.answer.specs.declared.Check.the-variants.{Pass}
+use Rattle.answer.specs.Answer.{isAccepted}
+use Rattle.answer.specs.Check.{unless}
 use Rattle.command.specs.declared.Command.{Command}
 use Rattle.command.specs.declared.Command.the-variants as command
 use Rattle.command.specs.Course.{Course, ends, sends, onSent, then, Played, played}
@@ -22,11 +26,8 @@ use Rattle.context.specs.Steps.{addressContext, maxPacketWrites}
 use Rattle.endpoint.specs.Endpoint.{blank, padded}
 use Rattle.endpoint.specs.declared.entry.Handle.the-variants.{Active}
 use Rattle.set_configuration.specs.SetConfiguration.{Settings, setCourse}
-use Rattle.device.specs.declared.check.Check.{Check}
-use Rattle.device.specs.declared.check.Check.the-variants.{Pass}
 use Rattle.device.specs.declared.record.Device.{Device}
-use Rattle.device.specs.Left.{Left, refused, isAccepted}
-use Rattle.device.specs.Check.{unless}
+use Rattle.device.specs.Left.{Left, refused}
 use Rattle.device.specs.Calls.{onCheck}
 use Rattle.bring_up.specs.declared.run.BringUpArgs.{BringUpArgs}
 use Rattle.bring_up.specs.declared.run.Ended.{Ended}

@@ -1,14 +1,14 @@
 // The checks of a bring-up, in 01's order.
 use super::run::BringUpArgs;
 use answer::Answer;
-use device::Check;
+use answer::Check;
 ghost use mathlib.Core.Path.{_≡_};
 ghost use mathlib.Core.Bool.{_||_};
 ghost use mathlib.Core.List.{List};
 ghost use Prim.Native.Nat.{ℕ};
 ghost use lib.Dec.{eqb};
 ghost use Rattle.ring.specs.Rings.{ringOk};
-ghost use Rattle.device.specs.declared.check.Check.the-variants.{Pass};
+ghost use Rattle.answer.specs.declared.Check.the-variants.{Pass};
 ghost use Rattle.bring_up.specs.BringUp.{bringUpOf, slotCheck, deviceCheck};
 
 fn context_known(ctx: usize) -> bool

@@ -5,9 +5,9 @@ mod record;
 mod run;
 
 use answer::Answer;
+use answer::Check;
 use def::Dci;
 use device::Called;
-use device::Check;
 use transfer::Registered;
 ghost use mathlib.Core.Path.{_≡_};
 ghost use mathlib.Core.Bool.{true};

@@ -15,7 +15,7 @@ ghost use Rattle.command.specs.Course.{played};
 ghost use Rattle.context.specs.Place.{Spaced};
 ghost use Rattle.phase.specs.Arrays.{queuesIn};
 ghost use Rattle.set_configuration.specs.SetConfiguration.{settingsOf};
-ghost use Rattle.device.specs.Left.{isAccepted};
+ghost use Rattle.answer.specs.Answer.{isAccepted};
 ghost use Rattle.bring_up.specs.BringUp.{bringUpOf, leavesRead, bringUpSet, bringUpConfigs, bringUpDevice, bringUpConfiguration, bringUpPacket, bringUpHeader, bringUpAddress};
 
 // The device's place, its control ring, and what is read from it: `header` bytes with the packet size, and the configuration value.

@@ -9,6 +9,7 @@ use borrow.Author.Tests.{eq-eqb, ne-eqb}
 use lib.ListN.{length, getD, set, take, length-append, length-set}
 use lib.Seq.{set-append-seam, take-suc, length-take-le}
 use Rattle.answer.specs.declared.Answer.{Answer}
+use Rattle.answer.specs.declared.Check.the-variants.{Pass}
 use Rattle.answer.specs.Answer.{number}
 use Rattle.configuration.specs.Lookup.{findEndpoints}
 use Rattle.command.specs.Course.{played}
@@ -24,7 +25,6 @@ use Rattle.phase.specs.Arrays as arrays
 use Rattle.phase.proofs.Laws.{queues-as, room-as}
 use Rattle.claim.specs.declared.ClaimArgs.{ClaimArgs}
 use Rattle.claim.specs.Claim.{claimOf, claimCourse}
-use Rattle.device.specs.declared.check.Check.the-variants.{Pass}
 use Rattle.device.specs.declared.record.Device.{Device}
 use Rattle.device.specs.Device.{listOf, cellsIn, heldOf, quarantinedOf, withCells, withHeld, withQuarantined}
 use Rattle.device.specs.Sound.{countsFit}

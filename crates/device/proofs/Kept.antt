@@ -9,7 +9,9 @@ use lib.ListN.{length, getD, replicate, getD-replicate}
 use Rattle.laws.proofs.Cases.{decided}
 use Rattle.answer.specs.declared.Answer.{Answer}
 use Rattle.answer.specs.declared.Answer.the-variants as answer
-use Rattle.answer.specs.Answer.{number}
+use Rattle.answer.specs.declared.Check.{Check}
+use Rattle.answer.specs.declared.Check.the-variants.{Pass}
+use Rattle.answer.specs.Answer.{number, isAccepted, isBroken}
 use Rattle.command.specs.Course.{Played}
 use Rattle.configuration.specs.Lookup.{findEndpoints}
 use Rattle.ring.specs.Rings.{offerOk}
@@ -24,12 +26,10 @@ use Rattle.settings.specs.Held.{Held, withSetting, withoutSetting, settingWords
 use Rattle.settings.specs.Match.{addressesFree}
 use Rattle.settings.proofs.Laws.{sound-with, sound-without, sound-none, pending-place, match-claimed, match-released, match-none}
 use Rattle.phase.specs.End.{End}
-use Rattle.device.specs.declared.check.Check.{Check}
-use Rattle.device.specs.declared.check.Check.the-variants.{Pass}
 use Rattle.device.specs.declared.record.Device.{Device}
 use Rattle.device.specs.Device.{listOf, cellsIn, heldOf, quarantinedOf, withCells, withHeld, withConfiguration, withQuarantined}
 use Rattle.device.specs.Sound.{sound}
-use Rattle.device.specs.Left.{refused, isAccepted, isBroken, marked, ended}
+use Rattle.device.specs.Left.{refused, marked, ended}
 use Rattle.device.specs.Check.{recordCheck, hubCheck}
 use Rattle.device.specs.Calls.{onCheck, hubLeft, hubUpdate}
 use Rattle.device.specs.Claim.{claimCheck, pendingOf, quarantines, claimRecord, claim}

@@ -12,9 +12,9 @@ use Rattle.laws.proofs.Distinct.{distinct}
 use Rattle.ring.specs.Rings.{ringsOk}
 use Rattle.answer.specs.declared.Answer.{Answer}
 use Rattle.answer.specs.declared.Answer.the-variants as answer
+use Rattle.answer.specs.declared.Check.{Check}
+use Rattle.answer.specs.declared.Check.the-variants.{Pass, Refuse}
 use Rattle.context.specs.Place.{Spaced}
-use Rattle.device.specs.declared.check.Check.{Check}
-use Rattle.device.specs.declared.check.Check.the-variants.{Pass, Refuse}
 use Rattle.device.specs.declared.record.Device.{Device}
 use Rattle.device.specs.Sound.{sound}
 use Rattle.device.specs.Check.{recordCheck}

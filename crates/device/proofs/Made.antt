@@ -11,6 +11,7 @@ use Rattle.laws.proofs.Tests.{and-left, and-right, and-true, not-both}
 use Rattle.laws.proofs.Distinct.{distinct}
 use Rattle.answer.specs.declared.Answer.{Answer}
 use Rattle.answer.specs.declared.Answer.the-variants as answer
+use Rattle.answer.specs.Answer.{isBroken, isCut}
 use Rattle.configuration.specs.Valid.{validList}
 use Rattle.ring.specs.Rings.{ringOk, ringsOk}
 use Rattle.endpoint.specs.declared.cells.Cells.{Cells}
@@ -25,7 +26,7 @@ use Rattle.settings.proofs.Laws.{held-length, sound-fits, match-active}
 use Rattle.device.specs.declared.record.Device.{Device}
 use Rattle.device.specs.Device.{listOf, cellsIn, heldOf, quarantinedOf, withCells, withHeld, withConfiguration, withQuarantined, unusable}
 use Rattle.device.specs.Sound.{placeSound, countsFit, allRings, ringsSound, sound}
-use Rattle.device.specs.Left.{isBroken, isCut, marked}
+use Rattle.device.specs.Left.{marked}
 use Rattle.device.specs.Claim.{quarantines}
 use Rattle.device.proofs.Facts.{SoundFacts, sound-facts, unusable-not, none-quarantined}
 use Rattle.device.proofs.Rings.{Apart, Disjoint, control-ok, clean-in, apart-in, apart-none, placedRings, placed-few, placed-none, all-ok, all-distinct, all-few, endpoint-rings, endpoints-few, queue-rings}

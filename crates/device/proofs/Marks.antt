@@ -9,12 +9,12 @@ use native.Mathlib.Decide.{decLt}
 use borrow.Author.Tests.{ne-eqb}
 use lib.ListN.{length}
 use Rattle.answer.specs.declared.Answer.{Answer}
-use Rattle.answer.specs.Answer.{number}
-use Rattle.device.specs.declared.check.Check.{Check}
-use Rattle.device.specs.declared.check.Check.the-variants.{Pass, Refuse}
+use Rattle.answer.specs.declared.Check.{Check}
+use Rattle.answer.specs.declared.Check.the-variants.{Pass, Refuse}
+use Rattle.answer.specs.Answer.{number, isBroken, isCut}
 use Rattle.device.specs.declared.record.Device.{Device}
 use Rattle.device.specs.Device.{unusable}
-use Rattle.device.specs.Left.{Left, refused, isBroken, isCut, marked}
+use Rattle.device.specs.Left.{Left, refused, marked}
 use Rattle.device.specs.Check.{recordCheck, hubCheck}
 use Rattle.device.specs.Calls.{onCheck, hubLeft, hubUpdate}
 

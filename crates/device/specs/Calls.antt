@@ -4,6 +4,8 @@ use mathlib.Core.Bool.{Bool}
 use mathlib.Core.List.{List}
 use lib.ListN.{length}
 use Rattle.answer.specs.declared.Answer.{Answer}
+use Rattle.answer.specs.declared.Check.{Check}
+use Rattle.answer.specs.declared.Check.the-variants.{Pass, Refuse}
 use Rattle.command.specs.declared.Command.the-variants as command
 use Rattle.command.specs.Course.{Course, ends, sends, Played, played}
 use Rattle.hub.specs.declared.think.ThinkTime.{ThinkTime}
@@ -12,8 +14,6 @@ use Rattle.hub.specs.ThinkTime.{thinkTime}
 use Rattle.context.specs.Place.{written}
 use Rattle.context.specs.Steps.{hubWrites}
 use Rattle.phase.specs.End.{answerOf}
-use Rattle.device.specs.declared.check.Check.{Check}
-use Rattle.device.specs.declared.check.Check.the-variants.{Pass, Refuse}
 use Rattle.device.specs.declared.record.Device.{Device}
 use Rattle.device.specs.Left.{Left, refused, marked}
 use Rattle.device.specs.Check.{recordCheck, hubCheck}

@@ -1,21 +1,17 @@
--- The checks of the calls on a record, in 01's order: the first that does not hold is the answer.
+-- The checks of the calls on a record, in 01's order.
 use Prim.Native.Nat.{ℕ, _+_, _*_}
-use mathlib.Core.Bool.{Bool, cond, _&&_}
+use mathlib.Core.Bool.{cond, _&&_}
 use lib.Dec.{eqb, leb}
 use Rattle.def.specs.Speed.{HIGH}
-use Rattle.answer.specs.declared.Answer.{Answer}
 use Rattle.answer.specs.declared.Answer.the-variants as answer
+use Rattle.answer.specs.declared.Check.{Check}
+use Rattle.answer.specs.declared.Check.the-variants.{Pass, Refuse}
+use Rattle.answer.specs.Check.{unless}
 use Rattle.hub.specs.declared.think.ThinkTime.{ThinkTime}
 use Rattle.hub.specs.declared.think.ThinkTime.the-variants as think
 use Rattle.hub.specs.ThinkTime.{thinkTime}
-use Rattle.device.specs.declared.check.Check.{Check}
-use Rattle.device.specs.declared.check.Check.the-variants.{Pass, Refuse}
 use Rattle.device.specs.declared.record.Device.{Device}
 use Rattle.device.specs.Sound.{sound}
-
--- One check, and what follows where it holds.
-abbrev pub unless : Bool → Answer → Check → Check
-unless holds a next = cond holds next (Refuse a)
 
 -- 12, 1, 2, 3, and then the call's own.
 unfoldable pub recordCheck : Device → ℕ → ℕ → ℕ → Check → Check

@@ -6,6 +6,10 @@ use mathlib.Core.List.{List, []}
 use lib.ListN.{length}
 use Rattle.answer.specs.declared.Answer.{Answer}
 use Rattle.answer.specs.declared.Answer.the-variants as answer
+use Rattle.answer.specs.declared.Check.{Check}
+use Rattle.answer.specs.declared.Check.the-variants.{Pass}
+use Rattle.answer.specs.Answer.{isBroken}
+use Rattle.answer.specs.Check.{unless}
 use Rattle.command.specs.Course.{played}
 use Rattle.configuration.specs.Lookup.{findEndpoints}
 use Rattle.ring.specs.Rings.{offerOk}
@@ -17,12 +21,10 @@ use Rattle.settings.specs.Match.{addressesFree}
 use Rattle.phase.specs.End.{End}
 use Rattle.claim.specs.declared.ClaimArgs.{ClaimArgs}
 use Rattle.claim.specs.Claim.{Claim, claimCourse}
-use Rattle.device.specs.declared.check.Check.{Check}
-use Rattle.device.specs.declared.check.Check.the-variants.{Pass}
 use Rattle.device.specs.declared.record.Device.{Device}
 use Rattle.device.specs.Device.{listOf, cellsIn, heldOf, quarantinedOf, withCells, withHeld, withQuarantined}
-use Rattle.device.specs.Left.{Left, refused, isBroken, marked, ended}
-use Rattle.device.specs.Check.{unless, recordCheck}
+use Rattle.device.specs.Left.{Left, refused, marked, ended}
+use Rattle.device.specs.Check.{recordCheck}
 use Rattle.device.specs.Calls.{onCheck}
 
 -- 8, 9, 10.

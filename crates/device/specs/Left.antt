@@ -1,10 +1,9 @@
 -- What a call returns and leaves.
 use Prim.Native.Nat.{ℕ}
-use mathlib.Core.Bool.{Bool, cond, _||_}
+use mathlib.Core.Bool.{cond, _||_}
 use mathlib.Core.List.{List}
-use lib.Dec.{eqb}
 use Rattle.answer.specs.declared.Answer.{Answer}
-use Rattle.answer.specs.Answer.{number}
+use Rattle.answer.specs.Answer.{isBroken, isCut}
 use Rattle.command.specs.Course.{Played}
 use Rattle.phase.specs.End.{End}
 use Rattle.device.specs.declared.record.Device.{Device}
@@ -26,15 +25,6 @@ leaves r ctx routes log =
 -- Refused: nothing changed, count 0.
 unfoldable pub refused : Device → Answer → List ℕ → List ℕ → List ℕ → Left
 refused d a ctx routes log = record { device = d; answer = a; count = 0; ctx = ctx; routes = routes; log = log }
-
-abbrev pub isAccepted : Answer → Bool
-isAccepted a = eqb (number a) 0
-
-abbrev pub isBroken : Answer → Bool
-isBroken a = eqb (number a) 14
-
-abbrev pub isCut : Answer → Bool
-isCut a = eqb (number a) 15
 
 -- 14 and 15 make the record unusable.
 unfoldable pub marked : Answer → Device → Device

@@ -4,6 +4,9 @@ use mathlib.Core.Bool.{cond, _||_}
 use mathlib.Core.List.{List}
 use lib.ListN.{length, replicate}
 use Rattle.answer.specs.declared.Answer.the-variants as answer
+use Rattle.answer.specs.declared.Check.{Check}
+use Rattle.answer.specs.declared.Check.the-variants.{Pass}
+use Rattle.answer.specs.Check.{unless}
 use Rattle.command.specs.Course.{played}
 use Rattle.configuration.specs.Lookup.{findEndpoints}
 use Rattle.endpoint.specs.Order.{PLACES}
@@ -12,12 +15,10 @@ use Rattle.endpoint.specs.Cells.{ownedRings, queuesOf, queueDcis, claimedCells,
 use Rattle.settings.specs.Held.{isHeld, alternateOf, isFound, settingWords, withoutSetting}
 use Rattle.phase.specs.End.{End}
 use Rattle.release.specs.Release.{Release, releaseCourse}
-use Rattle.device.specs.declared.check.Check.{Check}
-use Rattle.device.specs.declared.check.Check.the-variants.{Pass}
 use Rattle.device.specs.declared.record.Device.{Device}
 use Rattle.device.specs.Device.{listOf, cellsIn, heldOf, withCells, withHeld}
 use Rattle.device.specs.Left.{Left, refused, marked, ended}
-use Rattle.device.specs.Check.{unless, recordCheck}
+use Rattle.device.specs.Check.{recordCheck}
 use Rattle.device.specs.Calls.{onCheck}
 
 -- 8, for an unclaimed interface without alternate 0 only.

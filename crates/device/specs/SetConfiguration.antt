@@ -9,10 +9,11 @@ use Rattle.endpoint.specs.Cells.{queuesOf, noCells, withActive}
 use Rattle.settings.specs.Held.{heldWords}
 use Rattle.phase.specs.End.{End}
 use Rattle.set_configuration.specs.SetConfiguration.{Settings, setCourse}
-use Rattle.device.specs.declared.check.Check.the-variants.{Pass}
+use Rattle.answer.specs.declared.Check.the-variants.{Pass}
+use Rattle.answer.specs.Answer.{isAccepted}
 use Rattle.device.specs.declared.record.Device.{Device}
 use Rattle.device.specs.Device.{listOf, cellsIn, heldOf, withCells, withHeld, withConfiguration}
-use Rattle.device.specs.Left.{Left, refused, isAccepted, marked, ended}
+use Rattle.device.specs.Left.{Left, refused, marked, ended}
 use Rattle.device.specs.Check.{recordCheck}
 use Rattle.device.specs.Calls.{onCheck}
 

@@ -1,16 +1,11 @@
 // The checks of the calls on a record, in 01's order.
 use super::record::Device;
 use answer::Answer;
+use answer::Check;
 use hub::ThinkTime;
 ghost use mathlib.Core.Path.{_≡_};
-ghost use Rattle.device.specs.declared.check.Check.the-variants.{Pass};
+ghost use Rattle.answer.specs.declared.Check.the-variants.{Pass};
 ghost use Rattle.device.specs.Check.{recordCheck, hubCheck};
-
-// Whether a call may go on, or its refusal.
-pub enum Check {
-    Pass,
-    Refuse(Answer),
-}
 
 impl Device {
     // 12, 1, 2, 3.

@@ -1,10 +1,10 @@
 // The claim of an interface's alternate setting.
 use super::cells;
-use super::check::Check;
 use super::record::Called;
 use super::record::Device;
 use super::update;
 use answer::Answer;
+use answer::Check;
 use claim::ClaimArgs;
 use configuration::Found;
 use endpoint::Cells;
@@ -17,6 +17,8 @@ ghost use mathlib.Core.List.{List, []};
 ghost use Prim.Native.Nat.{ℕ, _≤_};
 ghost use lib.ListN.{length, take};
 ghost use Rattle.answer.specs.declared.Answer.the-variants as answer;
+ghost use Rattle.answer.specs.declared.Check.the-variants.{Pass};
+ghost use Rattle.answer.specs.Check.{unless};
 ghost use Rattle.command.specs.Course.{played};
 ghost use Rattle.configuration.specs.Lookup.{findEndpoints};
 ghost use Rattle.ring.specs.Rings.{offerOk};
@@ -27,11 +29,10 @@ ghost use Rattle.settings.specs.Held.{isFound, settingWords, withSetting};
 ghost use Rattle.settings.specs.Match.{addressesFree};
 ghost use Rattle.phase.specs.Arrays as arrays;
 ghost use Rattle.claim.specs.Claim.{claimOf, claimCourse};
-ghost use Rattle.device.specs.declared.check.Check.the-variants.{Pass};
 ghost use Rattle.device.specs.Device.{cellsIn, heldOf, quarantinedOf, withCells, withHeld, withQuarantined};
 ghost use Rattle.device.specs.Sound.{countsFit};
 ghost use Rattle.device.specs.Left.{leaves, ended};
-ghost use Rattle.device.specs.Check.{unless, recordCheck};
+ghost use Rattle.device.specs.Check.{recordCheck};
 ghost use Rattle.device.specs.Claim.{claimCheck, pendingOf, claimIn, ClaimAs, quarantines, claimRecord, claim};
 
 // 9, 10, of the words that lookup found.

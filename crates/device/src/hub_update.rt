@@ -1,8 +1,8 @@
 // The hub update.
-use super::check::Check;
 use super::record::Called;
 use super::record::Device;
 use super::update;
+use answer::Check;
 use command::Command;
 use command::Sent;
 use hub::ThinkTime;

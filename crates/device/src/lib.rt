@@ -9,6 +9,5 @@ mod set_value;
 mod sound;
 mod update;
 
-pub use check::Check;
 pub use record::Called;
 pub use record::Device;

@@ -1,10 +1,10 @@
 // The release of an interface.
 use super::cells;
-use super::check::Check;
 use super::record::Called;
 use super::record::Device;
 use super::update;
 use answer::Answer;
+use answer::Check;
 use configuration::Found;
 use endpoint::Cells;
 use endpoint::Owner;

@@ -1,10 +1,10 @@
 // The setting of a configuration, which ends all held settings.
 use super::cells;
-use super::check::Check;
 use super::record::Called;
 use super::record::Device;
 use super::update;
 use answer::Answer;
+use answer::Check;
 use endpoint::Cells;
 use endpoint::Owner;
 use phase::Ended;
@@ -21,7 +21,8 @@ ghost use Rattle.endpoint.specs.Cells.{QueuesAs};
 ghost use Rattle.phase.specs.Arrays as arrays;
 ghost use Rattle.set_configuration.specs.SetConfiguration.{settingsOf, setCourse};
 ghost use Rattle.device.specs.Device.{listOf, cellsIn, withConfiguration};
-ghost use Rattle.device.specs.Left.{leaves, ended, isAccepted};
+ghost use Rattle.answer.specs.Answer.{isAccepted};
+ghost use Rattle.device.specs.Left.{leaves, ended};
 ghost use Rattle.device.specs.Sound.{countsFit};
 ghost use Rattle.device.specs.SetConfiguration.{settingsIn, bare, setRecord, setConfiguration};
 

@@ -14,6 +14,7 @@ use Rattle.configuration.specs.Lookup.{findEndpoints}
 use Rattle.ring.specs.Rings.{offerOk}
 use Rattle.answer.specs.declared.Answer.{Answer}
 use Rattle.answer.specs.declared.Answer.the-variants as answer
+use Rattle.answer.specs.declared.Check.the-variants.{Pass}
 use Rattle.answer.specs.Answer.{number}
 use Rattle.command.specs.declared.Sent.the-variants as sent
 use Rattle.command.specs.Command.{outcomeAt}
@@ -37,7 +38,6 @@ use Rattle.controller.proofs.Laws.{followed}
 use Rattle.claim.specs.Claim.{claimCourse}
 use Rattle.claim.proofs.Laws.{claim-accepted, claim-words, claim-answers, claim-moved, claim-cuts, Refused}
 use Rattle.claim.proofs.Controlled.{claim-operands, claim-accepted-enabled, claim-failed-enabled}
-use Rattle.device.specs.declared.check.Check.the-variants.{Pass}
 use Rattle.device.specs.declared.record.Device.{Device}
 use Rattle.device.specs.Device.{listOf, cellsIn, heldOf, quarantinedOf}
 use Rattle.device.specs.Left.{Left, refused, ended}

@@ -8,6 +8,7 @@ use native.Mathlib.Omega.{arith}
 use borrow.Author.Tests.{ne-eqb}
 use lib.ListN.{length}
 use Rattle.answer.specs.declared.Answer.the-variants as answer
+use Rattle.answer.specs.declared.Check.the-variants.{Pass}
 use Rattle.ring.proofs.Laws.{ring-nonzero}
 use Rattle.command.specs.declared.Sent.the-variants.{Done}
 use Rattle.command.specs.Command.{outcomeAt}
@@ -18,7 +19,6 @@ use Rattle.settings.proofs.Laws.{setting-word}
 use Rattle.routing.proofs.Laws.{words-dci, words-low-name}
 use Rattle.transfer.specs.Routes.{Queue, names, ringFor, routeIndex, routeOf, published}
 use Rattle.transfer.proofs.Laws.{published-at}
-use Rattle.device.specs.declared.check.Check.the-variants.{Pass}
 use Rattle.device.specs.Left.{Left}
 use Rattle.device.specs.Check.{recordCheck}
 use Rattle.device.specs.Claim.{claimCheck}

@@ -8,6 +8,7 @@ use native.Mathlib.Omega.{arith}
 use lib.ListN.{length}
 use Rattle.laws.proofs.Cases.{or-left-false}
 use Rattle.answer.specs.declared.Answer.{Answer}
+use Rattle.answer.specs.declared.Check.the-variants.{Pass}
 use Rattle.answer.specs.Answer.{number}
 use Rattle.command.specs.declared.Sent.{Sent}
 use Rattle.command.specs.declared.Sent.the-variants as sent
@@ -16,7 +17,6 @@ use Rattle.command.specs.Command.{commandWord, outcomeAt}
 use Rattle.command.specs.Course.{words, result, played}
 use Rattle.phase.specs.End.{answerOf}
 use Rattle.controller.specs.Controller.{controlled, isDoneWord}
-use Rattle.device.specs.declared.check.Check.the-variants.{Pass}
 use Rattle.device.specs.Left.{Left, refused, marked}
 use Rattle.device.specs.Calls.{onCheck, hubContext, hubCourse, hubLeft, hubUpdate}
 use Rattle.device.proofs.Facts.{unusable-not}

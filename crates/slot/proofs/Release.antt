@@ -12,6 +12,7 @@ use Rattle.laws.proofs.Tests.{not-both}
 use Rattle.laws.proofs.Cases.{Decided, decided, or-left-false, or-right-false}
 use Rattle.answer.specs.declared.Answer.{Answer}
 use Rattle.answer.specs.declared.Answer.the-variants as answer
+use Rattle.answer.specs.declared.Check.the-variants.{Pass}
 use Rattle.answer.specs.Answer.{number}
 use Rattle.command.specs.Course.{Course, ends, sends, words, result, played}
 use Rattle.command.proofs.Operations.{ByteOperands, EachCommand}
@@ -32,7 +33,6 @@ use Rattle.controller.proofs.Laws.{followed}
 use Rattle.release.specs.Release.{releaseCourse}
 use Rattle.release.proofs.Laws.{release-words, release-cuts, Gone, Stayed, Says, release-says, OneAnswer, release-answers}
 use Rattle.release.proofs.Controlled.{release-operands, release-accepted-enabled, release-failed-enabled}
-use Rattle.device.specs.declared.check.Check.the-variants.{Pass}
 use Rattle.device.specs.declared.record.Device.{Device}
 use Rattle.device.specs.Device.{listOf, cellsIn, heldOf}
 use Rattle.device.specs.Left.{Left, refused, ended}

@@ -12,6 +12,7 @@ use Rattle.laws.proofs.Tests.{and-left, and-right, not-both}
 use Rattle.laws.proofs.Cases.{Decided, decided, or-left, or-right, or-cases, or-left-false, or-right-false}
 use Rattle.answer.specs.declared.Answer.{Answer}
 use Rattle.answer.specs.declared.Answer.the-variants as answer
+use Rattle.answer.specs.declared.Check.the-variants.{Pass}
 use Rattle.answer.specs.Answer.{number}
 use Rattle.command.specs.Course.{Course, words, result, played}
 use Rattle.command.proofs.Operations.{ByteOperands, EachCommand}
@@ -36,7 +37,6 @@ use Rattle.controller.proofs.Laws.{followed}
 use Rattle.set_configuration.specs.SetConfiguration.{setCourse}
 use Rattle.set_configuration.proofs.Laws.{set-words, set-cuts, OneAnswer, Answered, set-answers, set-moved, set-operands, set-out}
 use Rattle.set_configuration.proofs.Controlled.{set-accepted-enabled, set-failed-enabled}
-use Rattle.device.specs.declared.check.Check.the-variants.{Pass}
 use Rattle.device.specs.declared.record.Device.{Device}
 use Rattle.device.specs.Device.{listOf, cellsIn, heldOf}
 use Rattle.device.specs.Left.{Left, refused, ended}

@@ -8,7 +8,10 @@ use lib.ListN.{length, take}
 use Rattle.laws.proofs.Tests.{not-both}
 use Rattle.answer.specs.declared.Answer.{Answer}
 use Rattle.answer.specs.declared.Answer.the-variants as answer
+use Rattle.answer.specs.declared.Check.{Check}
+use Rattle.answer.specs.declared.Check.the-variants.{Pass, Refuse}
 use Rattle.answer.specs.Answer.{number}
+use Rattle.answer.specs.Check.{unless}
 use Rattle.hub.specs.declared.think.ThinkTime.{ThinkTime}
 use Rattle.hub.specs.declared.think.ThinkTime.the-variants as think
 use Rattle.hub.specs.ThinkTime.{thinkTime}
@@ -24,11 +27,9 @@ use Rattle.command.proofs.Operations.{ByteOperands, EachCommand}
 use Rattle.phase.specs.End.{End}
 use Rattle.controller.specs.Controller.{controlled, configurationSet}
 use Rattle.controller.proofs.Laws.{followed, controlled-course}
-use Rattle.device.specs.declared.check.Check.{Check}
-use Rattle.device.specs.declared.check.Check.the-variants.{Pass, Refuse}
 use Rattle.device.specs.declared.record.Device.{Device}
 use Rattle.device.specs.Left.{Left, refused, ended}
-use Rattle.device.specs.Check.{unless, recordCheck, isThought, hubCheck}
+use Rattle.device.specs.Check.{recordCheck, isThought, hubCheck}
 use Rattle.device.specs.Calls.{onCheck}
 use Rattle.device.specs.Claim.{claimCheck}
 use Rattle.device.specs.Release.{releaseCheck}

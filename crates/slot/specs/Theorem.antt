@@ -5,6 +5,7 @@ use mathlib.Core.Bool.{true, false}
 use mathlib.Core.List.{List, [], _∷_}
 use lib.ListN.{length, getD, take}
 use Rattle.answer.specs.declared.Answer.the-variants as answer
+use Rattle.answer.specs.declared.Check.the-variants.{Pass}
 use Rattle.command.specs.declared.Sent.the-variants.{Done}
 use Rattle.command.specs.Command.{outcomeAt}
 use Rattle.block.specs.Promises.{someDci}
@@ -13,7 +14,6 @@ use Rattle.transfer.specs.Routes.{routeOf, queues, ringFor, Outside}
 use Rattle.settings.specs.Held.{settingWords}
 use Rattle.bring_up.specs.BringUp.{BringUp, bringUp}
 use Rattle.device.specs.declared.record.Device.{Device}
-use Rattle.device.specs.declared.check.Check.the-variants.{Pass}
 use Rattle.device.specs.Left.{Left}
 use Rattle.device.specs.Sound.{sound}
 use Rattle.device.specs.Check.{recordCheck}

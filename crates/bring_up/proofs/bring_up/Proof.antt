@@ -1,6 +1,6 @@
 use Rattle.bring_up.specs.BringUp.{bringUpOf, bringUp}
 use Rattle.bring_up.proofs.Checks.{check-then, passed}
-use Rattle.device.specs.declared.check.Check.the-variants.{Pass}
+use Rattle.answer.specs.declared.Check.the-variants.{Pass}
 use Rattle.device.proofs.Laws.{andThen}
 use Rattle.device.specs.Calls.{onCheck}
 use Rattle.device.specs.Left.{refused}
