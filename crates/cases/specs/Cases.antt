@@ -140,9 +140,9 @@ innerHub =
 abbrev pub hubs : List ℕ
 hubs = hubWord rootHub ∷ hubWord outerHub ∷ hubWord innerHub ∷ []
 
--- Interface 0 holds alternate 0, and alternate 1 is claimed; the SetInterface fails.
-abbrev pub switched : Left
-switched = claim (second .device) ctx (second .routes) log (0 ∷ 0 ∷ 7 ∷ 0 ∷ 0 ∷ []) 0 1 (48 ∷ [])
+-- Interface 0 holds alternate 0, and alternate 1 is claimed; the SetInterface fails. (A constant would be computed whole, its context too.)
+abbrev pub switched : Left → Left
+switched l = claim (l .device) ctx (l .routes) log (0 ∷ 0 ∷ 7 ∷ 0 ∷ 0 ∷ []) 0 1 (48 ∷ [])
 
 -- 01's cases, and after them a call for each of its answers from 0 to 18. The ring of the added endpoint is any.
 abbrev pub cases : (ring : ℕ) → List Case
@@ -158,8 +158,8 @@ cases ring =
     ∷ think 3329 3
     ∷ added 32 HIGH interrupt81 ring 0x00030000 0x0040003E 0x00400040 4
     ∷ added 64 HIGH interrupt81 ring 0x00030000 0x0040003E 0x00400040 4
-    ∷ logged switched (0x40300000 ∷ 0x30000000 ∷ 0x60001000 ∷ 0x30000000 ∷ 0x60000000 ∷ []) 0
-    ∷ answered switched 13 7
+    ∷ logged (switched second) (0x40300000 ∷ 0x30000000 ∷ 0x60001000 ∷ 0x30000000 ∷ 0x60000000 ∷ []) 0
+    ∷ answered (switched second) 13 7
     ∷ answered second 0 0
     ∷ answered (bringUp usual (replicate 1055 0) free log done) 1 0
     ∷ answered (bringUp usual ctx (replicate 63 0) log done) 2 0
