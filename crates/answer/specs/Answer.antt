@@ -1,6 +1,6 @@
 -- The answers of the calls: 01, "Who can cause an answer".
 use Prim.Native.Nat.{ℕ}
-use mathlib.Core.Bool.{Bool}
+use mathlib.Core.Bool.{Bool, _||_}
 use lib.Dec.{eqb}
 use Rattle.answer.specs.declared.Answer.{Answer}
 use Rattle.answer.specs.declared.Answer.the-variants.{Accepted, ContextLength, RoutesLength, LogTooShort, DescriptorList, HubChain, Speed, ThinkTime, NotFound, InvalidParameter, Rings, SlotLimitReached, Unusable, Failed, InterfaceBroken, Cut, ShortHeader, QueueFull, InvalidEndpoint}
@@ -57,3 +57,7 @@ isBroken a = eqb (number a) 14
 
 abbrev pub isCut : Answer → Bool
 isCut a = eqb (number a) 15
+
+-- Broken or cut: the record is unusable after it.
+abbrev pub isLost : Answer → Bool
+isLost a = isBroken a || isCut a

@@ -11,7 +11,7 @@ use Rattle.laws.proofs.Tests.{and-left, and-right, and-true, not-both}
 use Rattle.laws.proofs.Distinct.{distinct}
 use Rattle.answer.specs.declared.Answer.{Answer}
 use Rattle.answer.specs.declared.Answer.the-variants as answer
-use Rattle.answer.specs.Answer.{isBroken, isCut}
+use Rattle.answer.specs.Answer.{isBroken, isCut, isLost}
 use Rattle.configuration.specs.Valid.{validList}
 use Rattle.ring.specs.Rings.{ringOk, ringsOk}
 use Rattle.endpoint.specs.declared.cells.Cells.{Cells}
@@ -31,10 +31,6 @@ use Rattle.device.specs.Claim.{quarantines}
 use Rattle.device.proofs.Facts.{SoundFacts, sound-facts, unusable-not, none-quarantined}
 use Rattle.device.proofs.Rings.{Apart, Disjoint, control-ok, clean-in, apart-in, apart-none, placedRings, placed-few, placed-none, all-ok, all-distinct, all-few, endpoint-rings, endpoints-few, queue-rings}
 use Rattle.device.proofs.Updates.{Same, same-self, same-then, liveOf, with-cells-same, with-cells-usable, with-cells-held, with-cells-cells, with-cells-live, with-cells-count, with-cells-quarantined-count, with-held-same, with-held-usable, with-held-held, with-held-cells, with-held-live, with-held-count, with-held-quarantined-count, with-configuration-same, with-configuration-usable, with-configuration-held, with-configuration-cells, with-configuration-live, with-configuration-count, with-configuration-quarantined-count, with-quarantined-same, with-quarantined-usable, with-quarantined-held, with-quarantined-cells, unusable-same, unusable-held, unusable-cells, unusable-live, unusable-count, unusable-quarantined, unusable-quarantined-count, with-quarantined-live, with-quarantined-count, with-quarantined-count-of, with-quarantined-quarantined, with-cells-quarantined, with-held-quarantined, with-configuration-quarantined}
-
--- 14 and 15, after which a record is not usable.
-abbrev pub isLost : Answer → Bool
-isLost a = isBroken a || isCut a
 
 -- A sound record made of d: with d's own fields, these held settings and these endpoints; usable where it is not lost.
 pub record Made (d e : Device) (hs : List Held) (c : Cells) (lost : Bool) : Type 0 where

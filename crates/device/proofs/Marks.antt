@@ -11,7 +11,7 @@ use lib.ListN.{length}
 use Rattle.answer.specs.declared.Answer.{Answer}
 use Rattle.answer.specs.declared.Check.{Check}
 use Rattle.answer.specs.declared.Check.the-variants.{Pass, Refuse}
-use Rattle.answer.specs.Answer.{number, isBroken, isCut}
+use Rattle.answer.specs.Answer.{number, isBroken, isCut, isLost}
 use Rattle.device.specs.declared.record.Device.{Device}
 use Rattle.device.specs.Device.{unusable}
 use Rattle.device.specs.Left.{Left, refused, marked}
@@ -25,7 +25,7 @@ SameOr d r = (r ≡ d) ⊎ (r ≡ unusable d)
 -- an answer leaves the record, or marks it
 pub marked-one : (a : Answer) (d : Device) → SameOr d (marked a d)
 unfolding marked
-marked-one a d = go (isBroken a || isCut a)
+marked-one a d = go (isLost a)
   where
     go : (b : Bool) → SameOr d (cond b (unusable d) d)
     go true = inr refl
@@ -36,7 +36,7 @@ pub marked-lost : (a : Answer) (d : Device) (n : ℕ) → n ≡ number a → 14 
 unfolding marked
 marked-lost a d n e l h = go (decLt (number a) 15)
   where
-    go : Dec (number a < 15) → unusable d ≡ cond (isBroken a || isCut a) (unusable d) d
+    go : Dec (number a < 15) → unusable d ≡ cond (isLost a) (unusable d) d
     go (yes z) = let y : number a ≡ 14 = omega arith in rw y refl
     go (no z) = let y : number a ≡ 15 = omega arith in rw y refl
 

@@ -1,9 +1,9 @@
 -- What a call returns and leaves.
 use Prim.Native.Nat.{ℕ}
-use mathlib.Core.Bool.{cond, _||_}
+use mathlib.Core.Bool.{cond}
 use mathlib.Core.List.{List}
 use Rattle.answer.specs.declared.Answer.{Answer}
-use Rattle.answer.specs.Answer.{isBroken, isCut}
+use Rattle.answer.specs.Answer.{isLost}
 use Rattle.command.specs.Course.{Played}
 use Rattle.phase.specs.End.{End}
 use Rattle.device.specs.declared.record.Device.{Device}
@@ -28,7 +28,7 @@ refused d a ctx routes log = record { device = d; answer = a; count = 0; ctx = c
 
 -- 14 and 15 make the record unusable.
 unfoldable pub marked : Answer → Device → Device
-marked a d = cond (isBroken a || isCut a) (unusable d) d
+marked a d = cond (isLost a) (unusable d) d
 
 -- Where a course has ended, with the record that its end makes.
 unfoldable pub ended : (End → Device) → Played End → Left

@@ -15,7 +15,7 @@ use Rattle.ring.specs.Rings.{offerOk}
 use Rattle.answer.specs.declared.Answer.{Answer}
 use Rattle.answer.specs.declared.Answer.the-variants as answer
 use Rattle.answer.specs.declared.Check.the-variants.{Pass}
-use Rattle.answer.specs.Answer.{number}
+use Rattle.answer.specs.Answer.{number, isAccepted}
 use Rattle.command.specs.declared.Sent.the-variants as sent
 use Rattle.command.specs.Command.{outcomeAt}
 use Rattle.command.specs.Course.{Course, words, result, played}
@@ -48,7 +48,7 @@ use Rattle.device.proofs.Laws.{Passed, passed, pass-if}
 use Rattle.device.proofs.Made.{isLost}
 use Rattle.device.proofs.Kept.{claim-moves, claim-stays}
 use Rattle.slot.specs.Call.{Buffers, Asked, claims, left}
-use Rattle.slot.specs.Plain.{Setting, Plain, plainRoute, isHeldDci, without, settingOf, heldAfter, anew, observed, seen, isAccepted}
+use Rattle.slot.specs.Plain.{Setting, Plain, plainRoute, isHeldDci, without, settingOf, heldAfter, anew, observed, seen}
 use Rattle.slot.specs.Theorem.{State, cutAt, contextCut, called}
 use Rattle.slot.proofs.Settings.{last-ring, AllFit, pairs, pairs-append, pairs-without, fit-without, fit-append, alternate-byte}
 use Rattle.slot.proofs.Good.{Good, Live, live-tells, routed-from, enabled-was, live-here}

@@ -13,7 +13,7 @@ use Rattle.laws.proofs.Cases.{Decided, decided, or-left-false, or-right-false}
 use Rattle.answer.specs.declared.Answer.{Answer}
 use Rattle.answer.specs.declared.Answer.the-variants as answer
 use Rattle.answer.specs.declared.Check.the-variants.{Pass}
-use Rattle.answer.specs.Answer.{number}
+use Rattle.answer.specs.Answer.{number, isAccepted}
 use Rattle.command.specs.Course.{Course, ends, sends, words, result, played}
 use Rattle.command.proofs.Operations.{ByteOperands, EachCommand}
 use Rattle.block.specs.Promises.{someDci}
@@ -42,7 +42,7 @@ use Rattle.device.proofs.Laws.{Passed, passed}
 use Rattle.device.proofs.Made.{isLost}
 use Rattle.device.proofs.Kept.{release-moves, release-stays}
 use Rattle.slot.specs.Call.{Buffers, Asked, releases, left}
-use Rattle.slot.specs.Plain.{Plain, isHeldDci, without, holds, heldAfter, isLoose, anew, seen, isAccepted}
+use Rattle.slot.specs.Plain.{Plain, isHeldDci, without, holds, heldAfter, isLoose, anew, seen}
 use Rattle.slot.specs.Theorem.{State, cutAt, contextCut, called}
 use Rattle.slot.proofs.Settings.{AllFit, pairs, pairs-holds, pairs-without, fit-without}
 use Rattle.slot.proofs.Good.{Good, Live, live-tells, routed-from, enabled-was, live-here}

@@ -13,7 +13,7 @@ use Rattle.laws.proofs.Cases.{Decided, decided, or-left, or-right, or-cases, or
 use Rattle.answer.specs.declared.Answer.{Answer}
 use Rattle.answer.specs.declared.Answer.the-variants as answer
 use Rattle.answer.specs.declared.Check.the-variants.{Pass}
-use Rattle.answer.specs.Answer.{number}
+use Rattle.answer.specs.Answer.{number, isLost}
 use Rattle.command.specs.Course.{Course, words, result, played}
 use Rattle.command.proofs.Operations.{ByteOperands, EachCommand}
 use Rattle.descriptor.specs.Word.{endpointDescriptor}
@@ -46,7 +46,7 @@ use Rattle.device.proofs.Laws.{Passed, passed}
 use Rattle.device.proofs.Made.{isLost}
 use Rattle.device.proofs.Kept.{set-moves, set-stays}
 use Rattle.slot.specs.Call.{Buffers, Asked, configures, left}
-use Rattle.slot.specs.Plain.{Plain, heldQueues, isHeldDci, heldAfter, anew, seen, isBroken}
+use Rattle.slot.specs.Plain.{Plain, heldQueues, isHeldDci, heldAfter, anew, seen}
 use Rattle.slot.specs.Theorem.{State, cutAt, contextCut, called}
 use Rattle.slot.proofs.Settings.{AllFit, pairs}
 use Rattle.slot.proofs.Good.{Good, Live, Tells, live-tells, routed-from, enabled-was, live-here}
@@ -227,7 +227,7 @@ module _ (slot : ℕ) (before : List ℕ) (s : State) (buffers : Buffers) (value
       where
         enabled :
             OneAnswer (end .answer) → p .broken ≡ false → p .loose ≡ false →
-            isBroken (end .answer) ≡ false → (q : ℕ) → q < 30 →
+            isLost (end .answer) ≡ false → (q : ℕ) → q < 30 →
             followed (buffers .outcomes) 0 (setCourse (settingsIn d value) (buffers .ctx) (s .routes)) (p .enabled) (dciAt q)
             ≡ not (eqb (getD (noCells .rings) q 0) 0)
         enabled (inl e) b f n = accepted-enabled e b f
@@ -262,7 +262,7 @@ module _ (slot : ℕ) (before : List ℕ) (s : State) (buffers : Buffers) (value
       where
         enabled :
             OneAnswer (end .answer) → p .broken ≡ false → p .loose ≡ false →
-            isBroken (end .answer) ≡ false → (x : ℕ) → 2 ≤ x → x < 32 →
+            isLost (end .answer) ≡ false → (x : ℕ) → 2 ≤ x → x < 32 →
             followed (buffers .outcomes) 0 (setCourse (settingsIn d value) (buffers .ctx) (s .routes)) (p .enabled) x ≡ isHeldDci p x
         enabled (inl e) b f n = not-both (end .moved) (w .accepted e) t
         enabled (inr (inl (code, e))) b f n = failed-enabled code e b f

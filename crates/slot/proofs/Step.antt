@@ -10,7 +10,7 @@ use Rattle.answer.specs.declared.Answer.{Answer}
 use Rattle.answer.specs.declared.Answer.the-variants as answer
 use Rattle.answer.specs.declared.Check.{Check}
 use Rattle.answer.specs.declared.Check.the-variants.{Pass, Refuse}
-use Rattle.answer.specs.Answer.{number}
+use Rattle.answer.specs.Answer.{number, isAccepted, isLost}
 use Rattle.answer.specs.Check.{unless}
 use Rattle.hub.specs.declared.think.ThinkTime.{ThinkTime}
 use Rattle.hub.specs.declared.think.ThinkTime.the-variants as think
@@ -34,22 +34,22 @@ use Rattle.device.specs.Calls.{onCheck}
 use Rattle.device.specs.Claim.{claimCheck}
 use Rattle.device.specs.Release.{releaseCheck}
 use Rattle.slot.specs.Call.{Buffers, Asked, bringsUp, claims, releases, configures, updatesHub}
-use Rattle.slot.specs.Plain.{Plain, isAccepted, isBroken, heldAfter, isLoose, anew, seen, observed}
+use Rattle.slot.specs.Plain.{Plain, heldAfter, isLoose, anew, seen, observed}
 use Rattle.slot.specs.Theorem.{State}
 use Rattle.slot.proofs.Words.{taken-words}
 use Rattle.slot.proofs.Good.{Good}
 
 -- An answer that is neither accepted, broken nor cut.
 abbrev pub Mild : Answer → Type 0
-Mild a = (isAccepted a ≡ false) × (isBroken a ≡ false)
+Mild a = (isAccepted a ≡ false) × (isLost a ≡ false)
 
 -- What the numbers of answers rule out.
 pub accepted-not : {x : Answer} → isAccepted x ≡ false → x ≡ answer.Accepted → ⊥
 unfolding number
 accepted-not {x} n e = not-both (isAccepted x) (rw e refl) n
 
-pub lost-not : {P : Type 0} (x : Answer) → isBroken x ≡ true → isBroken x ≡ false → P
-lost-not x t f = not-both (isBroken x) t f
+pub lost-not : {P : Type 0} (x : Answer) → isLost x ≡ true → isLost x ≡ false → P
+lost-not x t f = not-both (isLost x) t f
 
 -- A check that refuses with such answers only.
 unfoldable pub MildCheck : Check → Type 0
@@ -133,7 +133,7 @@ pub observed-refused :
     observed asked buffers a [] contexts p ≡ p
 unfolding observed seen controlled quiet
 observed-refused asked buffers a contexts p m =
-    ap (λ x. quiet asked (buffers .outcomes) p x (isBroken a)) (m .0)
+    ap (λ x. quiet asked (buffers .outcomes) p x (isLost a)) (m .0)
     ∙ ap (quiet asked (buffers .outcomes) p false) (m .1)
     ∙ quiet-same asked (buffers .outcomes) p
 

@@ -5,7 +5,7 @@ use mathlib.Core.List.{List, [], _∷_, _++_}
 use lib.Dec.{eqb, ltb}
 use lib.ListN.{length}
 use Rattle.answer.specs.declared.Answer.{Answer}
-use Rattle.answer.specs.Answer.{number}
+use Rattle.answer.specs.Answer.{isAccepted, isLost}
 use Rattle.context.specs.Steps.{wordDcis}
 use Rattle.transfer.specs.Routes.{Queue, queues, ringFor, names}
 use Rattle.settings.specs.Held.{settingWords}
@@ -29,13 +29,6 @@ pub record Plain : Type 0 where
   pub broken : Bool
   -- whether a release sent a command though its interface held no setting
   pub loose : Bool
-
--- An accepted answer; a broken or cut one.
-abbrev pub isAccepted : Answer → Bool
-isAccepted a = eqb (number a) 0
-
-abbrev pub isBroken : Answer → Bool
-isBroken a = eqb (number a) 14 || eqb (number a) 15
 
 -- Its routes: control's ring at Dci 1, each held endpoint's ring at its Dci, of a repeated address the last word's, 0 elsewhere.
 unfoldable pub heldQueues : List Setting → List Queue
@@ -107,7 +100,7 @@ seen asked buffers answer words enabled p =
       list = p .list;
       held = heldAfter asked (isAccepted answer) (buffers .outcomes) words (p .list) (p .held);
       enabled = enabled;
-      broken = p .broken || isBroken answer;
+      broken = p .broken || isLost answer;
       loose = p .loose || isLoose asked words (p .held);
     }
 
