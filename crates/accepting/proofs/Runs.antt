@@ -12,7 +12,7 @@ use Rattle.answer.specs.declared.Answer.{Answer}
 use Rattle.answer.specs.declared.Answer.the-variants as answer
 use Rattle.answer.specs.declared.Check.{Check}
 use Rattle.answer.specs.declared.Check.the-variants.{Pass}
-use Rattle.answer.specs.Answer.{number}
+use Rattle.answer.specs.Answer.{number, isLost}
 use Rattle.command.specs.declared.Command.{Command}
 use Rattle.command.specs.declared.Sent.{Sent}
 use Rattle.command.specs.declared.Sent.the-variants as sent
@@ -48,7 +48,7 @@ use Rattle.device.specs.Claim.{claimCheck, pendingOf, claimIn, claimRecord, cla
 use Rattle.device.specs.Release.{releaseCheck, releaseIn, releaseRecord, release}
 use Rattle.device.specs.SetConfiguration.{settingsIn, setRecord, setConfiguration}
 use Rattle.device.proofs.Laws.{Passed, passed}
-use Rattle.device.proofs.Made.{Made, isLost}
+use Rattle.device.proofs.Made.{Made}
 use Rattle.device.proofs.Kept.{ClaimPassed, claim-passed, claim-moves, release-moves, set-moves}
 use Rattle.accepting.specs.Accepting.{AllDone, Ready}
 

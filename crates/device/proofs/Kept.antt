@@ -11,7 +11,7 @@ use Rattle.answer.specs.declared.Answer.{Answer}
 use Rattle.answer.specs.declared.Answer.the-variants as answer
 use Rattle.answer.specs.declared.Check.{Check}
 use Rattle.answer.specs.declared.Check.the-variants.{Pass}
-use Rattle.answer.specs.Answer.{number, isAccepted, isBroken}
+use Rattle.answer.specs.Answer.{number, isAccepted, isBroken, isLost}
 use Rattle.command.specs.Course.{Played}
 use Rattle.configuration.specs.Lookup.{findEndpoints}
 use Rattle.ring.specs.Rings.{offerOk}
@@ -40,7 +40,7 @@ use Rattle.device.proofs.Laws.{passed, pass-if}
 use Rattle.device.proofs.Marks.{on-pass}
 use Rattle.device.proofs.Rings.{apart-none, apart-offered, offered-live, apart-claimed, apart-released}
 use Rattle.device.proofs.Updates.{with-cells-quarantined, with-quarantined-quarantined, unusable-quarantined}
-use Rattle.device.proofs.Made.{isLost, Made, sound-clean, sound-apart, marked-made, held-made, configured-made, active-made, quarantined-made}
+use Rattle.device.proofs.Made.{Made, sound-clean, sound-apart, marked-made, held-made, configured-made, active-made, quarantined-made}
 
 -- What a passed check of a claim says.
 pub record ClaimPassed (d : Device) (i a : ℕ) (rings : List ℕ) : Type 0 where

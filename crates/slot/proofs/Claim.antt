@@ -15,7 +15,7 @@ use Rattle.ring.specs.Rings.{offerOk}
 use Rattle.answer.specs.declared.Answer.{Answer}
 use Rattle.answer.specs.declared.Answer.the-variants as answer
 use Rattle.answer.specs.declared.Check.the-variants.{Pass}
-use Rattle.answer.specs.Answer.{number, isAccepted}
+use Rattle.answer.specs.Answer.{number, isAccepted, isLost}
 use Rattle.command.specs.declared.Sent.the-variants as sent
 use Rattle.command.specs.Command.{outcomeAt}
 use Rattle.command.specs.Course.{Course, words, result, played}
@@ -45,7 +45,6 @@ use Rattle.device.specs.Check.{recordCheck}
 use Rattle.device.specs.Calls.{onCheck}
 use Rattle.device.specs.Claim.{claimCheck, pendingOf, claimIn, claimRecord, claim}
 use Rattle.device.proofs.Laws.{Passed, passed, pass-if}
-use Rattle.device.proofs.Made.{isLost}
 use Rattle.device.proofs.Kept.{claim-moves, claim-stays}
 use Rattle.slot.specs.Call.{Buffers, Asked, claims, left}
 use Rattle.slot.specs.Plain.{Setting, Plain, plainRoute, isHeldDci, without, settingOf, heldAfter, anew, observed, seen}

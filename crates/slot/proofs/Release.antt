@@ -13,7 +13,7 @@ use Rattle.laws.proofs.Cases.{Decided, decided, or-left-false, or-right-false}
 use Rattle.answer.specs.declared.Answer.{Answer}
 use Rattle.answer.specs.declared.Answer.the-variants as answer
 use Rattle.answer.specs.declared.Check.the-variants.{Pass}
-use Rattle.answer.specs.Answer.{number, isAccepted}
+use Rattle.answer.specs.Answer.{number, isAccepted, isLost}
 use Rattle.command.specs.Course.{Course, ends, sends, words, result, played}
 use Rattle.command.proofs.Operations.{ByteOperands, EachCommand}
 use Rattle.block.specs.Promises.{someDci}
@@ -39,7 +39,6 @@ use Rattle.device.specs.Left.{Left, refused, ended}
 use Rattle.device.specs.Check.{recordCheck}
 use Rattle.device.specs.Release.{releaseCheck, releaseIn, releaseRecord, release}
 use Rattle.device.proofs.Laws.{Passed, passed}
-use Rattle.device.proofs.Made.{isLost}
 use Rattle.device.proofs.Kept.{release-moves, release-stays}
 use Rattle.slot.specs.Call.{Buffers, Asked, releases, left}
 use Rattle.slot.specs.Plain.{Plain, isHeldDci, without, holds, heldAfter, isLoose, anew, seen}

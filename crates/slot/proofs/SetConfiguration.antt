@@ -43,7 +43,6 @@ use Rattle.device.specs.Left.{Left, refused, ended}
 use Rattle.device.specs.Check.{recordCheck}
 use Rattle.device.specs.SetConfiguration.{settingsIn, setRecord, setConfiguration}
 use Rattle.device.proofs.Laws.{Passed, passed}
-use Rattle.device.proofs.Made.{isLost}
 use Rattle.device.proofs.Kept.{set-moves, set-stays}
 use Rattle.slot.specs.Call.{Buffers, Asked, configures, left}
 use Rattle.slot.specs.Plain.{Plain, heldQueues, isHeldDci, heldAfter, anew, seen}
