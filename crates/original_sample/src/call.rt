@@ -1,20 +1,47 @@
-// The calls of the sample, each with all that it is given.
+// The calls of the sample, each with all that it is given: the functions that C calls.
 use super::read;
 use super::show;
-use bring_up::BringUpArgs;
-use def::SlotId;
-use device::Called;
 
-// The answer, and the record's image.
-fn finish(called: Called, image: &mut [u64]) {
-    let a = called.answer;
-    show::answer(
-        answer::answer_number(a),
-        answer::answer_code(a),
-        called.count,
-    );
-    let d = called.device;
-    image::encode(d, image);
+// The numbers of a bring-up.
+struct Numbers {
+    slot: u8,
+    n: usize,
+    speed: u8,
+    has_parent: u8,
+    parent: usize,
+    port: u8,
+    root_port: u8,
+    ring: u64,
+    header: usize,
+    packet: u8,
+    value: u8,
+}
+
+fn read_numbers() -> Numbers {
+    let slot = read::byte();
+    let n = read::index();
+    let speed = read::byte();
+    let has_parent = read::byte();
+    let parent = read::index();
+    let port = read::byte();
+    let root_port = read::byte();
+    let ring = read::next();
+    let header = read::index();
+    let packet = read::byte();
+    let value = read::byte();
+    Numbers {
+        slot: slot,
+        n: n,
+        speed: speed,
+        has_parent: has_parent,
+        parent: parent,
+        port: port,
+        root_port: root_port,
+        ring: ring,
+        header: header,
+        packet: packet,
+        value: value,
+    }
 }
 
 fn bring_up(
@@ -24,41 +51,7 @@ fn bring_up(
     log: &mut [u32],
     outcomes: &[u8],
 ) {
-    let slot = read::byte();
-    let n = read::index();
-    let speed = read::byte();
-    let has_parent = read::next();
-    let parent = read::index();
-    let port = read::byte();
-    let root_port = read::byte();
-    let ring = read::next();
-    let header = read::index();
-    let packet = read::byte();
-    let value = read::byte();
-    let a = BringUpArgs {
-        slot: SlotId(slot),
-        n: n,
-        speed: speed,
-        has_parent: has_parent == 1,
-        parent: parent,
-        port: port,
-        root_port: root_port,
-        ring: ring,
-        header: header,
-        packet: packet,
-        value: value,
-    };
-    bring_up_with(image, ctx, routes, log, outcomes, a);
-}
-
-fn bring_up_with(
-    image: &mut [u64],
-    ctx: &mut [u8],
-    routes: &mut [u64],
-    log: &mut [u32],
-    outcomes: &[u8],
-    a: BringUpArgs,
-) {
+    let a = read_numbers();
     let mut hubs = [0u64; 16];
     read::words(&mut hubs);
     let mut list = [0u32; 256];
@@ -67,7 +60,8 @@ fn bring_up_with(
     let list_len = read::index();
     if hubs_len <= 16 {
         if list_len <= 256 {
-            let called = bring_up::bring_up(
+            bring_up_with(
+                image,
                 ctx,
                 routes,
                 log,
@@ -76,9 +70,41 @@ fn bring_up_with(
                 &hubs[0..hubs_len],
                 &list[0..list_len],
             );
-            finish(called, image);
         }
     }
+}
+
+fn bring_up_with(
+    image: &mut [u64],
+    ctx: &mut [u8],
+    routes: &mut [u64],
+    log: &mut [u32],
+    outcomes: &[u8],
+    a: Numbers,
+    hubs: &[u64],
+    list: &[u32],
+) {
+    let r = xhci_device::xhci_device_bring_up(
+        image,
+        ctx,
+        routes,
+        log,
+        outcomes,
+        hubs,
+        list,
+        a.slot,
+        a.n,
+        a.speed,
+        a.has_parent,
+        a.parent,
+        a.port,
+        a.root_port,
+        a.ring,
+        a.header,
+        a.packet,
+        a.value,
+    );
+    show::answer(r);
 }
 
 fn claim(image: &mut [u64], ctx: &mut [u8], routes: &mut [u64], log: &mut [u32], outcomes: &[u8]) {
@@ -88,8 +114,8 @@ fn claim(image: &mut [u64], ctx: &mut [u8], routes: &mut [u64], log: &mut [u32],
     read::words(&mut rings);
     let rings_len = read::index();
     if rings_len <= 32 {
-        let d = image::decode(image);
-        let called = d.claim(
+        let r = xhci_device::xhci_device_claim(
+            image,
             ctx,
             routes,
             log,
@@ -98,7 +124,7 @@ fn claim(image: &mut [u64], ctx: &mut [u8], routes: &mut [u64], log: &mut [u32],
             alternate,
             &rings[0..rings_len],
         );
-        finish(called, image);
+        show::answer(r);
     }
 }
 
@@ -110,9 +136,8 @@ fn release(
     outcomes: &[u8],
 ) {
     let interface = read::byte();
-    let d = image::decode(image);
-    let called = d.release(ctx, routes, log, outcomes, interface);
-    finish(called, image);
+    let r = xhci_device::xhci_device_release(image, ctx, routes, log, outcomes, interface);
+    show::answer(r);
 }
 
 fn set_configuration(
@@ -123,9 +148,8 @@ fn set_configuration(
     outcomes: &[u8],
 ) {
     let value = read::byte();
-    let d = image::decode(image);
-    let called = d.set_configuration(ctx, routes, log, outcomes, value);
-    finish(called, image);
+    let r = xhci_device::xhci_device_set_configuration(image, ctx, routes, log, outcomes, value);
+    show::answer(r);
 }
 
 fn hub_update(
@@ -136,11 +160,19 @@ fn hub_update(
     outcomes: &[u8],
 ) {
     let ports = read::byte();
-    let multi = read::next();
+    let multi = read::byte();
     let ns = read::word();
-    let d = image::decode(image);
-    let called = d.hub_update(ctx, routes, log, outcomes, ports, multi == 1, ns);
-    finish(called, image);
+    let r = xhci_device::xhci_device_hub_update(
+        image,
+        ctx,
+        routes,
+        log,
+        outcomes,
+        ports,
+        multi,
+        ns,
+    );
+    show::answer(r);
 }
 
 fn run(image: &mut [u64], ctx: &mut [u8], routes: &mut [u64], log: &mut [u32], outcomes: &[u8]) {

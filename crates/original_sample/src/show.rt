@@ -1,17 +1,18 @@
 // What a call left, on standard output.
 use libc::STDOUT_FILENO;
+use xhci_device::Answered;
 
 pub fn text(s: &[u8]) {
     io::write_all(STDOUT_FILENO, s);
 }
 
-pub fn answer(number: u8, code: u8, count: usize) {
+pub fn answer(a: Answered) {
     text(b"answer ");
-    io::print_decimal(STDOUT_FILENO, number as u64);
+    io::print_decimal(STDOUT_FILENO, a.answer as u64);
     text(b" ");
-    io::print_decimal(STDOUT_FILENO, code as u64);
+    io::print_decimal(STDOUT_FILENO, a.code as u64);
     text(b" ");
-    io::print_decimal(STDOUT_FILENO, count as u64);
+    io::print_decimal(STDOUT_FILENO, a.count as u64);
     text(b"\n");
 }
 

@@ -6,5 +6,11 @@ mod record;
 mod release;
 mod returned;
 mod set_configuration;
+mod sound;
 
+pub use claim::xhci_device_claim;
+pub use hub_update::xhci_device_hub_update;
+pub use new_record::xhci_device_bring_up;
+pub use release::xhci_device_release;
 pub use returned::Answered;
+pub use set_configuration::xhci_device_set_configuration;

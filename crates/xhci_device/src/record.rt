@@ -1,7 +1,6 @@
 // What a caller asks of a record.
 ghost use mathlib.Core.Path.{_≡_};
 ghost use mathlib.Core.Bool.{_&&_};
-ghost use Rattle.device.specs.Sound.{sound};
 ghost use Rattle.image.specs.Image.{WORDS, decode, isImage};
 
 // How many words an image has.
@@ -21,16 +20,4 @@ pub extern "C" fn xhci_device_is_usable(image: &[u64]) -> bool
     }
     let d = image::decode(image);
     d.usable
-}
-
-// Whether a record is one that the calls can have left.
-#[no_mangle]
-pub extern "C" fn xhci_device_is_sound(image: &[u64]) -> bool
-    ensures { λ r. ⌜ r ≡ isImage (now (image .entry)) && sound (decode (now (image .entry))) ⌝ }
-{
-    if !image::is_image(image) {
-        return false;
-    }
-    let d = image::decode(image);
-    d.sound()
 }

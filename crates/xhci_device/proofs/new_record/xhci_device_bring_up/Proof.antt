@@ -1,21 +1,10 @@
 use Rattle.image.specs.Image.{isSet}
-use Rattle.xhci_device.proofs.Steps.{cross-none, cross-done}
-use borrow.Author.Tests.{eq-eqb, ne-eqb}
 use borrow.Author.Needs.{needs}
 use Rattle.xhci_device.proofs.new_record.xhci_device_bring_up.Statement.{statement}
 use Rattle.xhci_device.proofs.new_record.xhci_device_bring_up.Tie as tie
 
-no-record-requires : tie.Need-no-record-requires
-no-record-requires c κs = search needs
-
-returns : tie.Need-returns
-returns c = cross-none _ _ _ _ _ _ _ (ne-eqb _ _ (c .before .if1 .taken)) (c .no-record .ensures)
-
-bring-up-requires : tie.Need-bring-up-requires
-bring-up-requires c κs = search needs
-
-finish-requires : tie.Need-finish-requires
-finish-requires c κs = search needs
+bring-up-into-requires : tie.Need-bring-up-into-requires
+bring-up-into-requires c κs = search needs
 
 same-length : tie.Need-same-length
 same-length c = search needs
@@ -29,20 +18,11 @@ same-length-3 c = search needs
 same-length-4 : tie.Need-same-length-4
 same-length-4 c = search needs
 
-returns-2 : tie.Need-returns-2
+returns : tie.Need-returns
 unfolding isSet
-returns-2 c = cross-done _ _ _ _ _ _ (c .before .before .before .before .before .before .before .before .before .before .bring-up .result) _ _ _ _ _ (eq-eqb _ _ (c .before .before .before .before .before .before .before .before .before .before .before .before .before .before .if1 .left)) (c .before .before .before .before .before .before .before .before .before .before .bring-up .ensures) (c .before .before .finish .ensures .0) (c .before .before .finish .ensures .1) (c .before .before .finish .ensures .2)
+returns c = c .before .before .before .before .before .before .before .before .bring-up-into .ensures
 
 pub xhci-device-bring-up-spec : {M : Type 1} → statement M
 xhci-device-bring-up-spec =
     tie.close
-    (tie.spec
-    no-record-requires
-    returns
-    bring-up-requires
-    finish-requires
-    same-length
-    same-length-2
-    same-length-3
-    same-length-4
-    returns-2)
+    (tie.spec bring-up-into-requires same-length same-length-2 same-length-3 same-length-4 returns)

@@ -1,7 +1,7 @@
 use borrow.Author.Tests.{not-true, not-false}
 use borrow.Author.Needs.{needs}
-use Rattle.xhci_device.proofs.record.xhci_device_is_sound.Statement.{statement}
-use Rattle.xhci_device.proofs.record.xhci_device_is_sound.Tie as tie
+use Rattle.xhci_device.proofs.sound.xhci_device_is_sound.Statement.{statement}
+use Rattle.xhci_device.proofs.sound.xhci_device_is_sound.Tie as tie
 
 is-image-requires : tie.Need-is-image-requires
 is-image-requires c κs = search needs
