@@ -1,3 +1,4 @@
 pub mod Examples
 pub mod Laws
+mod Marks
 pub mod Next

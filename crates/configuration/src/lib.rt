@@ -2,7 +2,7 @@
 ghost use mathlib.Core.Path.{_≡_};
 ghost use lib.ListN.{drop};
 ghost use Rattle.configuration.specs.Lookup.{endpointRun, ofInterface, isAlternate, findEndpoints};
-ghost use Rattle.configuration.specs.Valid.{beginsWithConfiguration, wordsOk, runFits, runsFit, configurations, hasInterface, lastAlternate, interfaces, validList};
+ghost use Rattle.configuration.specs.Valid.{beginsWithConfiguration, wordsOk, runFits, runsFit, configurations, interfaces, validList};
 
 // Where the endpoint words of an alternate setting stand.
 pub enum Found {
@@ -128,41 +128,22 @@ pub fn count_configurations(list: &[u32]) -> usize
     count
 }
 
-// Whether an alternate word of this interface stands from an index on.
-fn has_interface(list: &[u32], from: usize, interface: u8) -> bool
-    ensures { λ r. ⌜ r ≡ hasInterface interface (drop from (now (list .entry))) ⌝ }
-{
-    let mut i = from;
-    while i < list.len() {
-        let found = of_interface(list[i], interface);
-        i += 1;
-        if found {
-            return true;
-        }
-    }
-    false
-}
-
-// Whether a word is the last alternate word of its interface; `next` is the index after it.
-fn is_last_alternate(list: &[u32], next: usize, w: u32) -> bool
-    ensures { λ r. ⌜ r ≡ lastAlternate w (drop next (now (list .entry))) ⌝ }
-{
-    if descriptor::word_kind(w) != descriptor::ALTERNATE {
-        return false;
-    }
-    !has_interface(list, next, descriptor::interface_number(w))
-}
-
+// The distinct interfaces, each counted at its last alternate word: from the end of the list, where it has no mark yet.
 fn count_interfaces(list: &[u32]) -> usize
     ensures { λ r. ⌜ r ≡ interfaces (now (list .entry)) ⌝ }
 {
+    let mut marks = [false; 256];
     let mut count = 0;
-    let mut i = 0;
-    while i < list.len() {
+    let mut i = list.len();
+    while 0 < i {
+        i -= 1;
         let w = list[i];
-        i += 1;
-        if is_last_alternate(list, i, w) {
-            count += 1;
+        if descriptor::word_kind(w) == descriptor::ALTERNATE {
+            let interface = descriptor::interface_number(w) as usize;
+            if !marks[interface] {
+                marks[interface] = true;
+                count += 1;
+            }
         }
     }
     count
