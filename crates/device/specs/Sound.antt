@@ -1,17 +1,15 @@
 -- 01's sound record.
 use Prim.Native.Nat.{ℕ}
 use mathlib.Core.Bool.{Bool, not, _&&_, _||_}
-use mathlib.Core.List.{List, [], _∷_, _++_}
+use mathlib.Core.List.{List, _∷_, _++_}
 use lib.Dec.{eqb, leb}
-use lib.ListN.{length, take}
-use Rattle.laws.proofs.Distinct.{distinct}
+use lib.ListN.{take}
 use Rattle.def.specs.Speed.{speedKnown}
 use Rattle.configuration.specs.Valid.{validList}
-use Rattle.ring.specs.Rings.{ringsOk}
-use Rattle.endpoint.specs.declared.entry.Endpoint.{Endpoint}
-use Rattle.endpoint.specs.Endpoint.{addresses, addressesFit}
+use Rattle.endpoint.specs.Endpoint.{addresses, ringsOf, addressesFit}
 use Rattle.settings.specs.Held.{settingsSound}
 use Rattle.settings.specs.Match.{endpointsMatch}
+use Rattle.checks.specs.Rings.{ringsFit}
 use Rattle.device.specs.declared.record.Device.{Device}
 use Rattle.device.specs.Device.{listOf, cellsIn, heldOf, quarantinedOf}
 
@@ -26,19 +24,13 @@ unfoldable pub countsFit : Device → Bool
 countsFit d =
     leb (d .«list_len») 256 && (leb (d .«ep_count») 30 && (leb (d .«held_count») 32 && leb (d .«quarantined_count») 61))
 
-unfoldable pub ringsOf : List Endpoint → List ℕ
-ringsOf [] = []
-ringsOf (e ∷ es) = e .ring ∷ ringsOf es
-
 -- Live, control and quarantined rings.
 unfoldable pub allRings : Device → List ℕ
 allRings d = ringsOf (take (d .«ep_count») (d .eps)) ++ (d .control ∷ quarantinedOf d)
 
--- Distinct nonzero multiples of 16, at most 61, and none quarantined while the record is usable.
+-- They fit, and none is quarantined while the record is usable.
 unfoldable pub ringsSound : Device → Bool
-ringsSound d =
-    leb (length (allRings d)) 61
-    && (ringsOk (allRings d) && (distinct (allRings d) && (not (d .usable) || eqb (d .«quarantined_count») 0)))
+ringsSound d = ringsFit (allRings d) && (not (d .usable) || eqb (d .«quarantined_count») 0)
 
 unfoldable pub sound : Device → Bool
 sound d =

@@ -13,8 +13,8 @@ pending-of-requires c κs = claim-passed _ _ _ _ _ _ _ (c .before .before .befor
 claim-args-requires : tie.Need-claim-args-requires
 claim-args-requires c κs = claim-passed _ _ _ _ _ _ _ (c .before .before .before .before .before .before .before .pre) .counts
 
-list-claim-requires : tie.Need-list-claim-requires
-list-claim-requires c κs = let f = claim-passed _ _ _ _ _ _ _ (c .before .before .before .before .before .before .before .before .before .before .before .before .before .pre) in (claim-room _ _ _ _ _ _ _ (c .before .before .before .before .before .claim-args .ensures) (f .spaced), (c .before .before .before .before .before .claim-args .ensures .pending .room, (f .room, f .list)))
+claim-listed-requires : tie.Need-claim-listed-requires
+claim-listed-requires c κs = let f = claim-passed _ _ _ _ _ _ _ (c .before .before .before .before .before .before .before .before .before .before .before .before .before .pre) in (claim-room _ _ _ _ _ _ _ (c .before .before .before .before .before .claim-args .ensures) (f .spaced), (c .before .before .before .before .before .claim-args .ensures .pending .room, (f .room, f .list)))
 
 claim-record-requires : tie.Need-claim-record-requires
 claim-record-requires c κs = let f = claim-passed _ _ _ _ _ _ _ (c .before .before .before .before .before .before .before .before .before .before .before .before .before .before .before .before .before .before .before .before .pre) in ((f .held, f .fits), (c .before .before .before .before .before .before .before .before .before .before .before .before .before .before .cells-in .ensures, f .free, c .before .before .before .before .before .before .before .before .before .before .before .before .claim-args .ensures .pending))
@@ -30,7 +30,7 @@ same-length-3 c = search needs
 
 returns : tie.Need-returns
 unfolding listOf
-returns c = claim-left _ _ _ _ _ _ _ _ _ _ _ _ _ _ _ _ (c .before .before .before .before .before .before .before .before .before .before .before .before .before .before .before .cells-in .ensures) (c .before .before .before .before .before .before .before .before .before .before .before .before .before .before .pending-of .ensures) (c .before .before .before .before .before .before .before .before .before .before .before .before .before .claim-args .ensures) (c .before .before .before .before .before .before .before .list-claim .ensures) (c .claim-record .ensures _ _ _ (c .before .before .before .before .before .before .before .before .before .before .before .before .before .before .pending-of .ensures))
+returns c = claim-left _ _ _ _ _ _ _ _ _ _ _ _ _ _ _ _ (c .before .before .before .before .before .before .before .before .before .before .before .before .before .before .before .cells-in .ensures) (c .before .before .before .before .before .before .before .before .before .before .before .before .before .before .pending-of .ensures) (c .before .before .before .before .before .before .before .before .before .before .before .before .before .claim-args .ensures) (c .before .before .before .before .before .before .before .claim-listed .ensures) (c .claim-record .ensures _ _ _ (c .before .before .before .before .before .before .before .before .before .before .before .before .before .before .pending-of .ensures))
 
 pub claim-run-spec : {M : Type 1} → statement M
-claim-run-spec = tie.close (tie.spec cells-in-requires pending-of-requires claim-args-requires list-claim-requires claim-record-requires same-length same-length-2 same-length-3 returns)
+claim-run-spec = tie.close (tie.spec cells-in-requires pending-of-requires claim-args-requires claim-listed-requires claim-record-requires same-length same-length-2 same-length-3 returns)

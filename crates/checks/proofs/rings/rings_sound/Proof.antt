@@ -1,0 +1,28 @@
+use mathlib.Core.Path.{_∙_}
+use borrow.Author.Needs.{needs}
+use borrow.Author.Tests.{le-leb, lt-leb}
+use Rattle.checks.proofs.rings.rings_sound.Statement.{statement}
+use Rattle.checks.proofs.rings.rings_sound.Tie as tie
+
+add-count : tie.Need-add-count
+add-count c = search needs
+
+add-count-2 : tie.Need-add-count-2
+add-count-2 c = search needs
+
+all-rings-requires : tie.Need-all-rings-requires
+all-rings-requires c κs = search needs
+
+returns : tie.Need-returns
+returns c = rw (c .before .all-rings .ensures .1, lt-leb _ _ (c .if1 .taken))
+
+rings-fit-requires : tie.Need-rings-fit-requires
+rings-fit-requires c κs = search needs
+
+returns-2 : tie.Need-returns-2
+returns-2 c = rw (c .before .before .all-rings .ensures .2) at (c .rings-fit .ensures) ∙ rw (c .before .before .all-rings .ensures .1, le-leb _ _ (c .before .if1 .left))
+
+pub rings-sound-spec : {M : Type 1} → statement M
+rings-sound-spec =
+    tie.close
+    (tie.spec add-count add-count-2 all-rings-requires returns rings-fit-requires returns-2)
