@@ -38,8 +38,9 @@ use Rattle.phase.specs.End.{answerOf, configureFailed}
 use Rattle.release.specs.Release.{releaseContext, releasePublished, releasePublish, releaseResume, releaseConfigure, releaseCourse}
 use Rattle.claim.specs.Claim.{claimContext, undoContext, claimPublished, claimPublish, claimSwitchBack, claimUndone, claimUndo, claimSwitch, claimResume, claimConfigure, claimCourse}
 use Rattle.set_configuration.specs.SetConfiguration.{dropContext, restoreContext, valueContext, setEvaluate, setPublished, setPublish, setRestored, setRestore, setSwitch, setResume, setConfigure, setCourse}
-use Rattle.device.specs.Calls.{onCheck, thinkValue, hubContext, hubCourse, hubLeft, hubUpdate}
-use Rattle.device.specs.Check.{recordCheck, isThought, hubCheck}
+use Rattle.device.specs.Calls.{onCheck, hubContext, hubCourse, hubLeft, hubUpdate}
+use Rattle.checks.specs.Think.{isThought, thinkValue}
+use Rattle.device.specs.Check.{recordCheck, hubCheck}
 use Rattle.device.specs.Claim.{claimCheck, pendingOf, claimIn, quarantines, claimRecord, claim}
 use Rattle.device.specs.Device.{listOf, cellsIn, heldOf, quarantinedOf, withCells, withHeld, withConfiguration, withQuarantined, unusable}
 use Rattle.device.specs.Left.{Left, refused, marked, ended}

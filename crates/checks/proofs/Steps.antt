@@ -1,13 +1,18 @@
 -- One turn of each loop over rings.
 use Prim.Native.Nat.{ℕ, suc, _+_, _-_, _≤_, _<_}
 use mathlib.Core.Path.{_≡_, refl, ap, _∙_}
+use mathlib.Core.Bool.{Bool, _&&_}
 use mathlib.Core.List.{List, [], _∷_, _++_, append-assoc}
 use native.Mathlib.Numerals.{add-one}
 use native.Mathlib.Omega.{arith}
+use borrow.Author.Tests.{le-leb}
 use lib.ListN.{length, getD, set, take, length-append, length-set}
 use lib.Seq.{set-append-seam, take-suc, take-suc-set, take-set-le, length-take-le}
+use Rattle.laws.proofs.Distinct.{distinct}
+use Rattle.ring.specs.Rings.{ringsOk}
 use Rattle.endpoint.specs.declared.entry.Endpoint.{Endpoint}
 use Rattle.endpoint.specs.Endpoint.{blank, ringsOf, padded}
+use Rattle.checks.specs.Rings.{ringsFit}
 
 pub rings-length : (es : List Endpoint) → length (ringsOf es) ≡ length es
 unfolding ringsOf
@@ -96,6 +101,11 @@ all-done {live} {l} {n} {control} {q} {rings} {i} m a s h e k =
     let f : length q ≡ 61 = a .full in
     let t : length (take m q) ≡ m = length-take-le m q (omega arith) in
     (a .room, simp length-append (omega arith), rw (← s, ← e) (a .written))
+
+-- whether they fit, as the code tests them
+pub fit-tested : (l rings : List ℕ) (n : ℕ) (fit : Bool) → length l ≡ n → take n rings ≡ l → n ≤ 61 →
+    fit ≡ (ringsOk (take n rings) && distinct (take n rings)) → ringsFit l ≡ fit
+fit-tested l rings n fit e t h f = rw (f, t, e, le-leb n 61 h)
 
 -- one more ring at the end of an array
 padded-put :

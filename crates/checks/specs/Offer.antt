@@ -1,5 +1,6 @@
--- The rings offered for the endpoint words of an alternate setting.
+-- What a claim asks of a setting and of the rings offered for its endpoint words, and a release of a setting.
 use Prim.Native.Nat.{ℕ}
+use mathlib.Core.Bool.{_||_}
 use mathlib.Core.List.{List}
 use lib.ListN.{length}
 use Rattle.answer.specs.declared.Answer.the-variants as answer
@@ -9,7 +10,7 @@ use Rattle.answer.specs.Check.{unless}
 use Rattle.configuration.specs.Lookup.{findEndpoints}
 use Rattle.ring.specs.Rings.{offerOk}
 use Rattle.endpoint.specs.declared.cells.Cells.{Cells}
-use Rattle.settings.specs.Held.{isFound, settingWords}
+use Rattle.settings.specs.Held.{Held, isHeld, isFound, settingWords}
 use Rattle.settings.specs.Match.{addressesFree}
 
 -- 9, 10, of endpoint words, beside the endpoints, control's ring and the quarantined ones of a record.
@@ -23,3 +24,8 @@ abbrev pub offerCheck : List ℕ → ℕ → ℕ → Cells → List ℕ → ℕ 
 offerCheck list interface alternate c rings control quarantined =
     unless (isFound (findEndpoints list interface alternate)) answer.NotFound
     (wordsCheck (settingWords list interface alternate) interface c rings control quarantined)
+
+-- 8, for an interface that is not held and has no alternate 0.
+abbrev pub heldCheck : List ℕ → List Held → ℕ → Check
+heldCheck list hs interface =
+    unless (isHeld interface hs || isFound (findEndpoints list interface 0)) answer.NotFound Pass

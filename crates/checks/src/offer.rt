@@ -4,12 +4,13 @@ use answer::Check;
 use configuration::Found;
 use endpoint::Cells;
 ghost use mathlib.Core.Path.{_≡_};
-ghost use Prim.Native.Nat.{_≤_};
+ghost use mathlib.Core.List.{List};
+ghost use Prim.Native.Nat.{ℕ, _≤_};
 ghost use lib.ListN.{take};
 ghost use Rattle.configuration.specs.Lookup.{findEndpoints};
 ghost use Rattle.endpoint.specs.Cells.{pendingRings};
-ghost use Rattle.settings.specs.Held.{isFound, settingWords};
-ghost use Rattle.checks.specs.Offer.{wordsCheck, offerCheck};
+ghost use Rattle.settings.specs.Held.{heldIn, isFound, settingWords};
+ghost use Rattle.checks.specs.Offer.{wordsCheck, offerCheck, heldCheck};
 
 // 9, 10, of the words that lookup found.
 fn words_check(
@@ -104,7 +105,7 @@ pub fn list_rings(
 }
 
 // Whether an interface has an alternate 0.
-pub fn has_alternate(list: [u32; 256], n: usize, interface: u8) -> bool
+fn has_alternate(list: [u32; 256], n: usize, interface: u8) -> bool
     requires { ⌜ n ≤ 256 ⌝ }
     ensures { λ r. ⌜ r ≡ isFound (findEndpoints (take n list) interface 0) ⌝ }
 {
@@ -113,4 +114,24 @@ pub fn has_alternate(list: [u32; 256], n: usize, interface: u8) -> bool
         Found::Endpoints { .. } => true,
         Found::NotFound => false,
     }
+}
+
+// 8, of an interface to be released.
+pub fn held_check(
+    list: [u32; 256],
+    n: usize,
+    interfaces: [u8; 32],
+    held: usize,
+    interface: u8,
+) -> Check
+    requires { ⌜ (n ≤ 256) × (held ≤ 32) ⌝ }
+    ensures { λ r. ⌜ ((alternates : List ℕ) → r ≡ heldCheck (take n list) (heldIn held interfaces alternates) interface) ⌝ }
+{
+    if settings::is_held(interfaces, held, interface) {
+        return Check::Pass;
+    }
+    if has_alternate(list, n, interface) {
+        return Check::Pass;
+    }
+    Check::Refuse(Answer::NotFound)
 }

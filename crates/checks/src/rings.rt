@@ -8,7 +8,7 @@ ghost use lib.ListN.{length, take};
 ghost use Rattle.laws.proofs.Distinct.{distinct};
 ghost use Rattle.ring.specs.Rings.{ringsOk};
 ghost use Rattle.endpoint.specs.Endpoint.{ringsOf, padded};
-ghost use Rattle.checks.specs.Rings.{ringsFit};
+ghost use Rattle.checks.specs.Rings.{soundRings};
 
 // The rings of the first n endpoints.
 fn live_rings(eps: [Endpoint; 30], n: usize) -> [u64; 92]
@@ -60,6 +60,7 @@ fn rings_fit(rings: [u64; 92], n: usize) -> bool
 
 // Whether the rings of n endpoints, control's and m quarantined ones may stand together.
 pub fn rings_sound(
+    usable: bool,
     eps: [Endpoint; 30],
     n: usize,
     control: u64,
@@ -67,14 +68,20 @@ pub fn rings_sound(
     m: usize,
 ) -> bool
     requires { ⌜ (n ≤ 30) × (m ≤ 61) ⌝ }
-    ensures { λ r. ⌜ r ≡ ringsFit (ringsOf (take n eps) ++ (control ∷ take m quarantined)) ⌝ }
+    ensures { λ r. ⌜ r ≡ soundRings usable m (ringsOf (take n eps) ++ (control ∷ take m quarantined)) ⌝ }
 {
     let count = n + 1 + m;
     let rings = all_rings(eps, n, control, quarantined, m);
     if 61 < count {
         return false;
     }
-    rings_fit(rings, count)
+    if !rings_fit(rings, count) {
+        return false;
+    }
+    if !usable {
+        return true;
+    }
+    m == 0
 }
 
 // The first n of some rings as all that are quarantined.

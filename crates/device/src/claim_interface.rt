@@ -66,14 +66,6 @@ fn claim_check(
     }
 }
 
-fn pending_of(d: Device, interface: u8, alternate: u8, rings: &[u64]) -> [u64; 30]
-    requires { ⌜ countsFit d ≡ true ⌝ }
-    ensures { λ r. ⌜ r ≡ pendingOf d interface alternate (now (rings .entry)) ⌝ }
-{
-    let list = d.list;
-    checks::list_rings(list, d.list_len, interface, alternate, rings)
-}
-
 fn claim_args(d: Device, c: Cells, interface: u8, alternate: u8, pending: [u64; 30]) -> ClaimArgs
     requires { ⌜ countsFit d ≡ true ⌝ }
     ensures { λ r. ⌜ ClaimAs r d c interface alternate pending ⌝ }
@@ -170,10 +162,10 @@ fn claim_run(
     requires { ⌜ recordCheck d (length (now ctx)) (length (now routes)) (length (now log)) (claimCheck d interface alternate (now rings)) ≡ Pass ⌝ }
     ensures { λ r. ⌜ leaves r (now (ctx .exit)) (now (routes .exit)) (now (log .exit)) ≡ ended (claimRecord d interface alternate (now (rings .entry))) (played (now (outcomes .entry)) 0 (claimCourse (claimIn d interface alternate (now (rings .entry))) (now (ctx .entry)) (now (routes .entry))) (now (log .entry))) ⌝ }
 {
-    let c = cells::cells_in(d);
-    let pending = pending_of(d, interface, alternate, rings);
-    let a = claim_args(d, c, interface, alternate, pending);
     let list = d.list;
+    let c = cells::cells_in(d);
+    let pending = checks::list_rings(list, d.list_len, interface, alternate, rings);
+    let a = claim_args(d, c, interface, alternate, pending);
     let q = a.pending;
     let e = claim::claim_listed(ctx, routes, log, outcomes, a, list, d.list_len);
     let answer = e.answer;

@@ -3,7 +3,6 @@ use super::cells;
 use super::record::Called;
 use super::record::Device;
 use super::update;
-use answer::Answer;
 use answer::Check;
 use endpoint::Cells;
 use endpoint::Owner;
@@ -28,29 +27,16 @@ ghost use Rattle.device.specs.Sound.{countsFit};
 ghost use Rattle.device.specs.Check.{recordCheck};
 ghost use Rattle.device.specs.Release.{releaseCheck, releaseIn, releaseRecord, release};
 
-// 8, for an unclaimed interface only.
-fn setting_check(d: Device, interface: u8) -> Check
-    requires { ⌜ countsFit d ≡ true ⌝ }
-    ensures { λ r. ⌜ r ≡ releaseCheck d interface ⌝ }
-{
-    let interfaces = d.interfaces;
-    let list = d.list;
-    if settings::is_held(interfaces, d.held_count, interface) {
-        return Check::Pass;
-    }
-    if checks::has_alternate(list, d.list_len, interface) {
-        return Check::Pass;
-    }
-    Check::Refuse(Answer::NotFound)
-}
-
+// The checks, the last of them 8, for an unclaimed interface only.
 fn release_check(d: Device, ctx: usize, routes: usize, log: usize, interface: u8) -> Check
     ensures { λ r. ⌜ r ≡ recordCheck d ctx routes log (releaseCheck d interface) ⌝ }
 {
+    let list = d.list;
+    let interfaces = d.interfaces;
     let check = d.record_check(ctx, routes, log);
     match check {
         Check::Refuse(a) => Check::Refuse(a),
-        Check::Pass => setting_check(d, interface),
+        Check::Pass => { checks::held_check(list, d.list_len, interfaces, d.held_count, interface) }
     }
 }
 

@@ -1,12 +1,11 @@
 use Prim.Native.Nat.{_-_}
 use borrow.Author.Needs.{needs}
 use borrow.Author.Tests.{eq-eqb, ne-eqb}
-use Rattle.device.specs.Check.{isThought, hubCheck}
-use Rattle.device.proofs.record.Device.think_check.Statement.{statement}
-use Rattle.device.proofs.record.Device.think_check.Tie as tie
+use Rattle.checks.specs.Think.{isThought}
+use Rattle.checks.proofs.think.think_check.Statement.{statement}
+use Rattle.checks.proofs.think.think_check.Tie as tie
 
 returns : tie.Need-returns
-unfolding hubCheck
 returns c = rw (ne-eqb _ _ (c .if1 .taken))
 
 think-time-requires : tie.Need-think-time-requires
@@ -19,11 +18,11 @@ enum-told-2 : tie.Need-enum-told-2
 enum-told-2 c = search needs
 
 returns-2 : tie.Need-returns-2
-unfolding hubCheck isThought
+unfolding isThought
 returns-2 c = rw (eq-eqb _ _ (c .before .before .before .if1 .left), ← c .before .before .think-time .ensures, c .enum-told .given .1)
 
 returns-3 : tie.Need-returns-3
-unfolding hubCheck isThought
+unfolding isThought
 returns-3 c = rw (eq-eqb _ _ (c .before .before .before .if1 .left), ← c .before .before .think-time .ensures, c .enum-told2 .given .1)
 
 pub think-check-spec : {M : Type 1} → statement M

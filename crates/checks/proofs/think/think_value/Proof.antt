@@ -1,8 +1,8 @@
 use Prim.Native.Nat.{_-_}
 use borrow.Author.Needs.{needs}
-use Rattle.device.specs.Calls.{thinkValue}
-use Rattle.device.proofs.hub_update.think_value.Statement.{statement}
-use Rattle.device.proofs.hub_update.think_value.Tie as tie
+use Rattle.checks.specs.Think.{thinkValue}
+use Rattle.checks.proofs.think.think_value.Statement.{statement}
+use Rattle.checks.proofs.think.think_value.Tie as tie
 
 think-time-requires : tie.Need-think-time-requires
 think-time-requires c κs = search needs
