@@ -13,13 +13,13 @@ use Rattle.configuration.specs.Valid.{validList}
 use Rattle.ring.specs.Rings.{ringsOk}
 use Rattle.answer.specs.Answer.{number}
 use Rattle.endpoint.specs.Cells.{cellsFrom, cellsOf, noCells}
-use Rattle.endpoint.specs.Endpoint.{addresses, addressesFit, padded}
+use Rattle.endpoint.specs.Endpoint.{addresses, ringsOf, addressesFit, padded}
 use Rattle.settings.specs.Held.{heldIn, interfacesOf, eachSetting, allFound, settingsSound}
 use Rattle.settings.specs.Match.{endpointsMatch}
 use Rattle.settings.proofs.Laws.{match-none}
 use Rattle.device.specs.declared.record.Device.{Device}
 use Rattle.device.specs.Device.{listOf, cellsIn, heldOf, quarantinedOf}
-use Rattle.device.specs.Sound.{placeSound, countsFit, ringsOf, allRings, ringsSound, sound}
+use Rattle.device.specs.Sound.{placeSound, countsFit, allRings, ringsSound, sound}
 use Rattle.bring_up.specs.BringUp.{BringUp, Brought, spacingOf, broughtRecord}
 use Rattle.bring_up.proofs.Checks.{Passed}
 use Rattle.bring_up.proofs.Lists.{valid-facts}

@@ -30,7 +30,7 @@ use Rattle.command.specs.Course.{onSent, then, words, result, played}
 use Rattle.command.specs.Sweep.{resumeFrom, resumeAll, orCode, undoStops, stopFrom, stopAll}
 use Rattle.answer.specs.Answer.{number, codeOf}
 use Rattle.endpoint.specs.Cells.{noCells, withCell, isActive, handleOf, cellsFrom, cellsOf, gathered, endpointAt, endpointsOf, ownersOf, owns, isOwned, tabulated, ownedRings, queuesOf, pendingFrom, pendingRings, claimedRing, claimedOwner, claimedActive, claimedCells, activeFrom, withActive, queueDcis, queueRings}
-use Rattle.endpoint.specs.Endpoint.{addresses, addressesFit, padded}
+use Rattle.endpoint.specs.Endpoint.{addresses, ringsOf, addressesFit, padded}
 use Rattle.endpoint.specs.Order.{addressAt, dciAt, placeOf}
 use Rattle.settings.specs.Held.{heldIn, interfacesOf, alternatesOf, isHeld, alternateOf, withoutSetting, withSetting, foundWords, settingWords, heldWords, isFound, eachSetting, allFound, settingsSound}
 use Rattle.settings.specs.Match.{hasPlace, placesOf, same, eachFrom, eachPlace, ownsPlaces, allOwn, ownersHeld, endpointsMatch, addressesFree}
@@ -38,14 +38,15 @@ use Rattle.phase.specs.End.{answerOf, configureFailed}
 use Rattle.release.specs.Release.{releaseContext, releasePublished, releasePublish, releaseResume, releaseConfigure, releaseCourse}
 use Rattle.claim.specs.Claim.{claimContext, undoContext, claimPublished, claimPublish, claimSwitchBack, claimUndone, claimUndo, claimSwitch, claimResume, claimConfigure, claimCourse}
 use Rattle.set_configuration.specs.SetConfiguration.{dropContext, restoreContext, valueContext, setEvaluate, setPublished, setPublish, setRestored, setRestore, setSwitch, setResume, setConfigure, setCourse}
-use Rattle.device.specs.Calls.{onCheck, thinkValue, hubContext, hubCourse, hubLeft, hubUpdate}
-use Rattle.device.specs.Check.{recordCheck, isThought, hubCheck}
+use Rattle.device.specs.Calls.{onCheck, hubContext, hubCourse, hubLeft, hubUpdate}
+use Rattle.checks.specs.Think.{isThought, thinkValue}
+use Rattle.device.specs.Check.{recordCheck, hubCheck}
 use Rattle.device.specs.Claim.{claimCheck, pendingOf, claimIn, quarantines, claimRecord, claim}
 use Rattle.device.specs.Device.{listOf, cellsIn, heldOf, quarantinedOf, withCells, withHeld, withConfiguration, withQuarantined, unusable}
 use Rattle.device.specs.Left.{Left, refused, marked, ended}
 use Rattle.device.specs.Release.{releaseCheck, releaseIn, releaseRecord, release}
 use Rattle.device.specs.SetConfiguration.{settingsIn, bare, setRecord, setConfiguration}
-use Rattle.device.specs.Sound.{placeSound, countsFit, ringsOf, allRings, ringsSound, sound}
+use Rattle.device.specs.Sound.{placeSound, countsFit, allRings, ringsSound, sound}
 use Rattle.bring_up.specs.BringUp.{spacingOf, bringUpCheck, step, firstConfigurations, nothingRead, readUpTo, bringUpSettings, bringUpSet, bringUpConfigs, bringUpDevice, bringUpHeader, bringUpCourse, broughtRecord, noDevice, broughtLeft, bringUp, slotCheck, deviceCheck, queueCheck, bringUpConfiguration, bringUpPacket, bringUpAddress}
 use Rattle.controller.specs.Controller.{isDone, isDoneWord, controlled, configurationSet}
 use Rattle.controller.specs.Controller as controller

@@ -10,7 +10,7 @@ ghost use mathlib.Core.Path.{_≡_};
 ghost use mathlib.Core.Bool.{cond};
 ghost use mathlib.Core.List.{List, []};
 ghost use Prim.Native.Nat.{ℕ, _+_, _≤_};
-ghost use lib.ListN.{length};
+ghost use lib.ListN.{length, take};
 ghost use Rattle.command.specs.Course.{played};
 ghost use Rattle.settings.specs.Held.{settingWords};
 ghost use Rattle.phase.specs.Arrays.{leaves, queuesIn, Room};
@@ -243,7 +243,7 @@ fn held_words<'a>(list: &'a [u32], held: bool, interface: u8, alternate: u8) -> 
 }
 
 // The same where the words are those that lookup finds in a list.
-pub fn claim_interface(
+fn claim_interface(
     ctx: &mut [u8],
     routes: &mut [u64],
     log: &mut [u32],
@@ -259,4 +259,22 @@ pub fn claim_interface(
     let old_words = held_words(list, a.held, a.interface, a.old_alternate);
     let new_words = settings::setting_words(list, a.interface, a.alternate);
     run_claim(ctx, routes, log, outcomes, a, old_words, new_words)
+}
+
+// The same where the list is the first n words of an array.
+pub fn claim_listed(
+    ctx: &mut [u8],
+    routes: &mut [u64],
+    log: &mut [u32],
+    outcomes: &[u8],
+    a: ClaimArgs,
+    list: [u32; 256],
+    n: usize,
+) -> Ended
+    requires { ⌜ Room (a .spacing) (length (now ctx)) (a .old) (a .all) ⌝ }
+    requires { ⌜ a .pending .count ≤ 30 ⌝ }
+    requires { ⌜ (64 ≤ length (now log)) × (n ≤ 256) ⌝ }
+    ensures { λ r. ⌜ leaves r (now (ctx .exit)) (now (routes .exit)) (now (log .exit)) ≡ played (now (outcomes .entry)) 0 (claimCourse (claimOf a (cond (a .held) (settingWords (take n list) (a .interface) (a .«old_alternate»)) []) (settingWords (take n list) (a .interface) (a .alternate))) (now (ctx .entry)) (now (routes .entry))) (now (log .entry)) ⌝ }
+{
+    claim_interface(ctx, routes, log, outcomes, a, &list[0..n])
 }

@@ -1,13 +1,10 @@
 -- What a claim whose checks have passed may rely on, and what it leaves.
-use Prim.Native.Nat.{ℕ, suc, _+_, _-_, _≤_, _<_}
+use Prim.Native.Nat.{ℕ, _-_, _≤_}
 use mathlib.Core.Path.{_≡_, refl, sym, _∙_}
 use mathlib.Core.Bool.{true, cond}
-use mathlib.Core.List.{List, [], _∷_, _++_, append-assoc}
-use native.Mathlib.Numerals.{add-one}
-use native.Mathlib.Omega.{arith}
+use mathlib.Core.List.{List, []}
 use borrow.Author.Tests.{eq-eqb, ne-eqb}
-use lib.ListN.{length, getD, set, take, length-append, length-set}
-use lib.Seq.{set-append-seam, take-suc, length-take-le}
+use lib.ListN.{length}
 use Rattle.answer.specs.declared.Answer.{Answer}
 use Rattle.answer.specs.declared.Check.the-variants.{Pass}
 use Rattle.answer.specs.Answer.{number}
@@ -17,7 +14,6 @@ use Rattle.context.specs.Place.{Spaced}
 use Rattle.endpoint.specs.declared.cells.Cells.{Cells}
 use Rattle.endpoint.specs.declared.cells.Owner.{Owner}
 use Rattle.endpoint.specs.Cells.{claimedCells, withActive}
-use Rattle.endpoint.specs.Endpoint.{padded}
 use Rattle.settings.specs.Held.{Held, isFound, settingWords, withSetting}
 use Rattle.settings.proofs.Laws.{with-fits}
 use Rattle.phase.specs.declared.Ended.{Ended}
@@ -34,36 +30,6 @@ use Rattle.device.specs.Claim.{claimCheck, pendingOf, claimIn, ClaimAs, 
 use Rattle.device.proofs.Counts.{sound-counts}
 use Rattle.device.proofs.Facts.{none-quarantined}
 use Rattle.device.proofs.Laws.{pass-if, passed}
-
--- one more ring at the end of an array
-padded-put :
-    (n : ℕ) (l : List ℕ) (a : ℕ) → length l < n → set (padded n 0 l) (length l) a ≡ padded n 0 (l ++ (a ∷ []))
-unfolding padded
-padded-put n l a h =
-    let m : n - length l ≡ suc (n - (length l + 1)) = omega arith in
-    let m′ : n - length (l ++ (a ∷ [])) ≡ n - (length l + 1) = simp length-append in
-    rw (m, m′, set-append-seam, append-assoc) refl
-
--- The first i of some rings at the front of an array, zeros after them.
-pub record Filled (rings out : List ℕ) (i : ℕ) : Type 0 where
-  pub full : length rings ≡ 30
-  pub room : length out ≡ 61
-  pub written : out ≡ padded 61 0 (take i rings)
-
--- one more
-pub fill-next : {rings out : List ℕ} {i : ℕ} → Filled rings out i → i < 30 → Filled rings (set out i (getD rings i 0)) (i + 1)
-fill-next {rings} {out} {i} f h =
-    let l : length rings ≡ 30 = f .full in
-    let t : length (take i rings) ≡ i = length-take-le i rings (omega arith) in
-    let s : take (i + 1) rings ≡ take i rings ++ (getD rings i 0 ∷ []) = rw (add-one i) (take-suc rings i 0 (omega arith)) in
-    let p : set (padded 61 0 (take i rings)) (length (take i rings)) (getD rings i 0)
-    ≡ padded 61 0 (take i rings ++ (getD rings i 0 ∷ [])) =
-    padded-put 61 (take i rings) (getD rings i 0) (omega (arith, t)) in
-    record {
-      full = l;
-      room = length-set out i (getD rings i 0) ∙ f .room;
-      written = rw (s, f .written, ← p, t);
-    }
 
 -- other endpoints leave the quarantined rings
 pub quarantined-cells : (c : Cells) (d : Device) → quarantinedOf (withCells c d) ≡ quarantinedOf d

@@ -17,6 +17,7 @@ use Rattle.ring.specs.Rings.{ringsOk}
 use Rattle.endpoint.specs.Endpoint.{addresses, addressesFit}
 use Rattle.settings.specs.Held.{settingsSound}
 use Rattle.settings.specs.Match.{endpointsMatch}
+use Rattle.checks.specs.Rings.{ringsFit}
 use Rattle.device.specs.declared.record.Device.{Device}
 use Rattle.device.specs.Device.{listOf, cellsIn, heldOf, quarantinedOf, unusable}
 use Rattle.device.specs.Sound.{placeSound, countsFit, allRings, ringsSound, sound}
@@ -111,14 +112,14 @@ unfolding ringsSound
 ring-facts d e =
     let rs = allRings d in
     let free = not (d .usable) || eqb (d .«quarantined_count») 0 in
-    let e1 = both (leb (length rs) 61) (ringsOk rs && (distinct rs && free)) e in
-    let e2 = both (ringsOk rs) (distinct rs && free) (e1 .1) in
-    let e3 = both (distinct rs) free (e2 .1) in
+    let e1 = both (ringsFit rs) free e in
+    let e2 = both (leb (length rs) 61) (ringsOk rs && distinct rs) (e1 .0) in
+    let e3 = both (ringsOk rs) (distinct rs) (e2 .1) in
     record {
-      few = leb-true (length rs) 61 (e1 .0);
-      ok = e2 .0;
-      different = e3 .0;
-      free = free-if (d .usable) (d .«quarantined_count») (e3 .1);
+      few = leb-true (length rs) 61 (e2 .0);
+      ok = e3 .0;
+      different = e3 .1;
+      free = free-if (d .usable) (d .«quarantined_count») (e1 .1);
     }
 
 -- what a sound record says

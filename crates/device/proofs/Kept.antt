@@ -26,6 +26,7 @@ use Rattle.settings.specs.Held.{Held, withSetting, withoutSetting, settingWords
 use Rattle.settings.specs.Match.{addressesFree}
 use Rattle.settings.proofs.Laws.{sound-with, sound-without, sound-none, pending-place, match-claimed, match-released, match-none}
 use Rattle.phase.specs.End.{End}
+use Rattle.checks.proofs.Laws.{apart-none, apart-offered, offered-live, apart-claimed, apart-released}
 use Rattle.device.specs.declared.record.Device.{Device}
 use Rattle.device.specs.Device.{listOf, cellsIn, heldOf, quarantinedOf, withCells, withHeld, withConfiguration, withQuarantined}
 use Rattle.device.specs.Sound.{sound}
@@ -38,7 +39,6 @@ use Rattle.device.specs.SetConfiguration.{bare, setRecord, setConfigurat
 use Rattle.device.proofs.Facts.{SoundFacts, none-quarantined}
 use Rattle.device.proofs.Laws.{passed, pass-if}
 use Rattle.device.proofs.Marks.{on-pass}
-use Rattle.device.proofs.Rings.{apart-none, apart-offered, offered-live, apart-claimed, apart-released}
 use Rattle.device.proofs.Updates.{with-cells-quarantined, with-quarantined-quarantined, unusable-quarantined}
 use Rattle.device.proofs.Made.{Made, sound-clean, sound-apart, marked-made, held-made, configured-made, active-made, quarantined-made}
 

@@ -2,14 +2,10 @@
 use Prim.Native.Nat.{ℕ, _+_, _*_, _≤_}
 use mathlib.Core.Path.{_≡_, refl}
 use mathlib.Core.Bool.{Bool, true, false, cond, _&&_}
-use mathlib.Core.List.{List}
 use native.Mathlib.Omega.{arith}
 use borrow.Author.Tests.{eqb-true, leb-true}
 use lib.Dec.{eqb, leb}
 use Rattle.laws.proofs.Tests.{and-left, and-right}
-use lib.ListN.{length}
-use Rattle.laws.proofs.Distinct.{distinct}
-use Rattle.ring.specs.Rings.{ringsOk}
 use Rattle.answer.specs.declared.Answer.{Answer}
 use Rattle.answer.specs.declared.Answer.the-variants as answer
 use Rattle.answer.specs.declared.Check.{Check}
@@ -78,12 +74,3 @@ check-then d ctx routes log next =
     (then-if (eqb ctx (33 * d .spacing)) _ _ answer.ContextLength next
     (then-if (eqb routes (32 * (d .n + 1))) _ _ answer.RoutesLength next
     (then-if (leb 64 log) _ _ answer.LogTooShort next refl)))
-
-and-assoc : (a b c : Bool) → (a && b && c) ≡ (a && (b && c))
-and-assoc true b c = refl
-and-assoc false b c = refl
-
--- the test of rings by their number and one test of them all
-pub rings-test : (rs : List ℕ) (n : ℕ) (fit free : Bool) → length rs ≡ n → fit ≡ (ringsOk rs && distinct rs) →
-    (leb (length rs) 61 && (ringsOk rs && (distinct rs && free))) ≡ (leb n 61 && (fit && free))
-rings-test rs n fit free e f = rw (e, f, and-assoc (ringsOk rs) (distinct rs) free)

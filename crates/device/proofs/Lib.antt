@@ -6,6 +6,4 @@ pub mod Kept
 pub mod Laws
 pub mod Made
 pub mod Marks
-pub mod Rings
-pub mod Steps
 pub mod Updates

@@ -7,7 +7,7 @@ use native.Mathlib.Omega.{arith}
 use borrow.Author.Tests.{eq-eqb, le-leb}
 use lib.Dec.{eqb, leb}
 use lib.ListN.{length, replicate, getD-replicate}
-use Rattle.laws.proofs.Tests.{and-left, and-right, and-true, not-both}
+use Rattle.laws.proofs.Tests.{and-left, and-true, not-both}
 use Rattle.laws.proofs.Distinct.{distinct}
 use Rattle.answer.specs.declared.Answer.{Answer}
 use Rattle.answer.specs.declared.Answer.the-variants as answer
@@ -23,13 +23,15 @@ use Rattle.endpoint.proofs.Clean.{CleanCells, clean-active, endpoints-fit}
 use Rattle.settings.specs.Held.{Held, settingsSound}
 use Rattle.settings.specs.Match.{endpointsMatch}
 use Rattle.settings.proofs.Laws.{held-length, sound-fits, match-active}
+use Rattle.checks.specs.Rings.{ringsFit}
+use Rattle.checks.proofs.Laws.{Apart, Disjoint, control-ok, clean-in, apart-in, apart-none, placedRings, placed-few, placed-none, all-ok, all-distinct, all-few, endpoint-rings, endpoints-few, queue-rings}
 use Rattle.device.specs.declared.record.Device.{Device}
 use Rattle.device.specs.Device.{listOf, cellsIn, heldOf, quarantinedOf, withCells, withHeld, withConfiguration, withQuarantined, unusable}
 use Rattle.device.specs.Sound.{placeSound, countsFit, allRings, ringsSound, sound}
 use Rattle.device.specs.Left.{marked}
 use Rattle.device.specs.Claim.{quarantines}
+use Rattle.device.proofs.Counts.{sound-counts}
 use Rattle.device.proofs.Facts.{SoundFacts, sound-facts, unusable-not, none-quarantined}
-use Rattle.device.proofs.Rings.{Apart, Disjoint, control-ok, clean-in, apart-in, apart-none, placedRings, placed-few, placed-none, all-ok, all-distinct, all-few, endpoint-rings, endpoints-few, queue-rings}
 use Rattle.device.proofs.Updates.{Same, same-self, same-then, liveOf, with-cells-same, with-cells-usable, with-cells-held, with-cells-cells, with-cells-live, with-cells-count, with-cells-quarantined-count, with-held-same, with-held-usable, with-held-held, with-held-cells, with-held-live, with-held-count, with-held-quarantined-count, with-configuration-same, with-configuration-usable, with-configuration-held, with-configuration-cells, with-configuration-live, with-configuration-count, with-configuration-quarantined-count, with-quarantined-same, with-quarantined-usable, with-quarantined-held, with-quarantined-cells, unusable-same, unusable-held, unusable-cells, unusable-live, unusable-count, unusable-quarantined, unusable-quarantined-count, with-quarantined-live, with-quarantined-count, with-quarantined-count-of, with-quarantined-quarantined, with-cells-quarantined, with-held-quarantined, with-configuration-quarantined}
 
 -- A sound record made of d: with d's own fields, these held settings and these endpoints; usable where it is not lost.
@@ -60,8 +62,10 @@ rings-if : (d : Device) → length (allRings d) ≤ 61 → ringsOk (allRings d) 
     (not (d .usable) || eqb (d .«quarantined_count») 0) ≡ true → ringsSound d ≡ true
 unfolding ringsSound
 rings-if d l o t f =
-    and-true (leb (length (allRings d)) 61) _ (le-leb (length (allRings d)) 61 l)
-    (and-true (ringsOk (allRings d)) _ o (and-true (distinct (allRings d)) _ t f))
+    and-true (ringsFit (allRings d)) _
+    (and-true (leb (length (allRings d)) 61) _ (le-leb (length (allRings d)) 61 l)
+    (and-true (ringsOk (allRings d)) (distinct (allRings d)) o t))
+    f
 
 same-place : (d e : Device) → Same d e → placeSound e ≡ placeSound d
 unfolding placeSound
@@ -71,10 +75,6 @@ sound-place : (d : Device) → sound d ≡ true → placeSound d ≡ true
 unfolding sound
 sound-place d s = and-left (placeSound d) _ s
 
-sound-counts : (d : Device) → sound d ≡ true → countsFit d ≡ true
-unfolding sound
-sound-counts d s = and-left (countsFit d) _ (and-right (placeSound d) _ s)
-
 -- The mark keeps a record sound.
 pub unusable-sound : (d : Device) → sound d ≡ true → sound (unusable d) ≡ true
 unfolding placeSound countsFit listOf heldOf cellsIn liveOf allRings quarantinedOf unusable
@@ -82,6 +82,12 @@ unusable-sound d s =
     let f : SoundFacts d = sound-facts d s in
     sound-if (unusable d) (sound-place d s) (sound-counts d s) (f .list) (f .settings) (f .addresses-fit) (f .endpoints)
     (rings-if (unusable d) (f .rings .few) (f .rings .ok) (f .rings .different) refl)
+
+-- Control's ring of a sound record is a nonzero multiple of 16.
+sound-control : (d : Device) → sound d ≡ true → ringOk (d .control) ≡ true
+unfolding allRings
+sound-control d s =
+    control-ok (d .«ep_count») (d .eps) (d .«ep_interfaces») (d .control) (quarantinedOf d) (sound-facts d s .rings .ok)
 
 -- A record of d's own fields, these settings, the endpoints in order, and some rings in quarantine.
 record Base (d e : Device) (hs : List Held) (c : Cells) (by : List ℕ) : Type 0 where
@@ -122,7 +128,7 @@ module _ (d e : Device) (hs : List Held) (c : Cells) (by : List ℕ) (s : sound 
 
   rings-sound : ringsSound e ≡ true
   rings-sound =
-      let ok : ringOk (d .control) ≡ true = control-ok d (sound-facts d s .rings .ok) in
+      let ok : ringOk (d .control) ≡ true = sound-control d s in
       rings-if e (rw all-rings (all-few (c .rings) by (d .control) ok live kept cross))
       (rw all-rings (all-ok (c .rings) by (d .control) ok live kept cross))
       (rw all-rings (all-distinct (c .rings) by (d .control) ok live kept cross))
@@ -168,11 +174,17 @@ made-marked d e hs c a s u h f g = made-cond d e hs c (isLost a) s u h f (sound-
 
 -- The endpoints of a sound record are clean.
 pub sound-clean : (d : Device) → sound d ≡ true → CleanCells (cellsIn d)
-sound-clean d s = clean-in d (sound-facts d s .rings .ok)
+unfolding allRings cellsIn
+sound-clean d s =
+    clean-in (d .«ep_count») (d .eps) (d .«ep_interfaces») (d .control) (quarantinedOf d) (sound-facts d s .rings .ok)
 
 -- And their rings apart.
 pub sound-apart : (d : Device) → sound d ≡ true → Apart ((cellsIn d) .rings) (d .control)
-sound-apart d s = let f = sound-facts d s in apart-in d (f .rings .ok) (f .addresses-fit) (f .rings .different)
+unfolding allRings cellsIn
+sound-apart d s =
+    let f = sound-facts d s in
+    apart-in (d .«ep_count») (d .eps) (d .«ep_interfaces») (d .control) (quarantinedOf d) (f .rings .ok) (f .addresses-fit)
+    (f .rings .different)
 
 -- The records that the calls make of a sound and usable one.
 module _ (d : Device) (u : d .usable ≡ true) (s : sound d ≡ true) where

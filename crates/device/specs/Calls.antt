@@ -8,11 +8,10 @@ use Rattle.answer.specs.declared.Check.{Check}
 use Rattle.answer.specs.declared.Check.the-variants.{Pass, Refuse}
 use Rattle.command.specs.declared.Command.the-variants as command
 use Rattle.command.specs.Course.{Course, ends, sends, Played, played}
-use Rattle.hub.specs.declared.think.ThinkTime.{ThinkTime}
-use Rattle.hub.specs.declared.think.ThinkTime.the-variants as think
 use Rattle.hub.specs.ThinkTime.{thinkTime}
 use Rattle.context.specs.Place.{written}
 use Rattle.context.specs.Steps.{hubWrites}
+use Rattle.checks.specs.Think.{thinkValue}
 use Rattle.phase.specs.End.{answerOf}
 use Rattle.device.specs.declared.record.Device.{Device}
 use Rattle.device.specs.Left.{Left, refused, marked}
@@ -21,11 +20,6 @@ use Rattle.device.specs.Check.{recordCheck, hubCheck}
 unfoldable pub onCheck : Check → Left → (Answer → Left) → Left
 onCheck Pass next refuse = next
 onCheck (Refuse a) next refuse = refuse a
-
--- The value of a think time; 0 where it is refused, which is not written then.
-unfoldable pub thinkValue : ThinkTime → ℕ
-thinkValue (think.Value v) = v
-thinkValue think.Refused = 0
 
 -- Hub update: one Evaluate with the hub's slot fields.
 unfoldable pub hubContext : Device → ℕ → Bool → ℕ → List ℕ → List ℕ

@@ -5,19 +5,14 @@ use mathlib.Core.Bool.{cond}
 use mathlib.Core.List.{List, []}
 use lib.ListN.{length}
 use Rattle.answer.specs.declared.Answer.{Answer}
-use Rattle.answer.specs.declared.Answer.the-variants as answer
 use Rattle.answer.specs.declared.Check.{Check}
-use Rattle.answer.specs.declared.Check.the-variants.{Pass}
 use Rattle.answer.specs.Answer.{isBroken}
-use Rattle.answer.specs.Check.{unless}
 use Rattle.command.specs.Course.{played}
-use Rattle.configuration.specs.Lookup.{findEndpoints}
-use Rattle.ring.specs.Rings.{offerOk}
 use Rattle.endpoint.specs.declared.cells.Cells.{Cells}
 use Rattle.endpoint.specs.declared.cells.Owner.the-variants.{Interface}
 use Rattle.endpoint.specs.Cells.{ownedRings, queuesOf, queueDcis, queueRings, pendingRings, claimedCells, withActive, QueuesAs}
-use Rattle.settings.specs.Held.{isHeld, alternateOf, isFound, settingWords, withSetting}
-use Rattle.settings.specs.Match.{addressesFree}
+use Rattle.settings.specs.Held.{isHeld, alternateOf, settingWords, withSetting}
+use Rattle.checks.specs.Offer.{offerCheck}
 use Rattle.phase.specs.End.{End}
 use Rattle.claim.specs.declared.ClaimArgs.{ClaimArgs}
 use Rattle.claim.specs.Claim.{Claim, claimCourse}
@@ -30,10 +25,7 @@ use Rattle.device.specs.Calls.{onCheck}
 -- 8, 9, 10.
 unfoldable pub claimCheck : Device → ℕ → ℕ → List ℕ → Check
 claimCheck d interface alternate rings =
-    let words = settingWords (listOf d) interface alternate in
-    unless (isFound (findEndpoints (listOf d) interface alternate)) answer.NotFound
-    (unless (addressesFree words interface (cellsIn d)) answer.InvalidParameter
-    (unless (offerOk (length words) rings ((cellsIn d) .rings) (d .control) (quarantinedOf d)) answer.Rings Pass))
+    offerCheck (listOf d) interface alternate (cellsIn d) rings (d .control) (quarantinedOf d)
 
 -- The rings offered for the words of an alternate, by place.
 unfoldable pub pendingOf : Device → ℕ → ℕ → List ℕ → List ℕ

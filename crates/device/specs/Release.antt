@@ -1,18 +1,15 @@
 -- The release of an interface.
 use Prim.Native.Nat.{ℕ}
-use mathlib.Core.Bool.{cond, _||_}
+use mathlib.Core.Bool.{cond}
 use mathlib.Core.List.{List}
 use lib.ListN.{length, replicate}
-use Rattle.answer.specs.declared.Answer.the-variants as answer
 use Rattle.answer.specs.declared.Check.{Check}
-use Rattle.answer.specs.declared.Check.the-variants.{Pass}
-use Rattle.answer.specs.Check.{unless}
 use Rattle.command.specs.Course.{played}
-use Rattle.configuration.specs.Lookup.{findEndpoints}
 use Rattle.endpoint.specs.Order.{PLACES}
 use Rattle.endpoint.specs.declared.cells.Owner.the-variants.{Interface}
 use Rattle.endpoint.specs.Cells.{ownedRings, queuesOf, queueDcis, claimedCells, withActive}
-use Rattle.settings.specs.Held.{isHeld, alternateOf, isFound, settingWords, withoutSetting}
+use Rattle.settings.specs.Held.{alternateOf, settingWords, withoutSetting}
+use Rattle.checks.specs.Offer.{heldCheck}
 use Rattle.phase.specs.End.{End}
 use Rattle.release.specs.Release.{Release, releaseCourse}
 use Rattle.device.specs.declared.record.Device.{Device}
@@ -23,8 +20,7 @@ use Rattle.device.specs.Calls.{onCheck}
 
 -- 8, for an unclaimed interface without alternate 0 only.
 unfoldable pub releaseCheck : Device → ℕ → Check
-releaseCheck d interface =
-    unless (isHeld interface (heldOf d) || isFound (findEndpoints (listOf d) interface 0)) answer.NotFound Pass
+releaseCheck d interface = heldCheck (listOf d) (heldOf d) interface
 
 -- What the course of a release works on: the held alternate, or alternate 0.
 unfoldable pub releaseIn : Device → ℕ → Release

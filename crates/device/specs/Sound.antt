@@ -1,50 +1,30 @@
 -- 01's sound record.
 use Prim.Native.Nat.{ℕ}
-use mathlib.Core.Bool.{Bool, not, _&&_, _||_}
-use mathlib.Core.List.{List, [], _∷_, _++_}
-use lib.Dec.{eqb, leb}
-use lib.ListN.{length, take}
-use Rattle.laws.proofs.Distinct.{distinct}
-use Rattle.def.specs.Speed.{speedKnown}
-use Rattle.configuration.specs.Valid.{validList}
-use Rattle.ring.specs.Rings.{ringsOk}
-use Rattle.endpoint.specs.declared.entry.Endpoint.{Endpoint}
-use Rattle.endpoint.specs.Endpoint.{addresses, addressesFit}
-use Rattle.settings.specs.Held.{settingsSound}
-use Rattle.settings.specs.Match.{endpointsMatch}
+use mathlib.Core.Bool.{Bool, _&&_}
+use mathlib.Core.List.{List, _∷_, _++_}
+use lib.ListN.{take}
+use Rattle.endpoint.specs.Endpoint.{addresses, ringsOf}
+use Rattle.checks.specs.Rings.{soundRings}
+use Rattle.checks.specs.Sound.{soundPlace, soundCounts, soundLists}
 use Rattle.device.specs.declared.record.Device.{Device}
 use Rattle.device.specs.Device.{listOf, cellsIn, heldOf, quarantinedOf}
 
--- A slot from 1 to N, N at most 255, spacing 32 or 64, speed 1 to 5.
 unfoldable pub placeSound : Device → Bool
-placeSound d =
-    (leb 1 (d .slot .0) && (leb (d .slot .0) (d .n) && leb (d .n) 255))
-    && ((eqb (d .spacing) 32 || eqb (d .spacing) 64) && speedKnown (d .«port_speed»))
+placeSound d = soundPlace (d .slot .0) (d .n) (d .spacing) (d .«port_speed»)
 
 -- The counts fit their arrays.
 unfoldable pub countsFit : Device → Bool
-countsFit d =
-    leb (d .«list_len») 256 && (leb (d .«ep_count») 30 && (leb (d .«held_count») 32 && leb (d .«quarantined_count») 61))
-
-unfoldable pub ringsOf : List Endpoint → List ℕ
-ringsOf [] = []
-ringsOf (e ∷ es) = e .ring ∷ ringsOf es
+countsFit d = soundCounts (d .«list_len») (d .«ep_count») (d .«held_count») (d .«quarantined_count»)
 
 -- Live, control and quarantined rings.
 unfoldable pub allRings : Device → List ℕ
 allRings d = ringsOf (take (d .«ep_count») (d .eps)) ++ (d .control ∷ quarantinedOf d)
 
--- Distinct nonzero multiples of 16, at most 61, and none quarantined while the record is usable.
 unfoldable pub ringsSound : Device → Bool
-ringsSound d =
-    leb (length (allRings d)) 61
-    && (ringsOk (allRings d) && (distinct (allRings d) && (not (d .usable) || eqb (d .«quarantined_count») 0)))
+ringsSound d = soundRings (d .usable) (d .«quarantined_count») (allRings d)
 
 unfoldable pub sound : Device → Bool
 sound d =
     placeSound d
     && (countsFit d
-    && (validList (listOf d)
-    && (settingsSound (listOf d) (heldOf d)
-    && (addressesFit (addresses (take (d .«ep_count») (d .eps)))
-    && (endpointsMatch (listOf d) (heldOf d) (cellsIn d) && ringsSound d)))))
+    && soundLists (listOf d) (heldOf d) (addresses (take (d .«ep_count») (d .eps))) (cellsIn d) (ringsSound d))

@@ -6,105 +6,27 @@ use super::update;
 use answer::Answer;
 use answer::Check;
 use claim::ClaimArgs;
-use configuration::Found;
 use endpoint::Cells;
 use endpoint::Owner;
 use endpoint::Queues;
 use phase::Ended;
 ghost use mathlib.Core.Path.{_≡_};
-ghost use mathlib.Core.Bool.{true, cond};
+ghost use mathlib.Core.Bool.{true};
 ghost use mathlib.Core.List.{List, []};
 ghost use Prim.Native.Nat.{ℕ, _≤_};
 ghost use lib.ListN.{length, take};
-ghost use Rattle.answer.specs.declared.Answer.the-variants as answer;
 ghost use Rattle.answer.specs.declared.Check.the-variants.{Pass};
-ghost use Rattle.answer.specs.Check.{unless};
 ghost use Rattle.command.specs.Course.{played};
-ghost use Rattle.configuration.specs.Lookup.{findEndpoints};
-ghost use Rattle.ring.specs.Rings.{offerOk};
 ghost use Rattle.endpoint.specs.declared.cells.Owner.the-variants.{Interface};
-ghost use Rattle.endpoint.specs.Cells.{pendingRings, claimedCells, withActive, QueuesAs};
-ghost use Rattle.endpoint.specs.Endpoint.{padded};
-ghost use Rattle.settings.specs.Held.{isFound, settingWords, withSetting};
-ghost use Rattle.settings.specs.Match.{addressesFree};
+ghost use Rattle.endpoint.specs.Cells.{claimedCells, withActive, QueuesAs};
+ghost use Rattle.settings.specs.Held.{withSetting};
 ghost use Rattle.phase.specs.Arrays as arrays;
-ghost use Rattle.claim.specs.Claim.{claimOf, claimCourse};
+ghost use Rattle.claim.specs.Claim.{claimCourse};
 ghost use Rattle.device.specs.Device.{cellsIn, heldOf, quarantinedOf, withCells, withHeld, withQuarantined};
 ghost use Rattle.device.specs.Sound.{countsFit};
 ghost use Rattle.device.specs.Left.{leaves, ended};
 ghost use Rattle.device.specs.Check.{recordCheck};
 ghost use Rattle.device.specs.Claim.{claimCheck, pendingOf, claimIn, ClaimAs, quarantines, claimRecord, claim};
-
-// 9, 10, of the words that lookup found.
-fn words_check(
-    words: &[u32],
-    interface: u8,
-    c: Cells,
-    rings: &[u64],
-    control: u64,
-    quarantined: &[u64],
-) -> Check
-    ensures { λ r. ⌜ r ≡ unless (addressesFree (now (words .entry)) interface c) answer.InvalidParameter (unless (offerOk (length (now (words .entry))) (now (rings .entry)) (c .rings) control (now (quarantined .entry))) answer.Rings Pass) ⌝ }
-{
-    if !settings::addresses_free(words, interface, c) {
-        return Check::Refuse(Answer::InvalidParameter);
-    }
-    if ring::offer_ok(words.len(), rings, &c.rings, control, quarantined) {
-        return Check::Pass;
-    }
-    Check::Refuse(Answer::Rings)
-}
-
-// 8, 9, 10.
-fn setting_check(
-    list: &[u32],
-    interface: u8,
-    alternate: u8,
-    c: Cells,
-    rings: &[u64],
-    control: u64,
-    quarantined: &[u64],
-) -> Check
-    ensures { λ r. ⌜ (let words = settingWords (now (list .entry)) interface alternate in r ≡ unless (isFound (findEndpoints (now (list .entry)) interface alternate)) answer.NotFound (unless (addressesFree words interface c) answer.InvalidParameter (unless (offerOk (length words) (now (rings .entry)) (c .rings) control (now (quarantined .entry))) answer.Rings Pass))) ⌝ }
-{
-    let found = configuration::find_interface_endpoints(list, interface, alternate);
-    match found {
-        Found::Endpoints { start, count } => words_check(
-            &list[start..start + count],
-            interface,
-            c,
-            rings,
-            control,
-            quarantined,
-        ),
-        Found::NotFound => Check::Refuse(Answer::NotFound),
-    }
-}
-
-fn list_check(
-    list: [u32; 256],
-    n: usize,
-    interface: u8,
-    alternate: u8,
-    c: Cells,
-    rings: &[u64],
-    control: u64,
-    quarantined: [u64; 61],
-    m: usize,
-) -> Check
-    requires { ⌜ (n ≤ 256) × (m ≤ 61) ⌝ }
-    ensures { λ r. ⌜ (let words = settingWords (take n list) interface alternate in r ≡ unless (isFound (findEndpoints (take n list) interface alternate)) answer.NotFound (unless (addressesFree words interface c) answer.InvalidParameter (unless (offerOk (length words) (now (rings .entry)) (c .rings) control (take m quarantined)) answer.Rings Pass))) ⌝ }
-{
-    setting_check(
-        &list[0..n],
-        interface,
-        alternate,
-        c,
-        rings,
-        control,
-        &quarantined[0..m],
-    )
-}
 
 fn own_check(d: Device, interface: u8, alternate: u8, rings: &[u64]) -> Check
     requires { ⌜ countsFit d ≡ true ⌝ }
@@ -113,7 +35,7 @@ fn own_check(d: Device, interface: u8, alternate: u8, rings: &[u64]) -> Check
     let list = d.list;
     let quarantined = d.quarantined;
     let c = cells::cells_in(d);
-    list_check(
+    checks::list_check(
         list,
         d.list_len,
         interface,
@@ -144,29 +66,6 @@ fn claim_check(
     }
 }
 
-// The rings offered for a setting's words, by place.
-fn setting_rings(list: &[u32], interface: u8, alternate: u8, rings: &[u64]) -> [u64; 30]
-    ensures { λ r. ⌜ r ≡ pendingRings (settingWords (now (list .entry)) interface alternate) (now (rings .entry)) ⌝ }
-{
-    let words = settings::setting_words(list, interface, alternate);
-    endpoint::pending_rings(words, rings)
-}
-
-fn list_rings(list: [u32; 256], n: usize, interface: u8, alternate: u8, rings: &[u64]) -> [u64; 30]
-    requires { ⌜ n ≤ 256 ⌝ }
-    ensures { λ r. ⌜ r ≡ pendingRings (settingWords (take n list) interface alternate) (now (rings .entry)) ⌝ }
-{
-    setting_rings(&list[0..n], interface, alternate, rings)
-}
-
-fn pending_of(d: Device, interface: u8, alternate: u8, rings: &[u64]) -> [u64; 30]
-    requires { ⌜ countsFit d ≡ true ⌝ }
-    ensures { λ r. ⌜ r ≡ pendingOf d interface alternate (now (rings .entry)) ⌝ }
-{
-    let list = d.list;
-    list_rings(list, d.list_len, interface, alternate, rings)
-}
-
 fn claim_args(d: Device, c: Cells, interface: u8, alternate: u8, pending: [u64; 30]) -> ClaimArgs
     requires { ⌜ countsFit d ≡ true ⌝ }
     ensures { λ r. ⌜ ClaimAs r d c interface alternate pending ⌝ }
@@ -191,43 +90,12 @@ fn claim_args(d: Device, c: Cells, interface: u8, alternate: u8, pending: [u64; 
     }
 }
 
-fn list_claim(
-    ctx: &mut [u8],
-    routes: &mut [u64],
-    log: &mut [u32],
-    outcomes: &[u8],
-    a: ClaimArgs,
-    list: [u32; 256],
-    n: usize,
-) -> Ended
-    requires { ⌜ arrays.Room (a .spacing) (length (now ctx)) (a .old) (a .all) ⌝ }
-    requires { ⌜ a .pending .count ≤ 30 ⌝ }
-    requires { ⌜ (64 ≤ length (now log)) × (n ≤ 256) ⌝ }
-    ensures { λ r. ⌜ arrays.leaves r (now (ctx .exit)) (now (routes .exit)) (now (log .exit)) ≡ played (now (outcomes .entry)) 0 (claimCourse (claimOf a (cond (a .held) (settingWords (take n list) (a .interface) (a .«old_alternate»)) []) (settingWords (take n list) (a .interface) (a .alternate))) (now (ctx .entry)) (now (routes .entry))) (now (log .entry)) ⌝ }
-{
-    claim::claim_interface(ctx, routes, log, outcomes, a, &list[0..n])
-}
-
-// The first n of some rings as all that are quarantined.
-fn quarantined_rings(rings: [u64; 30], n: usize) -> [u64; 61]
-    requires { ⌜ n ≤ 30 ⌝ }
-    ensures { λ r. ⌜ (r ≡ padded 61 0 (take n rings)) × (length (take n rings) ≡ n) ⌝ }
-{
-    let mut quarantined = [0u64; 61];
-    let mut i = 0;
-    while i < n {
-        quarantined[i] = rings[i];
-        i += 1;
-    }
-    quarantined
-}
-
 fn with_quarantined(mut d: Device, q: Queues) -> Device
     requires { ⌜ (quarantinedOf d ≡ []) × (q .count ≤ 30) ⌝ }
     ensures { λ r. ⌜ r ≡ withQuarantined (take (q .count) (q .rings)) d ⌝ }
 {
     let rings = q.rings;
-    let quarantined = quarantined_rings(rings, q.count);
+    let quarantined = checks::quarantined_rings(rings, q.count);
     d.quarantined = quarantined;
     d.quarantined_count = q.count;
     d
@@ -294,12 +162,12 @@ fn claim_run(
     requires { ⌜ recordCheck d (length (now ctx)) (length (now routes)) (length (now log)) (claimCheck d interface alternate (now rings)) ≡ Pass ⌝ }
     ensures { λ r. ⌜ leaves r (now (ctx .exit)) (now (routes .exit)) (now (log .exit)) ≡ ended (claimRecord d interface alternate (now (rings .entry))) (played (now (outcomes .entry)) 0 (claimCourse (claimIn d interface alternate (now (rings .entry))) (now (ctx .entry)) (now (routes .entry))) (now (log .entry))) ⌝ }
 {
-    let c = cells::cells_in(d);
-    let pending = pending_of(d, interface, alternate, rings);
-    let a = claim_args(d, c, interface, alternate, pending);
     let list = d.list;
+    let c = cells::cells_in(d);
+    let pending = checks::list_rings(list, d.list_len, interface, alternate, rings);
+    let a = claim_args(d, c, interface, alternate, pending);
     let q = a.pending;
-    let e = list_claim(ctx, routes, log, outcomes, a, list, d.list_len);
+    let e = claim::claim_listed(ctx, routes, log, outcomes, a, list, d.list_len);
     let answer = e.answer;
     Called {
         device: claim_record(d, c, interface, alternate, pending, q, e),

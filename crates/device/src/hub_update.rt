@@ -5,28 +5,15 @@ use super::update;
 use answer::Check;
 use command::Command;
 use command::Sent;
-use hub::ThinkTime;
 ghost use mathlib.Core.Path.{_≡_};
 ghost use mathlib.Core.List.{List};
 ghost use Prim.Native.Nat.{ℕ, _<_};
 ghost use lib.ListN.{length};
 ghost use Rattle.command.specs.Course.{played};
-ghost use Rattle.hub.specs.ThinkTime.{thinkTime};
 ghost use Rattle.context.specs.Place.{Spaced};
 ghost use Rattle.device.specs.Left.{leaves, marked};
 ghost use Rattle.phase.specs.End.{answerOf};
-ghost use Rattle.device.specs.Calls.{thinkValue, hubContext, hubCourse, hubLeft, hubUpdate};
-
-// The field of a think time; 0 where it is refused, which is not written then.
-fn think_value(ns: u32) -> u8
-    ensures { λ r. ⌜ r ≡ thinkValue (thinkTime ns) ⌝ }
-{
-    let t = hub::think_time(ns);
-    match t {
-        ThinkTime::Value(v) => v,
-        ThinkTime::Refused => 0,
-    }
-}
+ghost use Rattle.device.specs.Calls.{hubContext, hubCourse, hubLeft, hubUpdate};
 
 impl Device {
     // The end of a call that is one command, by its outcome.
@@ -54,7 +41,7 @@ impl Device {
         requires { ⌜ Spaced (self .spacing) (length (now ctx)) × (0 < length (now log)) ⌝ }
         ensures { λ r. ⌜ ((routes : List ℕ) → leaves r (now (ctx .exit)) routes (now (log .exit)) ≡ hubLeft self (hubContext self ports multi ns (now (ctx .entry))) routes (played (now (outcomes .entry)) 0 (hubCourse (hubContext self ports multi ns (now (ctx .entry)))) (now (log .entry)))) ⌝ }
     {
-        let think = think_value(ns);
+        let think = checks::think_value(ns);
         change_context::hub_context(ctx, self.spacing, self.port_speed, ports, multi, think);
         let s = command::send(log, outcomes, 0, Command::Evaluate);
         self.hub_end(s, 1)

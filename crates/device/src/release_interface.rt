@@ -3,9 +3,7 @@ use super::cells;
 use super::record::Called;
 use super::record::Device;
 use super::update;
-use answer::Answer;
 use answer::Check;
-use configuration::Found;
 use endpoint::Cells;
 use endpoint::Owner;
 use phase::Ended;
@@ -14,15 +12,14 @@ ghost use mathlib.Core.Path.{_≡_};
 ghost use mathlib.Core.Bool.{true};
 ghost use mathlib.Core.List.{List, []};
 ghost use Prim.Native.Nat.{ℕ, _≤_};
-ghost use lib.ListN.{length, take, replicate};
+ghost use lib.ListN.{length, replicate};
 ghost use Rattle.command.specs.Course.{played};
-ghost use Rattle.configuration.specs.Lookup.{findEndpoints};
 ghost use Rattle.context.specs.Place.{Spaced};
 ghost use Rattle.endpoint.specs.Order.{PLACES};
 ghost use Rattle.endpoint.specs.declared.cells.Owner.the-variants.{Interface};
 ghost use Rattle.endpoint.specs.Cells.{ownedRings, claimedCells, QueuesAs};
 ghost use Rattle.phase.specs.Arrays as arrays;
-ghost use Rattle.settings.specs.Held.{isFound, settingWords, withoutSetting};
+ghost use Rattle.settings.specs.Held.{settingWords, withoutSetting};
 ghost use Rattle.release.specs.Release.{releaseOf, releaseCourse};
 ghost use Rattle.device.specs.Device.{listOf, cellsIn, heldOf, withCells, withHeld};
 ghost use Rattle.device.specs.Left.{leaves, ended};
@@ -30,41 +27,16 @@ ghost use Rattle.device.specs.Sound.{countsFit};
 ghost use Rattle.device.specs.Check.{recordCheck};
 ghost use Rattle.device.specs.Release.{releaseCheck, releaseIn, releaseRecord, release};
 
-// Whether an interface has an alternate 0.
-fn has_alternate(list: [u32; 256], n: usize, interface: u8) -> bool
-    requires { ⌜ n ≤ 256 ⌝ }
-    ensures { λ r. ⌜ r ≡ isFound (findEndpoints (take n list) interface 0) ⌝ }
-{
-    let found = configuration::find_interface_endpoints(&list[0..n], interface, 0);
-    match found {
-        Found::Endpoints { .. } => true,
-        Found::NotFound => false,
-    }
-}
-
-// 8, for an unclaimed interface only.
-fn setting_check(d: Device, interface: u8) -> Check
-    requires { ⌜ countsFit d ≡ true ⌝ }
-    ensures { λ r. ⌜ r ≡ releaseCheck d interface ⌝ }
-{
-    let interfaces = d.interfaces;
-    let list = d.list;
-    if settings::is_held(interfaces, d.held_count, interface) {
-        return Check::Pass;
-    }
-    if has_alternate(list, d.list_len, interface) {
-        return Check::Pass;
-    }
-    Check::Refuse(Answer::NotFound)
-}
-
+// The checks, the last of them 8, for an unclaimed interface only.
 fn release_check(d: Device, ctx: usize, routes: usize, log: usize, interface: u8) -> Check
     ensures { λ r. ⌜ r ≡ recordCheck d ctx routes log (releaseCheck d interface) ⌝ }
 {
+    let list = d.list;
+    let interfaces = d.interfaces;
     let check = d.record_check(ctx, routes, log);
     match check {
         Check::Refuse(a) => Check::Refuse(a),
-        Check::Pass => setting_check(d, interface),
+        Check::Pass => { checks::held_check(list, d.list_len, interfaces, d.held_count, interface) }
     }
 }
 
@@ -91,23 +63,6 @@ fn release_args(d: Device, c: Cells, interface: u8) -> ReleaseArgs
         old: old,
         all: all,
     }
-}
-
-// The course, with the list lent to it.
-fn release_listed(
-    ctx: &mut [u8],
-    routes: &mut [u64],
-    log: &mut [u32],
-    outcomes: &[u8],
-    a: ReleaseArgs,
-    list: [u32; 256],
-    n: usize,
-) -> Ended
-    requires { ⌜ arrays.Room (a .spacing) (length (now ctx)) (a .old) (a .all) ⌝ }
-    requires { ⌜ (64 ≤ length (now log)) × (n ≤ 256) ⌝ }
-    ensures { λ r. ⌜ arrays.leaves r (now (ctx .exit)) (now (routes .exit)) (now (log .exit)) ≡ played (now (outcomes .entry)) 0 (releaseCourse (releaseOf a (settingWords (take n list) (a .interface) (a .alternate))) (now (ctx .entry)) (now (routes .entry))) (now (log .entry)) ⌝ }
-{
-    release::release_interface(ctx, routes, log, outcomes, a, &list[0..n])
 }
 
 // The record without the interface's setting and endpoints.
@@ -151,7 +106,7 @@ fn release_run(
     let c = cells::cells_in(d);
     let a = release_args(d, c, interface);
     let list = d.list;
-    let e = release_listed(ctx, routes, log, outcomes, a, list, d.list_len);
+    let e = release::release_listed(ctx, routes, log, outcomes, a, list, d.list_len);
     let answer = e.answer;
     Called {
         device: release_record(d, c, e, interface),

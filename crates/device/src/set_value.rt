@@ -13,8 +13,8 @@ use settings::Settings;
 ghost use mathlib.Core.Path.{_≡_};
 ghost use mathlib.Core.Bool.{true, cond};
 ghost use mathlib.Core.List.{List, []};
-ghost use Prim.Native.Nat.{ℕ, _+_, _*_, _≤_};
-ghost use lib.ListN.{length, take};
+ghost use Prim.Native.Nat.{ℕ, _≤_};
+ghost use lib.ListN.{length};
 ghost use Rattle.command.specs.Course.{played};
 ghost use Rattle.context.specs.Place.{Spaced};
 ghost use Rattle.endpoint.specs.Cells.{QueuesAs};
@@ -47,23 +47,6 @@ fn settings_args(d: Device, c: Cells, value: u8) -> SettingsArgs
         held: d.held_count,
         old: old,
     }
-}
-
-// The course, with the list lent to it.
-fn set_listed(
-    ctx: &mut [u8],
-    routes: &mut [u64],
-    log: &mut [u32],
-    outcomes: &[u8],
-    a: SettingsArgs,
-    list: [u32; 256],
-    n: usize,
-) -> Ended
-    requires { ⌜ arrays.Room (a .spacing) (length (now ctx)) (a .old) (a .old) ⌝ }
-    requires { ⌜ (a .held ≤ 32) × (64 ≤ length (now log)) × (n ≤ 256) ⌝ }
-    ensures { λ r. ⌜ arrays.leaves r (now (ctx .exit)) (now (routes .exit)) (now (log .exit)) ≡ played (now (outcomes .entry)) 0 (setCourse (settingsOf a (take n list)) (now (ctx .entry)) (now (routes .entry))) (now (log .entry)) ⌝ }
-{
-    set_configuration::run_set_configuration(ctx, routes, log, outcomes, 0, a, &list[0..n])
 }
 
 // The record without held settings.
@@ -119,7 +102,7 @@ fn set_run(
     let c = cells::cells_in(d);
     let a = settings_args(d, c, value);
     let list = d.list;
-    let e = set_listed(ctx, routes, log, outcomes, a, list, d.list_len);
+    let e = set_configuration::set_listed(ctx, routes, log, outcomes, a, list, d.list_len);
     let answer = e.answer;
     Called {
         device: set_record(d, c, e, value),

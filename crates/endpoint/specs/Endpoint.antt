@@ -16,6 +16,10 @@ unfoldable pub addresses : List Endpoint → List ℕ
 addresses [] = []
 addresses (e ∷ es) = e .address ∷ addresses es
 
+unfoldable pub ringsOf : List Endpoint → List ℕ
+ringsOf [] = []
+ringsOf (e ∷ es) = e .ring ∷ ringsOf es
+
 -- Each address has a place, and no two endpoints have one.
 unfoldable pub addressesFit : List ℕ → Bool
 addressesFit [] = true

@@ -8,7 +8,7 @@ use phase::Ended;
 use transfer::Replaced;
 ghost use mathlib.Core.Path.{_≡_};
 ghost use Prim.Native.Nat.{_+_, _≤_};
-ghost use lib.ListN.{length};
+ghost use lib.ListN.{length, take};
 ghost use Rattle.command.specs.Course.{played};
 ghost use Rattle.phase.specs.Arrays.{leaves, Room};
 ghost use Rattle.settings.specs.Held.{settingWords};
@@ -124,7 +124,7 @@ fn run_release(
 }
 
 // The same where the words are those that lookup finds in a list, none where it does not find the setting.
-pub fn release_interface(
+fn release_interface(
     ctx: &mut [u8],
     routes: &mut [u64],
     log: &mut [u32],
@@ -138,4 +138,21 @@ pub fn release_interface(
 {
     let words = settings::setting_words(list, a.interface, a.alternate);
     run_release(ctx, routes, log, outcomes, a, words)
+}
+
+// The same where the list is the first n words of an array.
+pub fn release_listed(
+    ctx: &mut [u8],
+    routes: &mut [u64],
+    log: &mut [u32],
+    outcomes: &[u8],
+    a: ReleaseArgs,
+    list: [u32; 256],
+    n: usize,
+) -> Ended
+    requires { ⌜ Room (a .spacing) (length (now ctx)) (a .old) (a .all) ⌝ }
+    requires { ⌜ (64 ≤ length (now log)) × (n ≤ 256) ⌝ }
+    ensures { λ r. ⌜ leaves r (now (ctx .exit)) (now (routes .exit)) (now (log .exit)) ≡ played (now (outcomes .entry)) 0 (releaseCourse (releaseOf a (settingWords (take n list) (a .interface) (a .alternate))) (now (ctx .entry)) (now (routes .entry))) (now (log .entry)) ⌝ }
+{
+    release_interface(ctx, routes, log, outcomes, a, &list[0..n])
 }

@@ -4,3 +4,4 @@ mod run;
 
 pub use run::SettingsArgs;
 pub use run::run_set_configuration;
+pub use run::set_listed;

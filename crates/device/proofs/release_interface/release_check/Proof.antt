@@ -1,4 +1,5 @@
-use Rattle.device.proofs.Counts.{sound-counts}
+use Rattle.device.specs.Device.{listOf, heldOf}
+use Rattle.device.specs.Release.{releaseCheck}
 use Rattle.device.proofs.Laws.{passed, andThen, check-then}
 use mathlib.Core.Path.{sym, _∙_}
 use borrow.Author.Needs.{needs}
@@ -14,16 +15,16 @@ enum-known-check c = search needs
 enum-told : tie.Need-enum-told
 enum-told c = search needs
 
-setting-check-requires : tie.Need-setting-check-requires
-setting-check-requires c κs = sound-counts _ (passed _ _ _ _ _ (sym (c .before .before .record-check .ensures) ∙ c .enum-told .given .1) .0 .is-sound)
+held-check-requires : tie.Need-held-check-requires
+held-check-requires c κs = let f = passed _ _ _ _ _ (sym (c .before .before .record-check .ensures) ∙ c .enum-told .given .1) .0 .facts .counts in (f .list, f .held)
 
 returns : tie.Need-returns
 unfolding andThen
 returns c = sym (check-then _ _ _ _ _ ∙ rw (← c .before .before .before .record-check .ensures, c .before .check .given .1))
 
 returns-2 : tie.Need-returns-2
-unfolding andThen
-returns-2 c = c .setting-check .ensures ∙ sym (check-then _ _ _ _ _ ∙ rw (← c .before .before .before .record-check .ensures, c .before .enum-told .given .1))
+unfolding andThen releaseCheck listOf heldOf
+returns-2 c = c .held-check .ensures (c .before .before .before .before .before .before .args .d .alternates) ∙ sym (check-then _ _ _ _ _ ∙ rw (← c .before .before .before .record-check .ensures, c .before .enum-told .given .1))
 
 pub release-check-spec : {M : Type 1} → statement M
 release-check-spec =
@@ -32,6 +33,6 @@ release-check-spec =
     record-check-requires
     enum-known-check
     enum-told
-    setting-check-requires
+    held-check-requires
     returns
     returns-2)

@@ -1,0 +1,13 @@
+-- The lengths of what is lent to a call.
+use Prim.Native.Nat.{ℕ, _+_, _*_}
+use lib.Dec.{eqb, leb}
+use Rattle.answer.specs.declared.Answer.the-variants as answer
+use Rattle.answer.specs.declared.Check.{Check}
+use Rattle.answer.specs.Check.{unless}
+
+-- 1, 2, 3, and then the call's own.
+abbrev pub lengthsCheck : ℕ → ℕ → ℕ → ℕ → ℕ → Check → Check
+lengthsCheck spacing n ctx routes log next =
+    unless (eqb ctx (33 * spacing)) answer.ContextLength
+    (unless (eqb routes (32 * (n + 1))) answer.RoutesLength
+    (unless (leb 64 log) answer.LogTooShort next))

@@ -1,0 +1,18 @@
+// What the checks of a record ask of its fields and arrays.
+mod lengths;
+mod offer;
+mod rings;
+mod sound;
+mod think;
+
+pub use lengths::lengths_check;
+pub use offer::held_check;
+pub use offer::list_check;
+pub use offer::list_rings;
+pub use rings::quarantined_rings;
+pub use rings::rings_sound;
+pub use sound::counts_fit;
+pub use sound::lists_sound;
+pub use sound::place_sound;
+pub use think::think_check;
+pub use think::think_value;

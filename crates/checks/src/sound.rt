@@ -1,0 +1,100 @@
+// Whether the fields and arrays of a record are sound; an array holds a list in its first n words.
+use endpoint::Endpoint;
+ghost use mathlib.Core.Path.{_≡_};
+ghost use mathlib.Core.Bool.{Bool, _&&_, _||_};
+ghost use Prim.Native.Nat.{_≤_};
+ghost use lib.Dec.{eqb};
+ghost use lib.ListN.{take};
+ghost use Rattle.endpoint.specs.Cells.{cellsOf};
+ghost use Rattle.endpoint.specs.Endpoint.{addresses};
+ghost use Rattle.settings.specs.Held.{heldIn};
+ghost use Rattle.checks.specs.Sound.{soundPlace, soundCounts, soundLists};
+
+fn spacing_known(spacing: usize) -> bool
+    ensures { λ r. ⌜ r ≡ (eqb spacing 32 || eqb spacing 64) ⌝ }
+{
+    if spacing == 32 {
+        return true;
+    }
+    spacing == 64
+}
+
+pub fn place_sound(slot: u8, n: u8, spacing: usize, speed: u8) -> bool
+    ensures { λ r. ⌜ r ≡ soundPlace slot n spacing speed ⌝ }
+{
+    if slot < 1 {
+        return false;
+    }
+    if n < slot {
+        return false;
+    }
+    if !spacing_known(spacing) {
+        return false;
+    }
+    def::speed_known(speed)
+}
+
+pub fn counts_fit(words: usize, endpoints: usize, held: usize, quarantined: usize) -> bool
+    ensures { λ r. ⌜ r ≡ soundCounts words endpoints held quarantined ⌝ }
+{
+    if 256 < words {
+        return false;
+    }
+    if 30 < endpoints {
+        return false;
+    }
+    if 32 < held {
+        return false;
+    }
+    quarantined <= 61
+}
+
+// The list, and beside it the held settings and the endpoints.
+fn listed_sound(
+    list: &[u32],
+    interfaces: [u8; 32],
+    alternates: [u8; 32],
+    held: usize,
+    eps: [Endpoint; 30],
+    owners: [u8; 30],
+    count: usize,
+) -> bool
+    requires { ⌜ (held ≤ 32) × (count ≤ 30) ⌝ }
+    ensures { λ r. ⌜ ((rest : Bool) → soundLists (now (list .entry)) (heldIn held interfaces alternates) (addresses (take count eps)) (cellsOf count eps owners) rest ≡ (r && rest)) ⌝ }
+{
+    if !configuration::valid_list(list) {
+        return false;
+    }
+    if !settings::settings_sound(list, interfaces, alternates, held) {
+        return false;
+    }
+    if !endpoint::addresses_fit(eps, count) {
+        return false;
+    }
+    let c = endpoint::cells_of(eps, owners, count);
+    settings::endpoints_match(list, interfaces, alternates, held, c)
+}
+
+pub fn lists_sound(
+    list: [u32; 256],
+    n: usize,
+    interfaces: [u8; 32],
+    alternates: [u8; 32],
+    held: usize,
+    eps: [Endpoint; 30],
+    owners: [u8; 30],
+    count: usize,
+) -> bool
+    requires { ⌜ (n ≤ 256) × (held ≤ 32) × (count ≤ 30) ⌝ }
+    ensures { λ r. ⌜ ((rest : Bool) → soundLists (take n list) (heldIn held interfaces alternates) (addresses (take count eps)) (cellsOf count eps owners) rest ≡ (r && rest)) ⌝ }
+{
+    listed_sound(
+        &list[0..n],
+        interfaces,
+        alternates,
+        held,
+        eps,
+        owners,
+        count,
+    )
+}
