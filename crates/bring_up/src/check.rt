@@ -1,7 +1,7 @@
 // The checks of a bring-up, in 01's order.
-use super::run::BringUpArgs;
 use answer::Answer;
 use answer::Check;
+use init::BringUpArgs;
 ghost use mathlib.Core.Path.{_≡_};
 ghost use mathlib.Core.Bool.{_||_};
 ghost use mathlib.Core.List.{List};
@@ -9,7 +9,8 @@ ghost use Prim.Native.Nat.{ℕ};
 ghost use lib.Dec.{eqb};
 ghost use Rattle.ring.specs.Rings.{ringOk};
 ghost use Rattle.answer.specs.declared.Check.the-variants.{Pass};
-ghost use Rattle.bring_up.specs.BringUp.{bringUpOf, slotCheck, deviceCheck};
+ghost use Rattle.init.specs.Reading.{bringUpOf};
+ghost use Rattle.bring_up.specs.BringUp.{slotCheck, deviceCheck};
 
 fn context_known(ctx: usize) -> bool
     ensures { λ r. ⌜ r ≡ (eqb ctx 1056 || eqb ctx 2112) ⌝ }

@@ -1,8 +1,6 @@
-// The bring-up of a slot's device: `Device::init` of the original.
+// The bring-up of a slot's device: the checks, control's route, the course, and the record.
 mod check;
-mod list;
 mod record;
-mod run;
 
 use answer::Answer;
 use answer::Check;
@@ -18,8 +16,10 @@ ghost use Rattle.command.specs.Course.{played};
 ghost use Rattle.context.specs.Place.{Spaced};
 ghost use Rattle.device.specs.Left.{leaves, refused};
 ghost use Rattle.device.specs.Calls.{onCheck};
-ghost use Rattle.bring_up.specs.BringUp.{bringUpOf, spacingOf, queueCheck, bringUpAddress, bringUpCourse, broughtLeft, noDevice, bringUp};
-pub use run::BringUpArgs;
+ghost use Rattle.init.specs.Reading.{bringUpOf};
+ghost use Rattle.init.specs.Init.{bringUpAddress};
+ghost use Rattle.bring_up.specs.BringUp.{spacingOf, queueCheck, bringUpCourse, broughtLeft, noDevice, bringUp};
+pub use init::BringUpArgs;
 
 // The bring-up of a slot: checks, then control's route, then the course.
 pub fn bring_up(
@@ -100,7 +100,7 @@ fn run_bring_up(
     ensures { λ r. ⌜ (let b = bringUpOf a (now (hubs .entry)) (now (list .entry)) in let spacing = spacingOf (length (now (ctx .entry))) in leaves r (now (ctx .exit)) (now (routes .exit)) (now (log .exit)) ≡ broughtLeft b spacing (played (now (outcomes .entry)) 0 (bringUpAddress b spacing (now (ctx .entry)) (now (routes .entry))) (now (log .entry)))) ⌝ }
 {
     let spacing = spacing_of(ctx.len());
-    let e = run::address(ctx, routes, log, outcomes, a, spacing, hubs, list);
+    let e = init::address(ctx, routes, log, outcomes, a, spacing, hubs, list);
     let answer = e.answer;
     let device = record::brought_device(a, spacing, e, list);
     Called {

@@ -1,4 +1,5 @@
-use Rattle.bring_up.specs.BringUp.{bringUpOf, bringUp}
+use Rattle.init.specs.Reading.{bringUpOf}
+use Rattle.bring_up.specs.BringUp.{bringUp}
 use Rattle.bring_up.proofs.Checks.{check-then, passed}
 use Rattle.answer.specs.declared.Check.the-variants.{Pass}
 use Rattle.device.proofs.Laws.{andThen}

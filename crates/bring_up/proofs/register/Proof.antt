@@ -1,5 +1,6 @@
-use Rattle.bring_up.specs.BringUp.{bringUpOf, bringUpCourse}
-use Rattle.bring_up.proofs.Steps.{queue-full, queue-free}
+use Rattle.init.specs.Reading.{bringUpOf}
+use Rattle.bring_up.specs.BringUp.{bringUpCourse}
+use Rattle.bring_up.proofs.Checks.{queue-full, queue-free}
 use Rattle.device.specs.Calls.{onCheck}
 use Rattle.device.specs.Left.{refused}
 use mathlib.Core.Path.{sym, _∙_}

@@ -1,12 +1,12 @@
 use Rattle.bring_up.specs.BringUp.{broughtLeft}
-use Rattle.bring_up.proofs.Lists.{valid-facts}
+use Rattle.configuration.proofs.Laws.{valid-length}
 use borrow.Author.Needs.{needs}
 use Rattle.bring_up.proofs.run_bring_up.Statement.{statement}
 use Rattle.bring_up.proofs.run_bring_up.Tie as tie
 use Rattle.bring_up.proofs.run_bring_up.Reads as reads
 use Rattle.bring_up.proofs.run_bring_up.Lts as lts
 use Rattle.bring_up.proofs.record.brought_device.Reads as brought-device-reads
-use Rattle.bring_up.proofs.run.address.Reads as address-reads
+use Rattle.init.proofs.address.Reads as address-reads
 use Rattle.bring_up.proofs.spacing_of.Reads as spacing-of-reads
 
 spacing-of-requires : tie.Need-spacing-of-requires
@@ -16,7 +16,7 @@ address-requires : tie.Need-address-requires
 address-requires c κs = search needs
 
 brought-device-requires : tie.Need-brought-device-requires
-brought-device-requires c κs = (c .before .before .before .before .before .before .before .before .before .before .before .before .before .before .before .before .before .pre .1 .0 .0, valid-facts _ (c .before .before .before .before .before .before .before .before .before .before .before .before .before .before .before .before .before .pre .1 .1) .few)
+brought-device-requires c κs = (c .before .before .before .before .before .before .before .before .before .before .before .before .before .before .before .before .before .pre .1 .0 .0, valid-length _ (c .before .before .before .before .before .before .before .before .before .before .before .before .before .before .before .before .before .pre .1 .1))
 
 same-length : tie.Need-same-length
 same-length c = search needs
