@@ -1,10 +1,6 @@
-use Rattle.init.specs.Reading.{nothingRead}
-use Rattle.init.specs.Init.{bringUpAddress, step}
-use Rattle.init.proofs.Steps.{spaced-same}
-use Rattle.init.proofs.Lists.{valid-none}
+use Rattle.init.proofs.Steps.{spaced-same, done, failed-before, cut-before}
+use Rattle.init.specs.Init.{bringUpAddress}
 use native.Mathlib.Omega.{arith}
-use Rattle.command.specs.Course.{onSent}
-use Rattle.command.proofs.Laws.{played-ends, played-sends}
 use borrow.Author.Needs.{needs}
 use Rattle.init.proofs.run.address.Statement.{statement}
 use Rattle.init.proofs.run.address.Tie as tie
@@ -57,8 +53,8 @@ same-length-3 : tie.Need-same-length-3
 same-length-3 c = search needs
 
 returns : tie.Need-returns
-unfolding bringUpAddress step onSent nothingRead
-returns c = rw (played-sends, ← c .before .before .before .before .before .before .before .before .before .before .before .before .before .before .send .ensures .1, ← c .before .before .before .before .before .before .before .before .before .before .before .before .before .before .send .ensures .0, c .before .before .before .before .before .before .before .before .before .before .enum-told .given .1, ← c .before .before .before .before .before .before .before .before .before .before .before .before .before .before .before .before .before .before .before .before .before .route-string .ensures, ← c .before .before .before .before .before .before .before .before .before .before .before .before .before .before .before .before .before .before .before .before .transaction-translator .ensures, ← c .before .before .before .before .before .before .before .before .before .before .before .before .before .before .before .before .before .before .address-context .ensures) (c .before .before .before .before .before .before .read-header .ensures (c .before .before .before .before .before .before .before .before .before .before .before .before .before .before .before .before .before .before .before .before .before .before .before .before .before .before .before .before .args .hubs .now))
+unfolding bringUpAddress
+returns c = rw (← c .before .before .before .before .before .before .before .before .before .before .before .before .before .before .before .before .before .before .before .before .before .route-string .ensures, ← c .before .before .before .before .before .before .before .before .before .before .before .before .before .before .before .before .before .before .before .before .transaction-translator .ensures, ← c .before .before .before .before .before .before .before .before .before .before .before .before .before .before .before .before .before .before .address-context .ensures) (done _ _ _ _ (c .before .before .before .before .before .before .before .before .before .before .before .before .before .before .send .ensures) _ _ _ _ (c .before .before .before .before .before .before .before .before .before .before .enum-told .given .1) (c .before .before .before .before .before .before .read-header .ensures (c .before .before .before .before .before .before .before .before .before .before .before .before .before .before .before .before .before .before .before .before .before .before .before .before .before .before .before .before .args .hubs .now)))
 
 same-length-4 : tie.Need-same-length-4
 same-length-4 c = search needs
@@ -67,8 +63,8 @@ same-length-5 : tie.Need-same-length-5
 same-length-5 c = search needs
 
 returns-2 : tie.Need-returns-2
-unfolding bringUpAddress step onSent nothingRead
-returns-2 c = rw (played-sends, ← c .before .before .before .before .before .before .send .ensures .1, ← c .before .before .before .before .before .before .send .ensures .0, c .before .before .s .given .1, ← c .before .before .before .before .before .before .before .before .before .before .before .before .before .route-string .ensures, ← c .before .before .before .before .before .before .before .before .before .before .before .before .transaction-translator .ensures, ← c .before .before .before .before .before .before .before .before .before .before .address-context .ensures, played-ends, c .before-reading .ensures, valid-none _ (c .before .before .before .before .before .before .before .before .before .before .before .before .before .before .before .before .before .before .before .before .pre .1 .1))
+unfolding bringUpAddress
+returns-2 c = rw (← c .before .before .before .before .before .before .before .before .before .before .before .before .before .route-string .ensures, ← c .before .before .before .before .before .before .before .before .before .before .before .before .transaction-translator .ensures, ← c .before .before .before .before .before .before .before .before .before .before .address-context .ensures) (failed-before _ _ _ _ (c .before .before .before .before .before .before .send .ensures) _ _ (c .before .before .before .before .before .before .before .before .before .before .before .before .before .before .before .before .before .before .before .before .pre .1 .1) (c .before .before .s .given .1) (c .before-reading .ensures))
 
 same-length-6 : tie.Need-same-length-6
 same-length-6 c = search needs
@@ -77,8 +73,8 @@ same-length-7 : tie.Need-same-length-7
 same-length-7 c = search needs
 
 returns-3 : tie.Need-returns-3
-unfolding bringUpAddress step onSent nothingRead
-returns-3 c = rw (played-sends, ← c .before .before .before .before .before .send .ensures .1, ← c .before .before .before .before .before .send .ensures .0, c .before .enum-told2 .given .1, ← c .before .before .before .before .before .before .before .before .before .before .before .before .route-string .ensures, ← c .before .before .before .before .before .before .before .before .before .before .before .transaction-translator .ensures, ← c .before .before .before .before .before .before .before .before .before .address-context .ensures, played-ends, c .before-reading2 .ensures, valid-none _ (c .before .before .before .before .before .before .before .before .before .before .before .before .before .before .before .before .before .before .before .pre .1 .1))
+unfolding bringUpAddress
+returns-3 c = rw (← c .before .before .before .before .before .before .before .before .before .before .before .before .route-string .ensures, ← c .before .before .before .before .before .before .before .before .before .before .before .transaction-translator .ensures, ← c .before .before .before .before .before .before .before .before .before .address-context .ensures) (cut-before _ _ _ _ (c .before .before .before .before .before .send .ensures) _ _ (c .before .before .before .before .before .before .before .before .before .before .before .before .before .before .before .before .before .before .before .pre .1 .1) (c .before .enum-told2 .given .1) (c .before-reading2 .ensures))
 
 pub address-spec : {M : Type 1} → statement M
 address-spec =

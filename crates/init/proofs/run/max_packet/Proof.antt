@@ -1,10 +1,6 @@
-use Rattle.init.specs.Reading.{nothingRead}
-use Rattle.init.specs.Init.{bringUpPacket, step}
-use Rattle.init.proofs.Steps.{spaced-same}
-use Rattle.init.proofs.Lists.{valid-none}
+use Rattle.init.proofs.Steps.{spaced-same, done, failed-before, cut-before}
+use Rattle.init.specs.Init.{bringUpPacket}
 use native.Mathlib.Omega.{arith}
-use Rattle.command.specs.Course.{onSent}
-use Rattle.command.proofs.Laws.{played-ends, played-sends}
 use borrow.Author.Needs.{needs}
 use Rattle.init.proofs.run.max_packet.Statement.{statement}
 use Rattle.init.proofs.run.max_packet.Tie as tie
@@ -49,8 +45,8 @@ same-length-3 : tie.Need-same-length-3
 same-length-3 c = search needs
 
 returns : tie.Need-returns
-unfolding bringUpPacket step onSent nothingRead
-returns c = λ hubs. rw (played-sends, ← c .before .before .before .before .before .before .before .before .before .before .before .before .before .before .send .ensures .1, ← c .before .before .before .before .before .before .before .before .before .before .before .before .before .before .send .ensures .0, c .before .before .before .before .before .before .before .before .before .before .enum-told .given .1, ← c .before .before .before .before .before .before .before .before .before .before .before .before .before .before .before .before .before .before .setup-max-packet .ensures) (c .before .before .before .before .before .before .read-configuration .ensures hubs)
+unfolding bringUpPacket
+returns c = λ hubs. rw (← c .before .before .before .before .before .before .before .before .before .before .before .before .before .before .before .before .before .before .setup-max-packet .ensures) (done _ _ _ _ (c .before .before .before .before .before .before .before .before .before .before .before .before .before .before .send .ensures) _ _ _ _ (c .before .before .before .before .before .before .before .before .before .before .enum-told .given .1) (c .before .before .before .before .before .before .read-configuration .ensures hubs))
 
 same-length-4 : tie.Need-same-length-4
 same-length-4 c = search needs
@@ -59,8 +55,8 @@ same-length-5 : tie.Need-same-length-5
 same-length-5 c = search needs
 
 returns-2 : tie.Need-returns-2
-unfolding bringUpPacket step onSent nothingRead
-returns-2 c = λ hubs. rw (played-sends, ← c .before .before .before .before .before .before .send .ensures .1, ← c .before .before .before .before .before .before .send .ensures .0, c .before .before .s .given .1, ← c .before .before .before .before .before .before .before .before .before .before .setup-max-packet .ensures, played-ends, c .before-reading .ensures, valid-none _ (c .before .before .before .before .before .before .before .before .before .before .before .before .before .before .before .before .before .pre .1 .1))
+unfolding bringUpPacket
+returns-2 c = λ hubs. rw (← c .before .before .before .before .before .before .before .before .before .before .setup-max-packet .ensures) (failed-before _ _ _ _ (c .before .before .before .before .before .before .send .ensures) _ _ (c .before .before .before .before .before .before .before .before .before .before .before .before .before .before .before .before .before .pre .1 .1) (c .before .before .s .given .1) (c .before-reading .ensures))
 
 same-length-6 : tie.Need-same-length-6
 same-length-6 c = search needs
@@ -69,8 +65,8 @@ same-length-7 : tie.Need-same-length-7
 same-length-7 c = search needs
 
 returns-3 : tie.Need-returns-3
-unfolding bringUpPacket step onSent nothingRead
-returns-3 c = λ hubs. rw (played-sends, ← c .before .before .before .before .before .send .ensures .1, ← c .before .before .before .before .before .send .ensures .0, c .before .enum-told2 .given .1, ← c .before .before .before .before .before .before .before .before .before .setup-max-packet .ensures, played-ends, c .before-reading2 .ensures, valid-none _ (c .before .before .before .before .before .before .before .before .before .before .before .before .before .before .before .before .pre .1 .1))
+unfolding bringUpPacket
+returns-3 c = λ hubs. rw (← c .before .before .before .before .before .before .before .before .before .setup-max-packet .ensures) (cut-before _ _ _ _ (c .before .before .before .before .before .send .ensures) _ _ (c .before .before .before .before .before .before .before .before .before .before .before .before .before .before .before .before .pre .1 .1) (c .before .enum-told2 .given .1) (c .before-reading2 .ensures))
 
 pub max-packet-spec : {M : Type 1} → statement M
 max-packet-spec =

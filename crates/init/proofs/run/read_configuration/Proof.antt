@@ -1,9 +1,6 @@
-use Rattle.init.specs.Reading.{nothingRead}
-use Rattle.init.specs.Init.{bringUpConfiguration, step}
-use Rattle.init.proofs.Lists.{valid-none}
+use Rattle.init.proofs.Steps.{done, failed-before, cut-before}
+use Rattle.init.specs.Init.{bringUpConfiguration}
 use native.Mathlib.Omega.{arith}
-use Rattle.command.specs.Course.{onSent}
-use Rattle.command.proofs.Laws.{played-ends, played-sends}
 use borrow.Author.Needs.{needs}
 use Rattle.init.proofs.run.read_configuration.Statement.{statement}
 use Rattle.init.proofs.run.read_configuration.Tie as tie
@@ -44,22 +41,22 @@ same-length-3 : tie.Need-same-length-3
 same-length-3 c = search needs
 
 returns : tie.Need-returns
-unfolding bringUpConfiguration step onSent nothingRead
-returns c = λ hubs. rw (played-sends, ← c .before .before .before .before .before .before .before .before .before .before .before .before .before .before .send .ensures .1, ← c .before .before .before .before .before .before .before .before .before .before .before .before .before .before .send .ensures .0, c .before .before .before .before .before .before .before .before .before .before .enum-told .given .1) (c .before .before .before .before .before .before .read-device .ensures hubs)
+unfolding bringUpConfiguration
+returns c = λ hubs. done _ _ _ _ (c .before .before .before .before .before .before .before .before .before .before .before .before .before .before .send .ensures) _ _ _ _ (c .before .before .before .before .before .before .before .before .before .before .enum-told .given .1) (c .before .before .before .before .before .before .read-device .ensures hubs)
 
 same-length-4 : tie.Need-same-length-4
 same-length-4 c = search needs
 
 returns-2 : tie.Need-returns-2
-unfolding bringUpConfiguration step onSent nothingRead
-returns-2 c = λ hubs. rw (played-sends, ← c .before .before .before .before .before .before .send .ensures .1, ← c .before .before .before .before .before .before .send .ensures .0, c .before .before .s .given .1, played-ends, c .before-reading .ensures, valid-none _ (c .before .before .before .before .before .before .before .before .before .before .before .before .before .pre .1 .1))
+unfolding bringUpConfiguration
+returns-2 c = λ hubs. failed-before _ _ _ _ (c .before .before .before .before .before .before .send .ensures) _ _ (c .before .before .before .before .before .before .before .before .before .before .before .before .before .pre .1 .1) (c .before .before .s .given .1) (c .before-reading .ensures)
 
 same-length-5 : tie.Need-same-length-5
 same-length-5 c = search needs
 
 returns-3 : tie.Need-returns-3
-unfolding bringUpConfiguration step onSent nothingRead
-returns-3 c = λ hubs. rw (played-sends, ← c .before .before .before .before .before .send .ensures .1, ← c .before .before .before .before .before .send .ensures .0, c .before .enum-told2 .given .1, played-ends, c .before-reading2 .ensures, valid-none _ (c .before .before .before .before .before .before .before .before .before .before .before .before .pre .1 .1))
+unfolding bringUpConfiguration
+returns-3 c = λ hubs. cut-before _ _ _ _ (c .before .before .before .before .before .send .ensures) _ _ (c .before .before .before .before .before .before .before .before .before .before .before .before .pre .1 .1) (c .before .enum-told2 .given .1) (c .before-reading2 .ensures)
 
 pub read-configuration-spec : {M : Type 1} → statement M
 read-configuration-spec =

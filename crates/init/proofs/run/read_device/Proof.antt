@@ -1,8 +1,6 @@
-use Rattle.init.specs.Reading.{readUpTo}
-use Rattle.init.specs.Init.{bringUpDevice, step}
+use Rattle.init.proofs.Steps.{done-where, done-else, failed-after, cut-after, ended-after}
+use Rattle.init.specs.Init.{bringUpDevice}
 use native.Mathlib.Omega.{arith}
-use Rattle.command.specs.Course.{onSent}
-use Rattle.command.proofs.Laws.{played-ends, played-sends}
 use borrow.Author.Tests.{eq-eqb, ne-eqb}
 use borrow.Author.Needs.{needs}
 use Rattle.init.proofs.run.read_device.Statement.{statement}
@@ -26,8 +24,8 @@ same-length : tie.Need-same-length
 same-length c = search needs
 
 returns : tie.Need-returns
-unfolding bringUpDevice step onSent readUpTo
-returns c = λ hubs. rw (played-sends, ← c .before .before .before .before .before .before .send .ensures .1, ← c .before .before .before .before .before .before .send .ensures .0, c .before .before .enum-told .given .1, eq-eqb _ _ (c .before .if1 .taken), played-ends, c .after-reading .ensures)
+unfolding bringUpDevice
+returns c = λ hubs. done-where _ _ _ _ (c .before .before .before .before .before .before .send .ensures) _ _ _ _ _ _ (c .before .before .enum-told .given .1) (eq-eqb _ _ (c .before .if1 .taken)) (ended-after _ _ (c .after-reading .ensures))
 
 read-configs-requires : tie.Need-read-configs-requires
 read-configs-requires c κs = (c .before .before .before .before .before .before .before .before .before .before .before .before .before .before .before .pre .0, (omega (arith, c .before .before .before .before .before .before .before .before .send .kept .0, c .before .before .before .before .before .before .before .before .before .before .before .before .before .before .before .pre .1 .0), c .before .before .before .before .before .before .before .before .before .before .before .before .before .before .before .pre .1 .1))
@@ -54,22 +52,22 @@ same-length-4 : tie.Need-same-length-4
 same-length-4 c = search needs
 
 returns-2 : tie.Need-returns-2
-unfolding bringUpDevice step onSent readUpTo
-returns-2 c = λ hubs. rw (played-sends, ← c .before .before .before .before .before .before .before .before .before .before .before .before .before .before .before .send .ensures .1, ← c .before .before .before .before .before .before .before .before .before .before .before .before .before .before .before .send .ensures .0, c .before .before .before .before .before .before .before .before .before .before .before .enum-told .given .1, ne-eqb _ _ (c .before .before .before .before .before .before .before .before .before .before .if1 .left)) (c .before .before .before .before .before .before .read-configs .ensures hubs)
+unfolding bringUpDevice
+returns-2 c = λ hubs. done-else _ _ _ _ (c .before .before .before .before .before .before .before .before .before .before .before .before .before .before .before .send .ensures) _ _ _ _ _ _ (c .before .before .before .before .before .before .before .before .before .before .before .enum-told .given .1) (ne-eqb _ _ (c .before .before .before .before .before .before .before .before .before .before .if1 .left)) (c .before .before .before .before .before .before .read-configs .ensures hubs)
 
 same-length-5 : tie.Need-same-length-5
 same-length-5 c = search needs
 
 returns-3 : tie.Need-returns-3
-unfolding bringUpDevice step onSent readUpTo
-returns-3 c = λ hubs. rw (played-sends, ← c .before .before .before .before .before .before .send .ensures .1, ← c .before .before .before .before .before .before .send .ensures .0, c .before .before .s .given .1, played-ends, c .after-reading2 .ensures)
+unfolding bringUpDevice
+returns-3 c = λ hubs. failed-after _ _ _ _ (c .before .before .before .before .before .before .send .ensures) _ _ _ (c .before .before .s .given .1) (c .after-reading2 .ensures)
 
 same-length-6 : tie.Need-same-length-6
 same-length-6 c = search needs
 
 returns-4 : tie.Need-returns-4
-unfolding bringUpDevice step onSent readUpTo
-returns-4 c = λ hubs. rw (played-sends, ← c .before .before .before .before .before .send .ensures .1, ← c .before .before .before .before .before .send .ensures .0, c .before .enum-told2 .given .1, played-ends, c .after-reading3 .ensures)
+unfolding bringUpDevice
+returns-4 c = λ hubs. cut-after _ _ _ _ (c .before .before .before .before .before .send .ensures) _ _ _ (c .before .enum-told2 .given .1) (c .after-reading3 .ensures)
 
 pub read-device-spec : {M : Type 1} → statement M
 read-device-spec =

@@ -1,9 +1,6 @@
-use Rattle.init.specs.Reading.{nothingRead}
-use Rattle.init.specs.Init.{bringUpHeader, step}
-use Rattle.init.proofs.Lists.{valid-none}
+use Rattle.init.proofs.Steps.{done-where, done-else, failed-before, cut-before, ended-before}
+use Rattle.init.specs.Init.{bringUpHeader}
 use native.Mathlib.Omega.{arith}
-use Rattle.command.specs.Course.{onSent}
-use Rattle.command.proofs.Laws.{played-ends, played-sends}
 use borrow.Author.Tests.{eq-eqb, ne-eqb}
 use borrow.Author.Needs.{needs}
 use Rattle.init.proofs.run.read_header.Statement.{statement}
@@ -27,8 +24,8 @@ same-length : tie.Need-same-length
 same-length c = search needs
 
 returns : tie.Need-returns
-unfolding bringUpHeader step onSent nothingRead
-returns c = λ hubs. rw (played-sends, ← c .before .before .before .before .before .before .before .send .ensures .1, ← c .before .before .before .before .before .before .before .send .ensures .0, c .before .before .before .enum-told .given .1, ne-eqb _ _ (c .before .if1 .taken), played-ends, c .before-reading .ensures, valid-none _ (c .before .before .before .before .before .before .before .before .before .before .before .before .before .before .pre .1 .1))
+unfolding bringUpHeader
+returns c = λ hubs. done-else _ _ _ _ (c .before .before .before .before .before .before .before .send .ensures) _ _ _ _ _ _ (c .before .before .before .enum-told .given .1) (ne-eqb _ _ (c .before .if1 .taken)) (ended-before _ _ (c .before .before .before .before .before .before .before .before .before .before .before .before .before .before .pre .1 .1) (c .before-reading .ensures))
 
 max-packet-requires : tie.Need-max-packet-requires
 max-packet-requires c κs = (c .before .before .before .before .before .before .before .before .before .before .before .before .before .before .before .before .pre .0, (omega (arith, c .before .before .before .before .before .before .before .before .before .send .kept .0, c .before .before .before .before .before .before .before .before .before .before .before .before .before .before .before .before .pre .1 .0), c .before .before .before .before .before .before .before .before .before .before .before .before .before .before .before .before .pre .1 .1))
@@ -55,22 +52,22 @@ same-length-4 : tie.Need-same-length-4
 same-length-4 c = search needs
 
 returns-2 : tie.Need-returns-2
-unfolding bringUpHeader step onSent nothingRead
-returns-2 c = λ hubs. rw (played-sends, ← c .before .before .before .before .before .before .before .before .before .before .before .before .before .before .before .before .send .ensures .1, ← c .before .before .before .before .before .before .before .before .before .before .before .before .before .before .before .before .send .ensures .0, c .before .before .before .before .before .before .before .before .before .before .before .before .enum-told .given .1, eq-eqb _ _ (c .before .before .before .before .before .before .before .before .before .before .if1 .left)) (c .before .before .before .before .before .before .max-packet .ensures hubs)
+unfolding bringUpHeader
+returns-2 c = λ hubs. done-where _ _ _ _ (c .before .before .before .before .before .before .before .before .before .before .before .before .before .before .before .before .send .ensures) _ _ _ _ _ _ (c .before .before .before .before .before .before .before .before .before .before .before .before .enum-told .given .1) (eq-eqb _ _ (c .before .before .before .before .before .before .before .before .before .before .if1 .left)) (c .before .before .before .before .before .before .max-packet .ensures hubs)
 
 same-length-5 : tie.Need-same-length-5
 same-length-5 c = search needs
 
 returns-3 : tie.Need-returns-3
-unfolding bringUpHeader step onSent nothingRead
-returns-3 c = λ hubs. rw (played-sends, ← c .before .before .before .before .before .before .send .ensures .1, ← c .before .before .before .before .before .before .send .ensures .0, c .before .before .s .given .1, played-ends, c .before-reading2 .ensures, valid-none _ (c .before .before .before .before .before .before .before .before .before .before .before .before .before .pre .1 .1))
+unfolding bringUpHeader
+returns-3 c = λ hubs. failed-before _ _ _ _ (c .before .before .before .before .before .before .send .ensures) _ _ (c .before .before .before .before .before .before .before .before .before .before .before .before .before .pre .1 .1) (c .before .before .s .given .1) (c .before-reading2 .ensures)
 
 same-length-6 : tie.Need-same-length-6
 same-length-6 c = search needs
 
 returns-4 : tie.Need-returns-4
-unfolding bringUpHeader step onSent nothingRead
-returns-4 c = λ hubs. rw (played-sends, ← c .before .before .before .before .before .send .ensures .1, ← c .before .before .before .before .before .send .ensures .0, c .before .enum-told2 .given .1, played-ends, c .before-reading3 .ensures, valid-none _ (c .before .before .before .before .before .before .before .before .before .before .before .before .pre .1 .1))
+unfolding bringUpHeader
+returns-4 c = λ hubs. cut-before _ _ _ _ (c .before .before .before .before .before .send .ensures) _ _ (c .before .before .before .before .before .before .before .before .before .before .before .before .pre .1 .1) (c .before .enum-told2 .given .1) (c .before-reading3 .ensures)
 
 pub read-header-spec : {M : Type 1} → statement M
 read-header-spec =
