@@ -1,7 +1,7 @@
 -- What the checks of a bring-up come to, and what it says that they passed.
 use Prim.Native.Nat.{ℕ, _+_, _*_, _≤_}
 use mathlib.Core.Path.{_≡_, refl, sym, ap, _∙_}
-use mathlib.Core.Bool.{Bool, true, false, cond, _&&_, _||_}
+use mathlib.Core.Bool.{true, _&&_, _||_}
 use mathlib.Core.List.{List}
 use mathlib.Core.Logic.{_⊎_, inl, inr, ⊎-elim}
 use native.Mathlib.Omega.{arith}
@@ -14,8 +14,6 @@ use Rattle.def.specs.Speed.{speedKnown}
 use Rattle.configuration.specs.Valid.{validList}
 use Rattle.hub.specs.Chain.{chainOk}
 use Rattle.ring.specs.Rings.{ringOk}
-use Rattle.transfer.specs.declared.Registered.the-variants as register
-use Rattle.transfer.specs.Routes.{routeOf, withRoute, registered, withRegistered}
 use Rattle.answer.specs.declared.Answer.the-variants as answer
 use Rattle.answer.specs.declared.Check.{Check}
 use Rattle.answer.specs.declared.Check.the-variants.{Pass, Refuse}
@@ -125,29 +123,3 @@ module _ (a : BringUp) where
         },
         e8 .1,
       )
-
--- 17 is what registering control's route finds.
-
-full-or : (b : Bool) (x y : List ℕ) → cond b register.Done register.QueueFull ≡ register.QueueFull →
-    (cond b Pass (Refuse answer.QueueFull) ≡ Refuse answer.QueueFull) × (cond b x y ≡ y)
-full-or true x y e = let z : _≡_ {A = ℕ} 0 1 = cc in absurd (omega arith)
-full-or false x y e = (refl, refl)
-
-free-or : (b : Bool) (x y : List ℕ) → cond b register.Done register.QueueFull ≡ register.Done →
-    (cond b Pass (Refuse answer.QueueFull) ≡ Pass) × (cond b x y ≡ x)
-free-or true x y e = (refl, refl)
-free-or false x y e = let z : _≡_ {A = ℕ} 0 1 = cc in absurd (omega arith)
-
-module _ (a : BringUp) (routes : List ℕ) where
-  -- control's route is there already
-  pub queue-full : registered routes (a .slot) 1 ≡ register.QueueFull →
-      (queueCheck a routes ≡ Refuse answer.QueueFull) × (withRegistered routes (a .slot) 1 (a .ring) ≡ routes)
-  unfolding registered withRegistered queueCheck
-  queue-full e = full-or (eqb (routeOf routes (a .slot) 1) 0) (withRoute routes (a .slot) 1 (a .ring)) routes e
-
-  -- or is registered now
-  pub queue-free : registered routes (a .slot) 1 ≡ register.Done →
-      (queueCheck a routes ≡ Pass)
-      × (withRegistered routes (a .slot) 1 (a .ring) ≡ withRoute routes (a .slot) 1 (a .ring))
-  unfolding registered withRegistered queueCheck
-  queue-free e = free-or (eqb (routeOf routes (a .slot) 1) 0) (withRoute routes (a .slot) 1 (a .ring)) routes e

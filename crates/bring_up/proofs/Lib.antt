@@ -1,3 +1,4 @@
 pub mod Accepted
 pub mod Checks
 pub mod Laws
+mod Steps

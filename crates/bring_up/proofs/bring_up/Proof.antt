@@ -1,11 +1,5 @@
+use Rattle.bring_up.proofs.Steps.{refused-left, passed-left, passed-room}
 use Rattle.init.specs.Reading.{bringUpOf}
-use Rattle.bring_up.specs.BringUp.{bringUp}
-use Rattle.bring_up.proofs.Checks.{check-then, passed}
-use Rattle.answer.specs.declared.Check.the-variants.{Pass}
-use Rattle.device.proofs.Laws.{andThen}
-use Rattle.device.specs.Calls.{onCheck}
-use Rattle.device.specs.Left.{refused}
-use mathlib.Core.Path.{sym, _∙_}
 use borrow.Author.Needs.{needs}
 use Rattle.bring_up.proofs.bring_up.Statement.{statement}
 use Rattle.bring_up.proofs.bring_up.Tie as tie
@@ -28,11 +22,10 @@ enum-told : tie.Need-enum-told
 enum-told c = search needs
 
 register-requires : tie.Need-register-requires
-register-requires c κs = let p = passed (bringUpOf (c .before .before .before .before .before .before .before .before .before .before .before .before .args .a) (c .before .before .before .before .before .before .before .before .before .before .before .before .args .hubs .now) (c .before .before .before .before .before .before .before .before .before .before .before .before .args .list .now)) _ _ _ Pass (sym (c .before .before .before .before .before .bring-up-check .ensures) ∙ c .before .before .before .enum-told .given .1) .0 in (p .spaced, ((p .n-high, p .room), p .list))
+register-requires c κs = passed-room (bringUpOf (c .before .before .before .before .before .before .before .before .before .before .before .before .args .a) (c .before .before .before .before .before .before .before .before .before .before .before .before .args .hubs .now) (c .before .before .before .before .before .before .before .before .before .before .before .before .args .list .now)) _ _ _ (c .before .before .before .before .before .bring-up-check .ensures) (c .before .before .before .enum-told .given .1)
 
 returns : tie.Need-returns
-unfolding bringUp onCheck refused andThen
-returns c = rw (check-then, ← c .before .before .before .before .bring-up-check .ensures, c .before .before .check .given .1, c .refuse .ensures)
+returns c = refused-left _ _ _ _ (c .before .before .before .before .bring-up-check .ensures) _ (c .before .before .check .given .1) (c .refuse .ensures)
 
 same-length : tie.Need-same-length
 same-length c = search needs
@@ -44,8 +37,7 @@ same-length-3 : tie.Need-same-length-3
 same-length-3 c = search needs
 
 returns-2 : tie.Need-returns-2
-unfolding bringUp onCheck andThen
-returns-2 c = rw (check-then, ← c .before .before .before .before .before .before .before .before .before .before .before .before .bring-up-check .ensures, c .before .before .before .before .before .before .before .before .before .before .enum-told .given .1) (c .before .before .before .before .before .before .register .ensures)
+returns-2 c = passed-left _ _ _ _ (c .before .before .before .before .before .before .before .before .before .before .before .before .bring-up-check .ensures) _ (c .before .before .before .before .before .before .before .before .before .before .enum-told .given .1) (c .before .before .before .before .before .before .register .ensures)
 
 pub bring-up-spec : {M : Type 1} → statement M
 bring-up-spec =

@@ -1,9 +1,5 @@
+use Rattle.bring_up.proofs.Steps.{full-left, registered-left}
 use Rattle.init.specs.Reading.{bringUpOf}
-use Rattle.bring_up.specs.BringUp.{bringUpCourse}
-use Rattle.bring_up.proofs.Checks.{queue-full, queue-free}
-use Rattle.device.specs.Calls.{onCheck}
-use Rattle.device.specs.Left.{refused}
-use mathlib.Core.Path.{sym, _∙_}
 use borrow.Author.Needs.{needs}
 use Rattle.bring_up.proofs.register.Statement.{statement}
 use Rattle.bring_up.proofs.register.Tie as tie
@@ -32,8 +28,7 @@ same-length : tie.Need-same-length
 same-length c = search needs
 
 returns : tie.Need-returns
-unfolding onCheck refused
-returns c = let q = queue-full (bringUpOf (c .before .before .before .before .before .before .before .before .before .before .before .before .before .args .a) (c .before .before .before .before .before .before .before .before .before .before .before .before .before .args .hubs .now) (c .before .before .before .before .before .before .before .before .before .before .before .before .before .args .list .now)) (c .before .before .before .before .before .before .before .before .before .before .before .before .before .args .routes .now) (sym (c .before .before .before .before .before .register-queue .ensures .0) ∙ c .before .enum-told .given .1) in rw (q .0, c .before .before .before .before .before .register-queue .ensures .1, q .1, c .refuse .ensures)
+returns c = full-left (bringUpOf (c .before .before .before .before .before .before .before .before .before .before .before .before .before .args .a) (c .before .before .before .before .before .before .before .before .before .before .before .before .before .args .hubs .now) (c .before .before .before .before .before .before .before .before .before .before .before .before .before .args .list .now)) _ _ _ (c .before .before .before .before .before .register-queue .ensures) _ (c .before .enum-told .given .1) (c .refuse .ensures)
 
 same-length-2 : tie.Need-same-length-2
 same-length-2 c = search needs
@@ -45,8 +40,7 @@ same-length-4 : tie.Need-same-length-4
 same-length-4 c = search needs
 
 returns-2 : tie.Need-returns-2
-unfolding onCheck bringUpCourse
-returns-2 c = let q = queue-free (bringUpOf (c .before .before .before .before .before .before .before .before .before .before .before .before .before .before .before .before .before .before .before .before .before .before .args .a) (c .before .before .before .before .before .before .before .before .before .before .before .before .before .before .before .before .before .before .before .before .before .before .args .hubs .now) (c .before .before .before .before .before .before .before .before .before .before .before .before .before .before .before .before .before .before .before .before .before .before .args .list .now)) (c .before .before .before .before .before .before .before .before .before .before .before .before .before .before .before .before .before .before .before .before .before .before .args .routes .now) (sym (c .before .before .before .before .before .before .before .before .before .before .before .before .before .before .register-queue .ensures .0) ∙ c .before .before .before .before .before .before .before .before .before .before .enum-told2 .given .1) in rw (q .0, ← q .1, ← c .before .before .before .before .before .before .before .before .before .before .before .before .before .before .register-queue .ensures .1) (c .before .before .before .before .before .before .run-bring-up .ensures)
+returns-2 c = registered-left (bringUpOf (c .before .before .before .before .before .before .before .before .before .before .before .before .before .before .before .before .before .before .before .before .before .before .args .a) (c .before .before .before .before .before .before .before .before .before .before .before .before .before .before .before .before .before .before .before .before .before .before .args .hubs .now) (c .before .before .before .before .before .before .before .before .before .before .before .before .before .before .before .before .before .before .before .before .before .before .args .list .now)) _ _ _ (c .before .before .before .before .before .before .before .before .before .before .before .before .before .before .register-queue .ensures) _ _ (c .before .before .before .before .before .before .before .before .before .before .enum-told2 .given .1) (c .before .before .before .before .before .before .run-bring-up .ensures)
 
 pub register-spec : {M : Type 1} → statement M
 register-spec =

@@ -1,4 +1,4 @@
-use Rattle.bring_up.specs.BringUp.{broughtLeft}
+use Rattle.bring_up.proofs.Steps.{course-left}
 use Rattle.configuration.proofs.Laws.{valid-length}
 use borrow.Author.Needs.{needs}
 use Rattle.bring_up.proofs.run_bring_up.Statement.{statement}
@@ -28,8 +28,7 @@ same-length-3 : tie.Need-same-length-3
 same-length-3 c = search needs
 
 returns : tie.Need-returns
-unfolding broughtLeft
-returns c = rw (← c .before .before .before .before .before .before .before .before .before .before .before .spacing-of .ensures, ← c .before .before .before .before .before .before .before .address .ensures, c .brought-device .ensures (c .before .before .before .before .before .before .before .before .before .before .before .before .before .before .before .before .before .before .args .hubs .now) (c .before .before .before .before .before .before .before .address .last .0) (c .before .before .before .before .before .before .before .address .last .1 .0) (c .before .before .before .before .before .before .before .address .last .1 .1 .0))
+returns c = course-left _ _ _ _ _ _ (c .before .before .before .before .before .before .before .before .before .before .before .spacing-of .ensures) (c .before .before .before .before .before .before .before .address .ensures) (c .brought-device .ensures (c .before .before .before .before .before .before .before .before .before .before .before .before .before .before .before .before .before .before .args .hubs .now) (c .before .before .before .before .before .before .before .address .last .0) (c .before .before .before .before .before .before .before .address .last .1 .0) (c .before .before .before .before .before .before .before .address .last .1 .1 .0))
 
 pub run-bring-up-spec : {M : Type 1} → statement M
 run-bring-up-spec =
