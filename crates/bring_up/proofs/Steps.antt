@@ -7,7 +7,7 @@ use native.Mathlib.Omega.{arith}
 use lib.Dec.{eqb}
 use lib.ListN.{length}
 use Rattle.configuration.specs.Valid.{validList}
-use Rattle.transfer.specs.declared.Registered.{Registered}
+use Rattle.configuration.proofs.Laws.{valid-length}
 use Rattle.transfer.specs.declared.Registered.the-variants as register
 use Rattle.transfer.specs.Routes.{routeOf, withRoute, registered, withRegistered}
 use Rattle.answer.specs.declared.Answer.{Answer}
@@ -18,91 +18,104 @@ use Rattle.command.specs.Course.{Played, played}
 use Rattle.context.specs.Place.{Spaced}
 use Rattle.init.specs.Reading.{BringUp, Brought}
 use Rattle.init.specs.Init.{bringUpAddress}
-use Rattle.device.specs.declared.record.Device.{Device}
 use Rattle.device.specs.declared.record.Called.{Called}
 use Rattle.device.specs.Left.{Left, leaves, refused}
 use Rattle.device.specs.Calls.{onCheck}
 use Rattle.device.proofs.Laws.{andThen}
-use Rattle.bring_up.specs.BringUp.{spacingOf, slotCheck, deviceCheck, queueCheck, bringUpCourse, broughtRecord, noDevice, broughtLeft, bringUp}
+use Rattle.bring_up.specs.BringUp.{spacingOf, slotCheck, deviceCheck, queueCheck, bringUpCheck, bringUpCourse, noDevice, broughtLeft, bringUp}
 use Rattle.bring_up.proofs.Checks.{check-then, Passed, passed}
 
-full-or : (b : Bool) (x y : List ℕ) → cond b register.Done register.QueueFull ≡ register.QueueFull →
-    (cond b Pass (Refuse answer.QueueFull) ≡ Refuse answer.QueueFull) × (cond b x y ≡ y)
-full-or true x y e = let z : _≡_ {A = ℕ} 0 1 = cc in absurd (omega arith)
-full-or false x y e = (refl, refl)
+-- one test decides what is answered, what 17 says, and what is left of the table
+full-test : (b : Bool) → cond b register.Done register.QueueFull ≡ register.QueueFull →
+    Refuse answer.QueueFull ≡ cond b Pass (Refuse answer.QueueFull)
+full-test true e = let z : _≡_ {A = ℕ} 0 1 = cc in absurd (omega arith)
+full-test false e = refl
 
-free-or : (b : Bool) (x y : List ℕ) → cond b register.Done register.QueueFull ≡ register.Done →
-    (cond b Pass (Refuse answer.QueueFull) ≡ Pass) × (cond b x y ≡ x)
-free-or true x y e = (refl, refl)
-free-or false x y e = let z : _≡_ {A = ℕ} 0 1 = cc in absurd (omega arith)
+free-test : (b : Bool) → cond b register.Done register.QueueFull ≡ register.Done → Pass ≡ cond b Pass (Refuse answer.QueueFull)
+free-test true e = refl
+free-test false e = let z : _≡_ {A = ℕ} 0 1 = cc in absurd (omega arith)
+
+pass-test : (b : Bool) (x y : List ℕ) → cond b Pass (Refuse answer.QueueFull) ≡ Pass → cond b x y ≡ x
+pass-test true x y e = refl
+pass-test false x y e = let z : _≡_ {A = ℕ} 0 1 = cc in absurd (omega arith)
+
+refuse-test : (b : Bool) (x y : List ℕ) (z : Answer) → cond b Pass (Refuse answer.QueueFull) ≡ Refuse z → cond b x y ≡ y
+refuse-test true x y z e = let z : _≡_ {A = ℕ} 0 1 = cc in absurd (omega arith)
+refuse-test false x y z e = refl
 
 module _ (a : BringUp) (routes : List ℕ) where
   -- control's route is there already
-  queue-full : registered routes (a .slot) 1 ≡ register.QueueFull →
-      (queueCheck a routes ≡ Refuse answer.QueueFull) × (withRegistered routes (a .slot) 1 (a .ring) ≡ routes)
-  unfolding registered withRegistered queueCheck
-  queue-full e = full-or (eqb (routeOf routes (a .slot) 1) 0) (withRoute routes (a .slot) 1 (a .ring)) routes e
+  pub queue-full : registered routes (a .slot) 1 ≡ register.QueueFull → Refuse answer.QueueFull ≡ queueCheck a routes
+  unfolding registered queueCheck
+  queue-full e = full-test (eqb (routeOf routes (a .slot) 1) 0) e
 
   -- or is registered now
-  queue-free : registered routes (a .slot) 1 ≡ register.Done →
-      (queueCheck a routes ≡ Pass)
-      × (withRegistered routes (a .slot) 1 (a .ring) ≡ withRoute routes (a .slot) 1 (a .ring))
-  unfolding registered withRegistered queueCheck
-  queue-free e = free-or (eqb (routeOf routes (a .slot) 1) 0) (withRoute routes (a .slot) 1 (a .ring)) routes e
+  pub queue-free : registered routes (a .slot) 1 ≡ register.Done → Pass ≡ queueCheck a routes
+  unfolding registered queueCheck
+  queue-free e = free-test (eqb (routeOf routes (a .slot) 1) 0) e
 
-module _ (a : BringUp) (ctx routes log : List ℕ) where
-  module _
-      {r : Registered} {left : List ℕ}
-      (done : (r ≡ registered routes (a .slot) 1) × (left ≡ withRegistered routes (a .slot) 1 (a .ring))) where
-    -- 17
-    pub full-left : (next : Left) {called : Called} → r ≡ register.QueueFull →
-        called ≡ record { device = noDevice; answer = answer.QueueFull; count = 0 } →
-        leaves called ctx left log ≡ onCheck (queueCheck a routes) next (λ x. refused noDevice x ctx routes log)
-    unfolding onCheck refused
-    full-left next e c =
-        let q = queue-full a routes (sym (done .0) ∙ e) in rw (q .0, done .1, q .1, c)
+  queue-pass : queueCheck a routes ≡ Pass → withRegistered routes (a .slot) 1 (a .ring) ≡ withRoute routes (a .slot) 1 (a .ring)
+  unfolding withRegistered queueCheck
+  queue-pass e = pass-test (eqb (routeOf routes (a .slot) 1) 0) (withRoute routes (a .slot) 1 (a .ring)) routes e
 
-    -- control's route is registered, and the course follows
-    pub registered-left : (o : List ℕ) (spacing : ℕ) {l : Left} → r ≡ register.Done →
-        l ≡ broughtLeft a spacing (played o 0 (bringUpAddress a spacing ctx left) log) →
-        l
-        ≡ onCheck (queueCheck a routes) (broughtLeft a spacing (played o 0 (bringUpCourse a spacing ctx routes) log))
-        (λ x. refused noDevice x ctx routes log)
-    unfolding onCheck bringUpCourse
-    registered-left o spacing e h =
-        let q = queue-free a routes (sym (done .0) ∙ e) in rw (q .0, ← q .1, ← done .1) h
+  queue-refuse : (x : Answer) → queueCheck a routes ≡ Refuse x → withRegistered routes (a .slot) 1 (a .ring) ≡ routes
+  unfolding withRegistered queueCheck
+  queue-refuse x e = refuse-test (eqb (routeOf routes (a .slot) 1) 0) (withRoute routes (a .slot) 1 (a .ring)) routes x e
 
-  -- the record that the course's end makes
-  pub course-left : (o : List ℕ) (len : ℕ) {spacing : ℕ} {d : Device} {p : Played Brought} → spacing ≡ spacingOf len →
-      p ≡ played o 0 (bringUpAddress a spacing ctx routes) log → d ≡ broughtRecord a spacing (p .end) →
-      record { device = d; answer = p .end .answer; count = p .count; ctx = p .end .ctx; routes = p .end .routes; log = p .log }
-      ≡ broughtLeft a (spacingOf len) (played o 0 (bringUpAddress a (spacingOf len) ctx routes) log)
-  unfolding broughtLeft
-  course-left o len s e m = rw (← s, ← e, m)
+-- What the checks answer, and the table that they leave.
+abbrev Entered : BringUp → ℕ → List ℕ → ℕ → Check → List ℕ → Type 0
+Entered a ctx routes log r left =
+    (r ≡ bringUpCheck a ctx routes log)
+    × (r ≡ Pass → left ≡ withRoute routes (a .slot) 1 (a .ring))
+    × ((x : Answer) → r ≡ Refuse x → left ≡ routes)
 
-  module _ {check : Check} (checked : check ≡ slotCheck a (length ctx) (length routes) (length log) (deviceCheck a Pass)) where
-    -- a check before 17 refuses
-    pub refused-left : (o : List ℕ) {called : Called} {x : Answer} → check ≡ Refuse x →
-        called ≡ record { device = noDevice; answer = x; count = 0 } →
-        leaves called ctx routes log ≡ bringUp a ctx routes log o
-    unfolding bringUp onCheck refused andThen
-    refused-left o e c = rw (check-then, ← checked, e, c)
+module _
+    (a : BringUp) (ctx : ℕ) (routes : List ℕ) (log : ℕ) {check : Check}
+    (checked : check ≡ slotCheck a ctx (length routes) log (deviceCheck a Pass)) where
+  -- one before 17 refuses
+  pub entered-not : {x : Answer} → check ≡ Refuse x → Entered a ctx routes log (Refuse x) routes
+  unfolding andThen
+  entered-not e = (
+    sym (check-then a ctx routes log ∙ rw (← checked, e)),
+    λ p. let z : _≡_ {A = ℕ} 0 1 = cc in absurd (omega arith),
+    λ y p. refl,
+  )
 
-    -- they pass
-    pub passed-left : (o : List ℕ) {l : Left} → check ≡ Pass →
-        l
-        ≡ onCheck (queueCheck a routes)
-        (broughtLeft a (spacingOf (length ctx)) (played o 0 (bringUpCourse a (spacingOf (length ctx)) ctx routes) log))
-        (λ x. refused noDevice x ctx routes log) →
-        l ≡ bringUp a ctx routes log o
-    unfolding bringUp onCheck andThen
-    passed-left o e h = rw (check-then, ← checked, e) h
+  -- they pass, and 17 decides
+  pub entered : {r : Check} {left : List ℕ} → check ≡ Pass → r ≡ queueCheck a routes →
+      left ≡ withRegistered routes (a .slot) 1 (a .ring) → Entered a ctx routes log r left
+  unfolding andThen
+  entered e q l = (
+    q ∙ sym (check-then a ctx routes log ∙ rw (← checked, e)),
+    λ p. l ∙ queue-pass a routes (sym q ∙ p),
+    λ x p. l ∙ queue-refuse a routes x (sym q ∙ p),
+  )
 
--- what the course has where they pass
-pub passed-room : (a : BringUp) (ctx routes log : ℕ) {check : Check} → check ≡ slotCheck a ctx routes log (deviceCheck a Pass) →
-    check ≡ Pass → Spaced (spacingOf ctx) ctx × (((a .n ≤ 255) × (64 ≤ log)) × (validList (a .list) ≡ true))
-passed-room a ctx routes log e h =
-    let p : Passed a ctx routes log = passed a ctx routes log Pass (sym e ∙ h) .0 in (
-      p .spaced,
-      ((p .n-high, p .room), p .list),
-    )
+module _ (a : BringUp) (ctx routes log : List ℕ) {check : Check} {left : List ℕ} (entry : Entered a (length ctx) routes (length log) check left) where
+  -- a check refuses
+  pub refused-left : (o : List ℕ) {called : Called} {x : Answer} → check ≡ Refuse x →
+      called ≡ record { device = noDevice; answer = x; count = 0 } →
+      leaves called ctx left log ≡ bringUp a ctx routes log o
+  unfolding bringUp onCheck refused
+  refused-left o {x = x} e c = rw (← entry .0, e, entry .2 x e, c)
+
+  -- all pass, and the course follows
+  pub passed-left : (o : List ℕ) {spacing : ℕ} {p : Played Brought} {l : Left} → check ≡ Pass → spacing ≡ spacingOf (length ctx) →
+      p ≡ played o 0 (bringUpAddress a spacing ctx left) log → l ≡ broughtLeft a spacing p → l ≡ bringUp a ctx routes log o
+  unfolding bringUp onCheck bringUpCourse
+  passed-left o e s q h = rw (← entry .0, e, ← s, ← entry .1 e, ← q) h
+
+module _
+    (a : BringUp) (ctx : ℕ) (routes : List ℕ) (log : ℕ) {check : Check} (checked : check ≡ bringUpCheck a ctx routes log)
+    (pass : check ≡ Pass) where
+  facts : Passed a ctx (length routes) log
+  unfolding bringUpCheck
+  facts = passed a ctx (length routes) log (queueCheck a routes) (sym checked ∙ pass) .0
+
+  -- what the course needs
+  pub course-room : {spacing : ℕ} → spacing ≡ spacingOf ctx → Spaced spacing ctx × ((64 ≤ log) × (validList (a .list) ≡ true))
+  course-room s = (rw s (facts .spaced), (facts .room, facts .list))
+
+  -- and the record
+  pub record-room : (a .n ≤ 255) × (length (a .list) ≤ 256)
+  record-room = (facts .n-high, valid-length (a .list) (facts .list))

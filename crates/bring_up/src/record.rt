@@ -1,5 +1,7 @@
 // The record of a brought up device, and the empty one.
+use answer::Answer;
 use def::SlotId;
+use device::Called;
 use device::Device;
 use endpoint::Endpoint;
 use endpoint::Handle;
@@ -11,10 +13,11 @@ ghost use Prim.Native.Nat.{ℕ, _≤_};
 ghost use lib.ListN.{length, take};
 ghost use Rattle.endpoint.specs.Endpoint.{padded};
 ghost use Rattle.init.specs.Reading.{bringUpOf, leavesRead};
-ghost use Rattle.bring_up.specs.BringUp.{broughtRecord, noDevice};
+ghost use Rattle.device.specs.Left.{leaves};
+ghost use Rattle.bring_up.specs.BringUp.{broughtRecord, noDevice, broughtLeft};
 
 // Unusable and otherwise empty.
-pub fn no_device() -> Device
+fn no_device() -> Device
     ensures { λ r. ⌜ r ≡ noDevice ⌝ }
 {
     let blank = Endpoint {
@@ -60,7 +63,7 @@ fn first_words(list: &[u32], n: usize) -> [u32; 256]
 }
 
 // A device that holds no setting.
-pub fn brought_device(a: BringUpArgs, spacing: usize, e: Ended, list: &[u32]) -> Device
+fn brought_device(a: BringUpArgs, spacing: usize, e: Ended, list: &[u32]) -> Device
     requires { ⌜ (a .n ≤ 255) × (length (now list) ≤ 256) ⌝ }
     ensures { λ r. ⌜ ((hubs ctx routes log : List ℕ) → r ≡ broughtRecord (bringUpOf a hubs (now (list .entry))) spacing (leavesRead e (now (list .entry)) ctx routes log .end)) ⌝ }
 {
@@ -80,4 +83,29 @@ pub fn brought_device(a: BringUpArgs, spacing: usize, e: Ended, list: &[u32]) ->
     d.list_len = words;
     d.control = a.ring;
     d
+}
+
+// What a refused bring-up hands back.
+pub fn refuse(answer: Answer) -> Called
+    ensures { λ r. ⌜ r ≡ record { device = noDevice; answer = answer; count = 0 } ⌝ }
+{
+    Called {
+        device: no_device(),
+        answer,
+        count: 0,
+    }
+}
+
+// And one whose course has ended.
+pub fn brought(a: BringUpArgs, spacing: usize, e: Ended, list: &[u32]) -> Called
+    requires { ⌜ (a .n ≤ 255) × (length (now list) ≤ 256) ⌝ }
+    ensures { λ r. ⌜ ((hubs ctx routes log : List ℕ) → leaves r ctx routes log ≡ broughtLeft (bringUpOf a hubs (now (list .entry))) spacing (leavesRead e (now (list .entry)) ctx routes log)) ⌝ }
+{
+    let answer = e.answer;
+    let device = brought_device(a, spacing, e, list);
+    Called {
+        device,
+        answer,
+        count: e.count,
+    }
 }

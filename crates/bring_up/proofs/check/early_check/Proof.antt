@@ -2,10 +2,10 @@ use Rattle.bring_up.proofs.Checks.{slot-then}
 use Rattle.device.proofs.Laws.{andThen}
 use mathlib.Core.Path.{sym, _∙_}
 use borrow.Author.Needs.{needs}
-use Rattle.bring_up.proofs.check.bring_up_check.Statement.{statement}
-use Rattle.bring_up.proofs.check.bring_up_check.Tie as tie
-use Rattle.bring_up.proofs.check.bring_up_check.Reads as reads
-use Rattle.bring_up.proofs.check.bring_up_check.Lts as lts
+use Rattle.bring_up.proofs.check.early_check.Statement.{statement}
+use Rattle.bring_up.proofs.check.early_check.Tie as tie
+use Rattle.bring_up.proofs.check.early_check.Reads as reads
+use Rattle.bring_up.proofs.check.early_check.Lts as lts
 use Rattle.bring_up.proofs.check.device_check.Reads as device-check-reads
 use Rattle.bring_up.proofs.check.slot_check.Reads as slot-check-reads
 
@@ -29,8 +29,8 @@ returns-2 : tie.Need-returns-2
 unfolding andThen
 returns-2 c = c .device-check .ensures ∙ sym (slot-then _ _ _ _ _ ∙ rw (← c .before .before .before .slot-check .ensures (c .before .before .before .before .before .before .args .hubs .now) (c .before .before .before .before .before .before .args .list .now), c .before .enum-told .given .1))
 
-pub bring-up-check-spec : {M : Type 1} → statement M
-bring-up-check-spec =
+pub early-check-spec : {M : Type 1} → statement M
+early-check-spec =
     tie.close
     (tie.spec
     slot-check-requires
