@@ -10,6 +10,7 @@ use lib.Seq.{take-append-seam}
 use Rattle.laws.proofs.Distinct.{elem, distinct}
 use Rattle.laws.proofs.Tests.{and-true}
 use Rattle.configuration.specs.Valid.{validList}
+use Rattle.configuration.proofs.Laws.{valid-length}
 use Rattle.ring.specs.Rings.{ringsOk}
 use Rattle.answer.specs.Answer.{number}
 use Rattle.endpoint.specs.Cells.{cellsFrom, cellsOf, noCells}
@@ -20,9 +21,9 @@ use Rattle.settings.proofs.Laws.{match-none}
 use Rattle.device.specs.declared.record.Device.{Device}
 use Rattle.device.specs.Device.{listOf, cellsIn, heldOf, quarantinedOf}
 use Rattle.device.specs.Sound.{placeSound, countsFit, allRings, ringsSound, sound}
-use Rattle.bring_up.specs.BringUp.{BringUp, Brought, spacingOf, broughtRecord}
+use Rattle.init.specs.Reading.{BringUp, Brought}
+use Rattle.bring_up.specs.BringUp.{spacingOf, broughtRecord}
 use Rattle.bring_up.proofs.Checks.{Passed}
-use Rattle.bring_up.proofs.Lists.{valid-facts}
 
 either-true : (b : Bool) → (not b || true) ≡ true
 either-true true = refl
@@ -73,7 +74,7 @@ module _ (a : BringUp) (ctx routes log : ℕ) (p : Passed a ctx routes log) (e :
   counts : countsFit d ≡ true
   unfolding d countsFit broughtRecord
   counts =
-      let few : length (a .list) ≤ 256 = valid-facts (a .list) (p .list) .few in
+      let few : length (a .list) ≤ 256 = valid-length (a .list) (p .list) in
       rw (w, le-leb (length (a .list)) 256 few)
 
   list : listOf d ≡ a .list

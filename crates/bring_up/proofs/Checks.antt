@@ -19,7 +19,8 @@ use Rattle.answer.specs.declared.Check.{Check}
 use Rattle.answer.specs.declared.Check.the-variants.{Pass, Refuse}
 use Rattle.context.specs.Place.{Spaced}
 use Rattle.device.proofs.Laws.{andThen, then-if, pass-if}
-use Rattle.bring_up.specs.BringUp.{BringUp, spacingOf, slotCheck, deviceCheck, queueCheck, bringUpCheck}
+use Rattle.init.specs.Reading.{BringUp}
+use Rattle.bring_up.specs.BringUp.{spacingOf, slotCheck, deviceCheck, queueCheck, bringUpCheck}
 
 then-then : (x y z : Check) → andThen x (andThen y z) ≡ andThen (andThen x y) z
 unfolding andThen

@@ -1,5 +1,5 @@
 -- What a bring-up leaves: refused, or with control's route registered.
-use Prim.Native.Nat.{ℕ, _+_, _*_}
+use Prim.Native.Nat.{ℕ, _+_, _*_, _≤_}
 use mathlib.Core.Path.{_≡_, refl, sym, ap, _∙_}
 use mathlib.Core.Bool.{Bool, true, false, cond, _&&_, _||_}
 use mathlib.Core.List.{List, []}
@@ -21,7 +21,7 @@ use Rattle.answer.specs.declared.Answer.the-variants as answer
 use Rattle.answer.specs.declared.Check.{Check}
 use Rattle.answer.specs.declared.Check.the-variants.{Pass, Refuse}
 use Rattle.answer.specs.Answer.{number, isAccepted, isBroken, isCut}
-use Rattle.command.specs.Course.{played, result}
+use Rattle.command.specs.Course.{played, result, words}
 use Rattle.set_configuration.proofs.Laws.{AllDone}
 use Rattle.endpoint.specs.Cells.{noCells}
 use Rattle.device.specs.declared.record.Device.{Device}
@@ -29,10 +29,11 @@ use Rattle.device.specs.Device.{listOf, cellsIn, heldOf, quarantinedOf}
 use Rattle.device.specs.Left.{Left, refused}
 use Rattle.device.specs.Sound.{sound}
 use Rattle.device.specs.Calls.{onCheck}
-use Rattle.bring_up.specs.BringUp.{BringUp, Brought, spacingOf, slotCheck, deviceCheck, queueCheck, bringUpCheck, bringUpCourse, broughtRecord, noDevice, broughtLeft, bringUp}
+use Rattle.init.specs.Reading.{BringUp, Brought}
+use Rattle.init.proofs.Laws.{EndFacts, address-facts, address-done, address-words}
+use Rattle.bring_up.specs.BringUp.{spacingOf, slotCheck, deviceCheck, queueCheck, bringUpCheck, bringUpCourse, broughtRecord, noDevice, broughtLeft, bringUp}
 use Rattle.device.proofs.Laws.{pass-if}
 use Rattle.bring_up.proofs.Checks.{Passed, passed}
-use Rattle.bring_up.proofs.Ends.{EndFacts, course-facts, course-done}
 use Rattle.bring_up.proofs.Accepted.{record-held, record-cells, record-quarantined, record-list, record-usable, usable-accepted, record-sound}
 
 -- An answer before any command: neither accepted nor 14 nor 15.
@@ -129,8 +130,8 @@ module _ (a : BringUp) (ctx routes log outcomes : List ℕ) where
   end = result outcomes 0 (bringUpCourse a spacing ctx routes)
 
   facts : EndFacts a (withRoute routes (a .slot) 1 (a .ring)) end
-  unfolding end
-  facts = course-facts a spacing ctx routes outcomes
+  unfolding end bringUpCourse
+  facts = address-facts a (withRoute routes (a .slot) 1 (a .ring)) spacing outcomes ctx 0
 
   abbrev Run : Left → Type 0
   Run = Ran a ctx routes log outcomes
@@ -249,8 +250,8 @@ module _ (a : BringUp) (ctx routes log outcomes : List ℕ) where
   -- with the checks passed, a header of eight bytes and every outcome done it is accepted
   pub bring-up-done : bringUpCheck a (length ctx) routes (length log) ≡ Pass → a .header ≡ 8 →
       AllDone outcomes 0 (8 + configurations (a .list)) → (bringUp a ctx routes log outcomes) .answer ≡ answer.Accepted
-  unfolding bringUp onCheck broughtLeft played
-  bring-up-done p e h = rw p (course-done a (spacingOf (length ctx)) ctx routes outcomes e h)
+  unfolding bringUp onCheck broughtLeft played bringUpCourse
+  bring-up-done p e h = rw p (address-done a (spacingOf (length ctx)) (withRoute routes (a .slot) 1 (a .ring)) outcomes h ctx e)
 
 -- the slot's own words after an accepted bring-up
 module _ (a : BringUp) (ctx routes log : List ℕ) (l : Left) (b : BroughtUp a ctx routes log l) where
@@ -270,3 +271,10 @@ module _ (a : BringUp) (ctx routes log : List ℕ) (l : Left) (b : BroughtUp a c
   pub brought-ring : a .ring ≡ 0 → ⊥
   unfolding ringOk
   brought-ring e = not-both (eqb (a .ring) 0) (eq-eqb (a .ring) 0 e) (not-true (eqb (a .ring) 0) (and-left _ _ (b .pass .ring)))
+
+-- the words that the course logs: at most eight, and one for each configuration
+pub bring-up-words :
+    (a : BringUp) (spacing : ℕ) (ctx routes o : List ℕ) →
+    length (words o 0 (bringUpCourse a spacing ctx routes)) ≤ 8 + configurations (a .list)
+unfolding bringUpCourse
+bring-up-words a spacing ctx routes o = address-words a spacing (withRoute routes (a .slot) 1 (a .ring)) o ctx

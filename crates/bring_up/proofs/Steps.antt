@@ -1,103 +1,121 @@
--- What the phases of the code come to.
-use Prim.Native.Nat.{ℕ, suc, _+_, _-_, _<_, _≤_}
-use mathlib.Core.Path.{_≡_, refl, sym, ap, _∙_}
+-- What each exit of the code comes to.
+use Prim.Native.Nat.{ℕ, _≤_}
+use mathlib.Core.Path.{_≡_, refl, sym, _∙_}
 use mathlib.Core.Bool.{Bool, true, false, cond}
-use mathlib.Core.List.{List, []}
+use mathlib.Core.List.{List}
 use native.Mathlib.Omega.{arith}
 use lib.Dec.{eqb}
-use lib.ListN.{length, getD, set}
-use Rattle.descriptor.specs.Word.{configurationValue}
+use lib.ListN.{length}
+use Rattle.configuration.specs.Valid.{validList}
+use Rattle.configuration.proofs.Laws.{valid-length}
 use Rattle.transfer.specs.declared.Registered.the-variants as register
 use Rattle.transfer.specs.Routes.{routeOf, withRoute, registered, withRegistered}
+use Rattle.answer.specs.declared.Answer.{Answer}
 use Rattle.answer.specs.declared.Answer.the-variants as answer
+use Rattle.answer.specs.declared.Check.{Check}
 use Rattle.answer.specs.declared.Check.the-variants.{Pass, Refuse}
-use Rattle.answer.specs.Answer.{isAccepted}
-use Rattle.command.specs.declared.Command.the-variants as command
-use Rattle.command.specs.declared.Sent.{Sent}
-use Rattle.command.specs.Command.{commandWord, outcomeAt}
-use Rattle.command.specs.Course.{ends, onSent, Played, played}
-use Rattle.command.proofs.Laws.{played-ends, played-sends, played-then}
+use Rattle.command.specs.Course.{Played, played}
 use Rattle.context.specs.Place.{Spaced}
-use Rattle.context.specs.Steps.{highestDci}
-use Rattle.phase.specs.End.{End}
-use Rattle.phase.specs.Arrays.{dcisIn, queuesIn, Room}
-use Rattle.set_configuration.specs.declared.run.SettingsArgs.{SettingsArgs}
-use Rattle.set_configuration.specs.SetConfiguration.{setCourse}
-use Rattle.bring_up.specs.BringUp.{BringUp, brought, step, readUpTo, bringUpSettings, bringUpSet, bringUpConfigs, queueCheck}
+use Rattle.init.specs.Reading.{BringUp, Brought}
+use Rattle.init.specs.Init.{bringUpAddress}
+use Rattle.device.specs.declared.record.Called.{Called}
+use Rattle.device.specs.Left.{Left, leaves, refused}
+use Rattle.device.specs.Calls.{onCheck}
+use Rattle.device.proofs.Laws.{andThen}
+use Rattle.bring_up.specs.BringUp.{spacingOf, slotCheck, deviceCheck, queueCheck, bringUpCheck, bringUpCourse, noDevice, broughtLeft, bringUp}
+use Rattle.bring_up.proofs.Checks.{check-then, Passed, passed}
 
--- room for a set configuration without endpoints
-pub first-room : (s ctx : ℕ) (q : SettingsArgs) → Spaced s ctx → q .spacing ≡ s → q .old .count ≡ 0 →
-    queuesIn (q .old) ≡ [] → Room (q .spacing) ctx (q .old) (q .old)
-unfolding dcisIn highestDci
-first-room s ctx q r e n l =
-    record { spaced = rw e r; few = rw n (omega arith); full = ap length l ∙ sym n; few-all = rw n (omega arith); low = rw n (omega arith) }
+-- one test decides what is answered, what 17 says, and what is left of the table
+full-test : (b : Bool) → cond b register.Done register.QueueFull ≡ register.QueueFull →
+    Refuse answer.QueueFull ≡ cond b Pass (Refuse answer.QueueFull)
+full-test true e = let z : _≡_ {A = ℕ} 0 1 = cc in absurd (omega arith)
+full-test false e = refl
 
-module _ (a : BringUp) (spacing : ℕ) (ctx routes o : List ℕ) where
-  -- the end of a bring-up whose first configuration is set or not
-  pub set-end : (n : ℕ) (log : List ℕ) (p : Played End) → played o n (setCourse (bringUpSettings a spacing) ctx routes) log ≡ p →
-      played o n (bringUpSet a spacing ctx routes) log
-      ≡ record {
-        end =
-            brought (p .end .answer)
-            (record {
-              configured = true;
-              value = cond (isAccepted (p .end .answer)) (configurationValue (getD (a .list) 0 0)) (a .value);
-              list = a .list;
-            })
-            (p .end .ctx) (p .end .routes);
-        count = p .count;
-        log = p .log;
-      }
-  unfolding bringUpSet bringUpSettings
-  set-end n log p e = rw (played-then, e, played-ends)
+free-test : (b : Bool) → cond b register.Done register.QueueFull ≡ register.Done → Pass ≡ cond b Pass (Refuse answer.QueueFull)
+free-test true e = refl
+free-test false e = let z : _≡_ {A = ℕ} 0 1 = cc in absurd (omega arith)
 
-  module _ (k i : ℕ) (log : List ℕ) where
-    -- one more configuration descriptor
-    pub configs-next : (s : Sent) (left : List ℕ) → i < k → s ≡ outcomeAt o (5 + i) →
-        left ≡ set log (5 + i) (commandWord (command.ReadConfig i)) →
-        played o (5 + i) (bringUpConfigs a spacing (k - i) i ctx routes) log
-        ≡ played o (5 + (i + 1))
-        (onSent s
-        (bringUpConfigs a spacing (k - (i + 1)) (i + 1) ctx routes)
-        (λ code. ends (brought (answer.Failed code) (readUpTo a i) ctx routes))
-        (ends (brought answer.Cut (readUpTo a i) ctx routes)))
-        left
-    unfolding bringUpConfigs step
-    configs-next s left h e l =
-        let m : k - i ≡ suc (k - (i + 1)) = omega arith in
-        let n : 5 + (i + 1) ≡ 5 + i + 1 = omega arith in
-        rw (m, n, played-sends, ← e, ← l)
+pass-test : (b : Bool) (x y : List ℕ) → cond b Pass (Refuse answer.QueueFull) ≡ Pass → cond b x y ≡ x
+pass-test true x y e = refl
+pass-test false x y e = let z : _≡_ {A = ℕ} 0 1 = cc in absurd (omega arith)
 
-    -- all of them
-    pub configs-end : k ≤ i → played o (5 + i) (bringUpConfigs a spacing (k - i) i ctx routes) log
-        ≡ played o (5 + i) (bringUpSet a spacing ctx routes) log
-    unfolding bringUpConfigs
-    configs-end h = let m : k - i ≡ 0 = omega arith in rw m
-
--- room in a context of the same length
-pub spaced-same : {s m n : ℕ} → Spaced s m → n ≡ m → Spaced s n
-spaced-same r e = rw e r
-
-full-or : (b : Bool) (x y : List ℕ) → cond b register.Done register.QueueFull ≡ register.QueueFull →
-    (cond b Pass (Refuse answer.QueueFull) ≡ Refuse answer.QueueFull) × (cond b x y ≡ y)
-full-or true x y e = let z : _≡_ {A = ℕ} 0 1 = cc in absurd (omega arith)
-full-or false x y e = (refl, refl)
-
-free-or : (b : Bool) (x y : List ℕ) → cond b register.Done register.QueueFull ≡ register.Done →
-    (cond b Pass (Refuse answer.QueueFull) ≡ Pass) × (cond b x y ≡ x)
-free-or true x y e = (refl, refl)
-free-or false x y e = let z : _≡_ {A = ℕ} 0 1 = cc in absurd (omega arith)
+refuse-test : (b : Bool) (x y : List ℕ) (z : Answer) → cond b Pass (Refuse answer.QueueFull) ≡ Refuse z → cond b x y ≡ y
+refuse-test true x y z e = let z : _≡_ {A = ℕ} 0 1 = cc in absurd (omega arith)
+refuse-test false x y z e = refl
 
 module _ (a : BringUp) (routes : List ℕ) where
   -- control's route is there already
-  pub queue-full : registered routes (a .slot) 1 ≡ register.QueueFull →
-      (queueCheck a routes ≡ Refuse answer.QueueFull) × (withRegistered routes (a .slot) 1 (a .ring) ≡ routes)
-  unfolding registered withRegistered queueCheck
-  queue-full e = full-or (eqb (routeOf routes (a .slot) 1) 0) (withRoute routes (a .slot) 1 (a .ring)) routes e
+  pub queue-full : registered routes (a .slot) 1 ≡ register.QueueFull → Refuse answer.QueueFull ≡ queueCheck a routes
+  unfolding registered queueCheck
+  queue-full e = full-test (eqb (routeOf routes (a .slot) 1) 0) e
 
   -- or is registered now
-  pub queue-free : registered routes (a .slot) 1 ≡ register.Done →
-      (queueCheck a routes ≡ Pass)
-      × (withRegistered routes (a .slot) 1 (a .ring) ≡ withRoute routes (a .slot) 1 (a .ring))
-  unfolding registered withRegistered queueCheck
-  queue-free e = free-or (eqb (routeOf routes (a .slot) 1) 0) (withRoute routes (a .slot) 1 (a .ring)) routes e
+  pub queue-free : registered routes (a .slot) 1 ≡ register.Done → Pass ≡ queueCheck a routes
+  unfolding registered queueCheck
+  queue-free e = free-test (eqb (routeOf routes (a .slot) 1) 0) e
+
+  queue-pass : queueCheck a routes ≡ Pass → withRegistered routes (a .slot) 1 (a .ring) ≡ withRoute routes (a .slot) 1 (a .ring)
+  unfolding withRegistered queueCheck
+  queue-pass e = pass-test (eqb (routeOf routes (a .slot) 1) 0) (withRoute routes (a .slot) 1 (a .ring)) routes e
+
+  queue-refuse : (x : Answer) → queueCheck a routes ≡ Refuse x → withRegistered routes (a .slot) 1 (a .ring) ≡ routes
+  unfolding withRegistered queueCheck
+  queue-refuse x e = refuse-test (eqb (routeOf routes (a .slot) 1) 0) (withRoute routes (a .slot) 1 (a .ring)) routes x e
+
+-- What the checks answer, and the table that they leave.
+abbrev Entered : BringUp → ℕ → List ℕ → ℕ → Check → List ℕ → Type 0
+Entered a ctx routes log r left =
+    (r ≡ bringUpCheck a ctx routes log)
+    × (r ≡ Pass → left ≡ withRoute routes (a .slot) 1 (a .ring))
+    × ((x : Answer) → r ≡ Refuse x → left ≡ routes)
+
+module _
+    (a : BringUp) (ctx : ℕ) (routes : List ℕ) (log : ℕ) {check : Check}
+    (checked : check ≡ slotCheck a ctx (length routes) log (deviceCheck a Pass)) where
+  -- one before 17 refuses
+  pub entered-not : {x : Answer} → check ≡ Refuse x → Entered a ctx routes log (Refuse x) routes
+  unfolding andThen
+  entered-not e = (
+    sym (check-then a ctx routes log ∙ rw (← checked, e)),
+    λ p. let z : _≡_ {A = ℕ} 0 1 = cc in absurd (omega arith),
+    λ y p. refl,
+  )
+
+  -- they pass, and 17 decides
+  pub entered : {r : Check} {left : List ℕ} → check ≡ Pass → r ≡ queueCheck a routes →
+      left ≡ withRegistered routes (a .slot) 1 (a .ring) → Entered a ctx routes log r left
+  unfolding andThen
+  entered e q l = (
+    q ∙ sym (check-then a ctx routes log ∙ rw (← checked, e)),
+    λ p. l ∙ queue-pass a routes (sym q ∙ p),
+    λ x p. l ∙ queue-refuse a routes x (sym q ∙ p),
+  )
+
+module _ (a : BringUp) (ctx routes log : List ℕ) {check : Check} {left : List ℕ} (entry : Entered a (length ctx) routes (length log) check left) where
+  -- a check refuses
+  pub refused-left : (o : List ℕ) {called : Called} {x : Answer} → check ≡ Refuse x →
+      called ≡ record { device = noDevice; answer = x; count = 0 } →
+      leaves called ctx left log ≡ bringUp a ctx routes log o
+  unfolding bringUp onCheck refused
+  refused-left o {x = x} e c = rw (← entry .0, e, entry .2 x e, c)
+
+  -- all pass, and the course follows
+  pub passed-left : (o : List ℕ) {spacing : ℕ} {p : Played Brought} {l : Left} → check ≡ Pass → spacing ≡ spacingOf (length ctx) →
+      p ≡ played o 0 (bringUpAddress a spacing ctx left) log → l ≡ broughtLeft a spacing p → l ≡ bringUp a ctx routes log o
+  unfolding bringUp onCheck bringUpCourse
+  passed-left o e s q h = rw (← entry .0, e, ← s, ← entry .1 e, ← q) h
+
+module _
+    (a : BringUp) (ctx : ℕ) (routes : List ℕ) (log : ℕ) {check : Check} (checked : check ≡ bringUpCheck a ctx routes log)
+    (pass : check ≡ Pass) where
+  facts : Passed a ctx (length routes) log
+  unfolding bringUpCheck
+  facts = passed a ctx (length routes) log (queueCheck a routes) (sym checked ∙ pass) .0
+
+  -- what the course needs
+  pub course-room : {spacing : ℕ} → spacing ≡ spacingOf ctx → Spaced spacing ctx × ((64 ≤ log) × (validList (a .list) ≡ true))
+  course-room s = (rw s (facts .spaced), (facts .room, facts .list))
+
+  -- and the record
+  pub record-room : (a .n ≤ 255) × (length (a .list) ≤ 256)
+  record-room = (facts .n-high, valid-length (a .list) (facts .list))

@@ -1,20 +1,23 @@
 // The record of a brought up device, and the empty one.
-use super::list;
-use super::run;
-use super::run::BringUpArgs;
-use super::run::Ended;
+use answer::Answer;
 use def::SlotId;
+use device::Called;
 use device::Device;
 use endpoint::Endpoint;
 use endpoint::Handle;
+use init::BringUpArgs;
+use init::Ended;
 ghost use mathlib.Core.Path.{_≡_};
 ghost use mathlib.Core.List.{List};
 ghost use Prim.Native.Nat.{ℕ, _≤_};
-ghost use lib.ListN.{length};
-ghost use Rattle.bring_up.specs.BringUp.{bringUpOf, leavesRead, broughtRecord, noDevice};
+ghost use lib.ListN.{length, take};
+ghost use Rattle.endpoint.specs.Endpoint.{padded};
+ghost use Rattle.init.specs.Reading.{bringUpOf, leavesRead};
+ghost use Rattle.device.specs.Left.{leaves};
+ghost use Rattle.bring_up.specs.BringUp.{broughtRecord, noDevice, broughtLeft};
 
 // Unusable and otherwise empty.
-pub fn no_device() -> Device
+fn no_device() -> Device
     ensures { λ r. ⌜ r ≡ noDevice ⌝ }
 {
     let blank = Endpoint {
@@ -45,17 +48,31 @@ pub fn no_device() -> Device
     }
 }
 
+// A record's array of the first n words, zeros past them.
+fn first_words(list: &[u32], n: usize) -> [u32; 256]
+    requires { ⌜ (n ≤ length (now list)) × (n ≤ 256) ⌝ }
+    ensures { λ r. ⌜ r ≡ padded 256 0 (take n (now (list .entry))) ⌝ }
+{
+    let mut words = [0u32; 256];
+    let mut i = 0;
+    while i < n {
+        words[i] = list[i];
+        i += 1;
+    }
+    words
+}
+
 // A device that holds no setting.
-pub fn brought_device(a: BringUpArgs, spacing: usize, e: Ended, list: &[u32]) -> Device
+fn brought_device(a: BringUpArgs, spacing: usize, e: Ended, list: &[u32]) -> Device
     requires { ⌜ (a .n ≤ 255) × (length (now list) ≤ 256) ⌝ }
     ensures { λ r. ⌜ ((hubs ctx routes log : List ℕ) → r ≡ broughtRecord (bringUpOf a hubs (now (list .entry))) spacing (leavesRead e (now (list .entry)) ctx routes log .end)) ⌝ }
 {
-    let words = list::count_words(list, e.configurations);
+    let words = init::count_words(list, e.configurations);
     let answer = e.answer;
     let slot = a.slot;
-    let kept = list::first_words(list, words);
+    let kept = first_words(list, words);
     let mut d = no_device();
-    d.usable = run::accepted(answer);
+    d.usable = answer::answer_number(answer) == 0;
     d.slot = slot;
     d.n = a.n as u8;
     d.spacing = spacing;
@@ -66,4 +83,29 @@ pub fn brought_device(a: BringUpArgs, spacing: usize, e: Ended, list: &[u32]) ->
     d.list_len = words;
     d.control = a.ring;
     d
+}
+
+// What a refused bring-up hands back.
+pub fn refuse(answer: Answer) -> Called
+    ensures { λ r. ⌜ r ≡ record { device = noDevice; answer = answer; count = 0 } ⌝ }
+{
+    Called {
+        device: no_device(),
+        answer,
+        count: 0,
+    }
+}
+
+// And one whose course has ended.
+pub fn brought(a: BringUpArgs, spacing: usize, e: Ended, list: &[u32]) -> Called
+    requires { ⌜ (a .n ≤ 255) × (length (now list) ≤ 256) ⌝ }
+    ensures { λ r. ⌜ ((hubs ctx routes log : List ℕ) → leaves r ctx routes log ≡ broughtLeft (bringUpOf a hubs (now (list .entry))) spacing (leavesRead e (now (list .entry)) ctx routes log)) ⌝ }
+{
+    let answer = e.answer;
+    let device = brought_device(a, spacing, e, list);
+    Called {
+        device,
+        answer,
+        count: e.count,
+    }
 }

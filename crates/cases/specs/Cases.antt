@@ -47,7 +47,9 @@ use Rattle.device.specs.Left.{Left, refused, marked, ended}
 use Rattle.device.specs.Release.{releaseCheck, releaseIn, releaseRecord, release}
 use Rattle.device.specs.SetConfiguration.{settingsIn, bare, setRecord, setConfiguration}
 use Rattle.device.specs.Sound.{placeSound, countsFit, allRings, ringsSound, sound}
-use Rattle.bring_up.specs.BringUp.{spacingOf, bringUpCheck, step, firstConfigurations, nothingRead, readUpTo, bringUpSettings, bringUpSet, bringUpConfigs, bringUpDevice, bringUpHeader, bringUpCourse, broughtRecord, noDevice, broughtLeft, bringUp, slotCheck, deviceCheck, queueCheck, bringUpConfiguration, bringUpPacket, bringUpAddress}
+use Rattle.init.specs.Reading.{firstConfigurations, nothingRead, readUpTo}
+use Rattle.init.specs.Init.{step, bringUpSettings, bringUpSet, bringUpConfigs, bringUpDevice, bringUpHeader, bringUpConfiguration, bringUpPacket, bringUpAddress}
+use Rattle.bring_up.specs.BringUp.{spacingOf, bringUpCheck, bringUpCourse, broughtRecord, noDevice, broughtLeft, bringUp, slotCheck, deviceCheck, queueCheck}
 use Rattle.controller.specs.Controller.{isDone, isDoneWord, controlled, configurationSet}
 use Rattle.controller.specs.Controller as controller
 use Rattle.slot.specs.Call.{left}

@@ -4,7 +4,8 @@ use mathlib.Core.Bool.{Bool, false}
 use mathlib.Core.List.{List, [], _∷_}
 use lib.ListN.{replicate}
 use Rattle.def.specs.Speed.{HIGH}
-use Rattle.bring_up.specs.BringUp.{BringUp, bringUp}
+use Rattle.init.specs.Reading.{BringUp}
+use Rattle.bring_up.specs.BringUp.{bringUp}
 use Rattle.device.specs.Left.{Left}
 use Rattle.device.specs.Claim.{claim}
 use Rattle.cases.specs.Added.{interrupt81}

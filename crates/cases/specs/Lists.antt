@@ -5,7 +5,8 @@ use mathlib.Core.List.{List, [], _∷_}
 use lib.Dec.{eqb}
 use Rattle.def.specs.Speed.{HIGH}
 use Rattle.transfer.specs.Routes.{Queue, routeOf}
-use Rattle.bring_up.specs.BringUp.{BringUp, bringUp}
+use Rattle.init.specs.Reading.{BringUp}
+use Rattle.bring_up.specs.BringUp.{bringUp}
 use Rattle.slot.specs.Call.{Asked, Call, bringsUp, claims, releases, configures}
 use Rattle.slot.specs.Plain.{Setting}
 use Rattle.slot.specs.Theorem.{State, after, start}

@@ -3,13 +3,15 @@ use Prim.Native.Nat.{ℕ, zero, suc, _+_, _-_, _*_, _/_, _%_, _≤_, _<_}
 use mathlib.Core.Path.{_≡_, refl, sym, ap, _∙_}
 use mathlib.Core.Logic.{_⊎_, inl, inr}
 use mathlib.Core.Bool.{Bool, true, false, not, cond, _&&_, _||_}
-use mathlib.Core.List.{List, [], _∷_}
+use mathlib.Core.List.{List, [], _∷_, _++_}
 use native.Mathlib.Decide.{decLt}
 use native.Mathlib.Nat.{add-zero, zero-add}
+use native.Mathlib.Numerals.{add-one}
 use native.Mathlib.Omega.{arith}
 use borrow.Author.Tests.{lt-ltb, le-ltb, le-leb, lt-leb, eq-eqb, ne-eqb, eqb-true, eqb-false}
 use lib.Dec.{eqb, ltb}
 use lib.ListN.{length, getD, set, take, drop, replicate, length-set, getD-replicate}
+use lib.Seq.{take-suc, length-take-le}
 use Rattle.laws.proofs.Tests.{and-right}
 use Rattle.laws.proofs.Cases.{Decided, decided}
 use Rattle.laws.proofs.Distinct.{elem}
@@ -18,9 +20,10 @@ use Rattle.descriptor.specs.Word.{ENDPOINT, kind, wordOk, endpointDescriptor, d
 use Rattle.descriptor.proofs.Laws.{endpoint-word, fields-fit, dci-word}
 use Rattle.transfer.specs.Routes.{Queue, queues, names, ringFor, Small}
 use Rattle.transfer.proofs.Laws.{ringFor-none}
+use Rattle.endpoint.specs.Endpoint.{padded}
 use Rattle.endpoint.specs.Order.{addressAt, dciAt, placeOf}
 use Rattle.endpoint.specs.Cells.{Whole, gathered, owns, isOwned, tabulated, ownedRings, queuesOf, pendingFrom, pendingRings, claimedRing, claimedOwner, claimedActive, claimed, claimedCells, activeFrom, withActive, queueDcis, queueRings, QueuesAs}
-use Rattle.endpoint.proofs.Steps.{gathered-le, getD-set}
+use Rattle.endpoint.proofs.Steps.{gathered-le, getD-set, padded-put}
 use Rattle.endpoint.specs.declared.pending.Queues.{Queues}
 use Rattle.endpoint.specs.declared.cells.Cells.{Cells}
 use Rattle.endpoint.specs.declared.cells.Owner.{Owner}
@@ -666,3 +669,16 @@ module _ (words rings : List ℕ) where
         ((i : ℕ) → i < length words → getD rings i 0 ≡ 0 → ⊥) →
         names (dciAt p) (queuesOf (pendingRings words rings)) ≡ elem (dciAt p) (wordDcis words)
     pending-name z = queues-name (pendingRings words rings) p h ∙ rw (pending-some z) (not-not (elem (dciAt p) (wordDcis words)))
+
+-- Arrays filled from their front.
+
+-- One more in an array that begins with the first i of a list.
+pub padded-next :
+    {A : Type 0} (n : ℕ) (b : A) (l : List A) (i : ℕ) → i < length l → i < n →
+    set (padded n b (take i l)) i (getD l i b) ≡ padded n b (take (i + 1) l)
+padded-next n b l i h g =
+    let t : length (take i l) ≡ i = length-take-le i l (omega arith) in
+    let s : take (i + 1) l ≡ take i l ++ (getD l i b ∷ []) = rw (add-one i) (take-suc l i b h) in
+    let p : set (padded n b (take i l)) (length (take i l)) (getD l i b) ≡ padded n b (take i l ++ (getD l i b ∷ [])) =
+    padded-put n b (take i l) (getD l i b) (omega (arith, t)) in
+    rw (s, ← p, t)

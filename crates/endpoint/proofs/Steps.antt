@@ -65,7 +65,7 @@ write-done {m = m} {f} {p} {l} w g h =
 
 -- An array filled from its front, blanks after it.
 module _ {A : Type 0} (n : ℕ) (b : A) where
-  padded-put : (l : List A) (a : A) → length l < n → set (padded n b l) (length l) a ≡ padded n b (l ++ (a ∷ []))
+  pub padded-put : (l : List A) (a : A) → length l < n → set (padded n b l) (length l) a ≡ padded n b (l ++ (a ∷ []))
   unfolding padded
   padded-put l a h =
       let m : n - length l ≡ suc (n - (length l + 1)) = omega arith in

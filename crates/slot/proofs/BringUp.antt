@@ -1,12 +1,13 @@
 -- A bring-up of a slot that was brought up is refused, and keeps the invariant.
 use Prim.Native.Nat.{ℕ}
-use mathlib.Core.Path.{_≡_, refl, sym, _∙_, ap}
+use mathlib.Core.Path.{_≡_, sym, _∙_, ap}
 use mathlib.Core.List.{List}
 use mathlib.Core.Logic.{inl}
 use native.Mathlib.Omega.{arith}
 use Rattle.transfer.specs.Routes.{routeOf}
 use Rattle.answer.specs.declared.Answer.{Answer}
-use Rattle.bring_up.specs.BringUp.{BringUp, noDevice, bringUp}
+use Rattle.init.specs.Reading.{BringUp}
+use Rattle.bring_up.specs.BringUp.{noDevice, bringUp}
 use Rattle.bring_up.proofs.Laws.{Refusal, Refused, bring-up-full}
 use Rattle.slot.specs.Call.{Buffers, bringsUp, left}
 use Rattle.slot.specs.Theorem.{State, contextCut, called}

@@ -23,7 +23,8 @@ use Rattle.device.specs.Left.{Left}
 use Rattle.device.specs.Check.{recordCheck}
 use Rattle.device.specs.Claim.{claimCheck}
 use Rattle.device.proofs.Laws.{passed}
-use Rattle.bring_up.specs.BringUp.{BringUp, bringUp}
+use Rattle.init.specs.Reading.{BringUp}
+use Rattle.bring_up.specs.BringUp.{bringUp}
 use Rattle.bring_up.proofs.Laws.{BroughtUp, bring-up-accepted, bring-up-length, bring-up-outside}
 use Rattle.slot.specs.Call.{Buffers, Asked, bringsUp, claims, releases, configures, updatesHub, Call, OfSlot, AllOfSlot}
 use Rattle.slot.specs.Call as call

@@ -20,9 +20,9 @@ use Rattle.device.specs.Claim.{claimIn, claim}
 use Rattle.device.specs.Release.{releaseIn, release}
 use Rattle.device.specs.SetConfiguration.{settingsIn, setConfiguration}
 use Rattle.device.proofs.Marks.{on-check}
-use Rattle.bring_up.specs.BringUp.{BringUp, spacingOf, broughtLeft}
-use Rattle.bring_up.proofs.Laws.{Refused, Ran, bring-up-cases}
-use Rattle.bring_up.proofs.Words.{bring-up-words}
+use Rattle.init.specs.Reading.{BringUp}
+use Rattle.bring_up.specs.BringUp.{spacingOf, broughtLeft}
+use Rattle.bring_up.proofs.Laws.{Refused, Ran, bring-up-cases, bring-up-words}
 use Rattle.slot.specs.Call.{Buffers, Asked, bringsUp, claims, releases, configures, updatesHub, left}
 use Rattle.slot.specs.Theorem.{FewWords}
 

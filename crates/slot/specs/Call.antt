@@ -3,7 +3,8 @@ use Prim.Native.Nat.{ℕ, _<_}
 use mathlib.Core.Path.{_≡_}
 use mathlib.Core.Bool.{Bool}
 use mathlib.Core.List.{List, [], _∷_}
-use Rattle.bring_up.specs.BringUp.{BringUp, bringUp}
+use Rattle.init.specs.Reading.{BringUp}
+use Rattle.bring_up.specs.BringUp.{bringUp}
 use Rattle.device.specs.declared.record.Device.{Device}
 use Rattle.device.specs.Left.{Left}
 use Rattle.device.specs.Calls.{hubUpdate}

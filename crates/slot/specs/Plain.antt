@@ -10,7 +10,7 @@ use Rattle.context.specs.Steps.{wordDcis}
 use Rattle.transfer.specs.Routes.{Queue, queues, ringFor, names}
 use Rattle.settings.specs.Held.{settingWords}
 use Rattle.controller.specs.Controller.{controlled, configurationSet}
-use Rattle.bring_up.specs.BringUp.{BringUp}
+use Rattle.init.specs.Reading.{BringUp}
 use Rattle.slot.specs.Call.{Buffers, Asked, bringsUp, claims, releases, configures, updatesHub}
 
 -- A held setting: an interface, its alternate, and the ring of each of its endpoint words.

@@ -12,7 +12,8 @@ use Rattle.block.specs.Promises.{someDci}
 use Rattle.context.specs.Steps.{wordDcis}
 use Rattle.transfer.specs.Routes.{routeOf, queues, ringFor, Outside}
 use Rattle.settings.specs.Held.{settingWords}
-use Rattle.bring_up.specs.BringUp.{BringUp, bringUp}
+use Rattle.init.specs.Reading.{BringUp}
+use Rattle.bring_up.specs.BringUp.{bringUp}
 use Rattle.device.specs.declared.record.Device.{Device}
 use Rattle.device.specs.Left.{Left}
 use Rattle.device.specs.Sound.{sound}

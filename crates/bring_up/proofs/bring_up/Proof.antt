@@ -1,21 +1,20 @@
-use Rattle.bring_up.specs.BringUp.{bringUpOf, bringUp}
-use Rattle.bring_up.proofs.Checks.{check-then, passed}
-use Rattle.answer.specs.declared.Check.the-variants.{Pass}
-use Rattle.device.proofs.Laws.{andThen}
-use Rattle.device.specs.Calls.{onCheck}
-use Rattle.device.specs.Left.{refused}
-use mathlib.Core.Path.{sym, _∙_}
+use Rattle.bring_up.proofs.Steps.{refused-left, passed-left, course-room, record-room}
 use borrow.Author.Needs.{needs}
 use Rattle.bring_up.proofs.bring_up.Statement.{statement}
 use Rattle.bring_up.proofs.bring_up.Tie as tie
 use Rattle.bring_up.proofs.bring_up.Reads as reads
 use Rattle.bring_up.proofs.bring_up.Lts as lts
-use Rattle.bring_up.proofs.check.bring_up_check.Reads as bring-up-check-reads
-use Rattle.bring_up.proofs.refuse.Reads as refuse-reads
-use Rattle.bring_up.proofs.register.Reads as register-reads
+use Rattle.bring_up.proofs.check.enter.Reads as enter-reads
+use Rattle.bring_up.proofs.record.brought.Reads as brought-reads
+use Rattle.bring_up.proofs.record.refuse.Reads as refuse-reads
+use Rattle.bring_up.proofs.spacing_of.Reads as spacing-of-reads
+use Rattle.init.proofs.address.Reads as address-reads
 
-bring-up-check-requires : tie.Need-bring-up-check-requires
-bring-up-check-requires c κs = search needs
+spacing-of-requires : tie.Need-spacing-of-requires
+spacing-of-requires c κs = search needs
+
+enter-requires : tie.Need-enter-requires
+enter-requires c κs = search needs
 
 enum-known-check : tie.Need-enum-known-check
 enum-known-check c = search needs
@@ -26,15 +25,17 @@ refuse-requires c κs = search needs
 enum-told : tie.Need-enum-told
 enum-told c = search needs
 
-register-requires : tie.Need-register-requires
-register-requires c κs = let p = passed (bringUpOf (c .before .before .before .before .before .before .before .before .before .before .before .before .args .a) (c .before .before .before .before .before .before .before .before .before .before .before .before .args .hubs .now) (c .before .before .before .before .before .before .before .before .before .before .before .before .args .list .now)) _ _ _ Pass (sym (c .before .before .before .before .before .bring-up-check .ensures) ∙ c .before .before .before .enum-told .given .1) .0 in (p .spaced, ((p .n-high, p .room), p .list))
+address-requires : tie.Need-address-requires
+address-requires c κs = course-room _ _ _ _ (c .before .before .before .before .before .before .before .enter .ensures .0) (c .before .before .before .enum-told .given .1) (c .before .before .before .before .before .before .before .before .before .spacing-of .ensures)
 
-returns : tie.Need-returns
-unfolding bringUp onCheck refused andThen
-returns c = rw (check-then, ← c .before .before .before .before .bring-up-check .ensures, c .before .before .check .given .1, c .refuse .ensures)
+brought-requires : tie.Need-brought-requires
+brought-requires c κs = record-room _ _ _ _ (c .before .before .before .before .before .before .before .before .before .before .before .before .before .before .enter .ensures .0) (c .before .before .before .before .before .before .before .before .before .before .enum-told .given .1)
 
 same-length : tie.Need-same-length
 same-length c = search needs
+
+returns : tie.Need-returns
+returns c = refused-left _ _ _ _ (c .before .before .before .before .before .before .enter .ensures) _ (c .before .before .check .given .1) (c .refuse .ensures)
 
 same-length-2 : tie.Need-same-length-2
 same-length-2 c = search needs
@@ -42,21 +43,26 @@ same-length-2 c = search needs
 same-length-3 : tie.Need-same-length-3
 same-length-3 c = search needs
 
+same-length-4 : tie.Need-same-length-4
+same-length-4 c = search needs
+
 returns-2 : tie.Need-returns-2
-unfolding bringUp onCheck andThen
-returns-2 c = rw (check-then, ← c .before .before .before .before .before .before .before .before .before .before .before .before .bring-up-check .ensures, c .before .before .before .before .before .before .before .before .before .before .enum-told .given .1) (c .before .before .before .before .before .before .register .ensures)
+returns-2 c = passed-left _ _ _ _ (c .before .before .before .before .before .before .before .before .before .before .before .before .before .before .before .enter .ensures) _ (c .before .before .before .before .before .before .before .before .before .before .before .enum-told .given .1) (c .before .before .before .before .before .before .before .before .before .before .before .before .before .before .before .before .before .spacing-of .ensures) (c .before .before .before .before .before .before .before .address .ensures) (c .brought .ensures (c .before .before .before .before .before .before .before .before .before .before .before .before .before .before .before .before .before .before .before .before .before .before .before .before .args .hubs .now) (c .before .before .before .before .before .before .before .address .last .0) (c .before .before .before .before .before .before .before .address .last .1 .0) (c .before .before .before .before .before .before .before .address .last .1 .1 .0))
 
 pub bring-up-spec : {M : Type 1} → statement M
 bring-up-spec =
     tie.close
     (tie.spec
-    bring-up-check-requires
+    spacing-of-requires
+    enter-requires
     enum-known-check
     refuse-requires
     enum-told
-    register-requires
-    returns
+    address-requires
+    brought-requires
     same-length
+    returns
     same-length-2
     same-length-3
+    same-length-4
     returns-2)

@@ -5,9 +5,9 @@ use Rattle.bring_up.proofs.record.brought_device.Statement.{statement}
 use Rattle.bring_up.proofs.record.brought_device.Tie as tie
 use Rattle.bring_up.proofs.record.brought_device.Reads as reads
 use Rattle.bring_up.proofs.record.brought_device.Lts as lts
-use Rattle.bring_up.proofs.list.count_words.Reads as count-words-reads
-use Rattle.bring_up.proofs.list.first_words.Reads as first-words-reads
-use Rattle.bring_up.proofs.run.accepted.Reads as accepted-reads
+use Rattle.init.proofs.count_words.Reads as count-words-reads
+use Rattle.bring_up.proofs.record.first_words.Reads as first-words-reads
+use Rattle.answer.proofs.answer_number.Reads as answer-number-reads
 use Rattle.bring_up.proofs.record.no_device.Reads as no-device-reads
 
 count-words-requires : tie.Need-count-words-requires
@@ -19,15 +19,15 @@ first-words-requires c κs = search needs
 no-device-requires : tie.Need-no-device-requires
 no-device-requires c κs = search needs
 
-accepted-requires : tie.Need-accepted-requires
-accepted-requires c κs = search needs
+answer-number-requires : tie.Need-answer-number-requires
+answer-number-requires c κs = search needs
 
 cast-d : tie.Need-cast-d
 cast-d c = search needs
 
 returns : tie.Need-returns
 unfolding broughtRecord noDevice
-returns c = λ hubs ctx routes log. let e = c .before .before .before .before .before .count-words .ensures in rw (c .before .accepted .ensures, c .before .before .before .first-words .ensures, c .before .before .no-device .ensures, e .1, length-take-le _ _ (e .0))
+returns c = λ hubs ctx routes log. let e = c .before .before .before .before .before .count-words .ensures in rw (c .before .answer-number .ensures, c .before .before .before .first-words .ensures, c .before .before .no-device .ensures, e .1, length-take-le _ _ (e .0))
 
 pub brought-device-spec : {M : Type 1} → statement M
 brought-device-spec =
@@ -36,6 +36,6 @@ brought-device-spec =
     count-words-requires
     first-words-requires
     no-device-requires
-    accepted-requires
+    answer-number-requires
     cast-d
     returns)

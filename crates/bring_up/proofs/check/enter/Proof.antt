@@ -1,0 +1,42 @@
+use Rattle.init.specs.Reading.{bringUpOf}
+use Rattle.bring_up.proofs.Steps.{entered-not, entered}
+use borrow.Author.Needs.{needs}
+use Rattle.bring_up.proofs.check.enter.Statement.{statement}
+use Rattle.bring_up.proofs.check.enter.Tie as tie
+use Rattle.bring_up.proofs.check.enter.Reads as reads
+use Rattle.bring_up.proofs.check.enter.Lts as lts
+use Rattle.bring_up.proofs.check.early_check.Reads as early-check-reads
+use Rattle.bring_up.proofs.check.register.Reads as register-reads
+
+early-check-requires : tie.Need-early-check-requires
+early-check-requires c κs = search needs
+
+enum-known-check : tie.Need-enum-known-check
+enum-known-check c = search needs
+
+enum-told : tie.Need-enum-told
+enum-told c = search needs
+
+register-requires : tie.Need-register-requires
+register-requires c κs = search needs
+
+returns : tie.Need-returns
+returns c = entered-not (bringUpOf (c .before .before .before .before .before .before .before .args .a) (c .before .before .before .before .before .before .before .args .hubs .now) (c .before .before .before .before .before .before .before .args .list .now)) _ _ _ (c .before .before .before .early-check .ensures) (c .before .check .given .1)
+
+same-length : tie.Need-same-length
+same-length c = search needs
+
+returns-2 : tie.Need-returns-2
+returns-2 c = entered (bringUpOf (c .before .before .before .before .before .before .before .before .before .before .args .a) (c .before .before .before .before .before .before .before .before .before .before .args .hubs .now) (c .before .before .before .before .before .before .before .before .before .before .args .list .now)) _ _ _ (c .before .before .before .before .before .before .early-check .ensures) (c .before .before .before .before .enum-told .given .1) (c .before .before .register .ensures .0 (c .before .before .before .before .before .before .before .before .before .before .args .hubs .now) (c .before .before .before .before .before .before .before .before .before .before .args .list .now)) (c .before .before .register .ensures .1)
+
+pub enter-spec : {M : Type 1} → statement M
+enter-spec =
+    tie.close
+    (tie.spec
+    early-check-requires
+    enum-known-check
+    enum-told
+    register-requires
+    returns
+    same-length
+    returns-2)

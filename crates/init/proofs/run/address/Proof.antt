@@ -1,0 +1,102 @@
+use Rattle.init.proofs.Steps.{spaced-same, done, failed-before, cut-before}
+use Rattle.init.specs.Init.{bringUpAddress}
+use native.Mathlib.Omega.{arith}
+use borrow.Author.Needs.{needs}
+use Rattle.init.proofs.run.address.Statement.{statement}
+use Rattle.init.proofs.run.address.Tie as tie
+use Rattle.init.proofs.run.address.Reads as reads
+use Rattle.init.proofs.run.address.Lts as lts
+use Rattle.address_context.proofs.address_context.Reads as address-context-reads
+use Rattle.init.proofs.run.before_reading.Reads as before-reading-reads
+use Rattle.init.proofs.run.read_header.Reads as header-reads
+use Rattle.command.proofs.send.Reads as send-reads
+use Rattle.hub.proofs.route_string.Reads as route-string-reads
+use Rattle.hub.proofs.transaction_translator.Reads as transaction-translator-reads
+
+route-string-requires : tie.Need-route-string-requires
+route-string-requires c κs = search needs
+
+transaction-translator-requires : tie.Need-transaction-translator-requires
+transaction-translator-requires c κs = search needs
+
+address-context-requires : tie.Need-address-context-requires
+address-context-requires c κs = search needs
+
+send-requires : tie.Need-send-requires
+send-requires c κs = search needs
+
+enum-told : tie.Need-enum-told
+enum-told c = search needs
+
+read-header-requires : tie.Need-read-header-requires
+read-header-requires c κs = (spaced-same (c .before .before .before .before .before .before .before .before .before .before .before .before .before .before .before .before .before .before .before .before .before .pre .0) (c .before .before .before .before .before .before .before .before .before .before .before .address-context .kept .0), (omega (arith, c .before .before .before .before .before .before .before .send .kept .0, c .before .before .before .before .before .before .before .before .before .before .before .before .before .before .before .before .before .before .before .before .before .pre .1 .0), c .before .before .before .before .before .before .before .before .before .before .before .before .before .before .before .before .before .before .before .before .before .pre .1 .1))
+
+enum-known-s : tie.Need-enum-known-s
+enum-known-s c = search needs
+
+before-reading-requires : tie.Need-before-reading-requires
+before-reading-requires c κs = search needs
+
+enum-told-2 : tie.Need-enum-told-2
+enum-told-2 c = search needs
+
+before-reading-requires-2 : tie.Need-before-reading-requires-2
+before-reading-requires-2 c κs = search needs
+
+same-length : tie.Need-same-length
+same-length c = search needs
+
+same-length-2 : tie.Need-same-length-2
+same-length-2 c = search needs
+
+same-length-3 : tie.Need-same-length-3
+same-length-3 c = search needs
+
+returns : tie.Need-returns
+unfolding bringUpAddress
+returns c = rw (← c .before .before .before .before .before .before .before .before .before .before .before .before .before .before .before .before .before .before .before .before .before .route-string .ensures, ← c .before .before .before .before .before .before .before .before .before .before .before .before .before .before .before .before .before .before .before .before .transaction-translator .ensures, ← c .before .before .before .before .before .before .before .before .before .before .before .before .before .before .before .before .before .before .address-context .ensures) (done _ _ _ _ (c .before .before .before .before .before .before .before .before .before .before .before .before .before .before .send .ensures) _ _ _ _ (c .before .before .before .before .before .before .before .before .before .before .enum-told .given .1) (c .before .before .before .before .before .before .read-header .ensures (c .before .before .before .before .before .before .before .before .before .before .before .before .before .before .before .before .before .before .before .before .before .before .before .before .before .before .before .before .args .hubs .now)))
+
+same-length-4 : tie.Need-same-length-4
+same-length-4 c = search needs
+
+same-length-5 : tie.Need-same-length-5
+same-length-5 c = search needs
+
+returns-2 : tie.Need-returns-2
+unfolding bringUpAddress
+returns-2 c = rw (← c .before .before .before .before .before .before .before .before .before .before .before .before .before .route-string .ensures, ← c .before .before .before .before .before .before .before .before .before .before .before .before .transaction-translator .ensures, ← c .before .before .before .before .before .before .before .before .before .before .address-context .ensures) (failed-before _ _ _ _ (c .before .before .before .before .before .before .send .ensures) _ _ (c .before .before .before .before .before .before .before .before .before .before .before .before .before .before .before .before .before .before .before .before .pre .1 .1) (c .before .before .s .given .1) (c .before-reading .ensures))
+
+same-length-6 : tie.Need-same-length-6
+same-length-6 c = search needs
+
+same-length-7 : tie.Need-same-length-7
+same-length-7 c = search needs
+
+returns-3 : tie.Need-returns-3
+unfolding bringUpAddress
+returns-3 c = rw (← c .before .before .before .before .before .before .before .before .before .before .before .before .route-string .ensures, ← c .before .before .before .before .before .before .before .before .before .before .before .transaction-translator .ensures, ← c .before .before .before .before .before .before .before .before .before .address-context .ensures) (cut-before _ _ _ _ (c .before .before .before .before .before .send .ensures) _ _ (c .before .before .before .before .before .before .before .before .before .before .before .before .before .before .before .before .before .before .before .pre .1 .1) (c .before .enum-told2 .given .1) (c .before-reading2 .ensures))
+
+pub address-spec : {M : Type 1} → statement M
+address-spec =
+    tie.close
+    (tie.spec
+    route-string-requires
+    transaction-translator-requires
+    address-context-requires
+    send-requires
+    enum-told
+    read-header-requires
+    enum-known-s
+    before-reading-requires
+    enum-told-2
+    before-reading-requires-2
+    same-length
+    same-length-2
+    same-length-3
+    returns
+    same-length-4
+    same-length-5
+    returns-2
+    same-length-6
+    same-length-7
+    returns-3)

@@ -1,0 +1,64 @@
+use Rattle.init.specs.Reading.{bringUpOf}
+use Rattle.phase.specs.Arrays.{leaves}
+use Rattle.init.specs.Init.{bringUpSettings}
+use Rattle.init.proofs.Steps.{first-room, set-end}
+use Rattle.init.proofs.Lists.{first-all}
+use mathlib.Core.Path.{sym, _∙_}
+use native.Mathlib.Omega.{arith}
+use borrow.Author.Needs.{needs}
+use Rattle.init.proofs.run.set_first.Statement.{statement}
+use Rattle.init.proofs.run.set_first.Tie as tie
+use Rattle.init.proofs.run.set_first.Reads as reads
+use Rattle.init.proofs.run.set_first.Lts as lts
+use Rattle.configuration.proofs.count_configurations.Reads as count-configurations-reads
+use Rattle.init.proofs.list.first_value.Reads as first-value-reads
+use Rattle.init.proofs.run.after_reading.Reads as after-reading-reads
+use Rattle.init.proofs.run.first_settings.Reads as first-settings-reads
+use Rattle.init.proofs.run.value_after.Reads as value-after-reads
+use Rattle.set_configuration.proofs.run_set_configuration.Reads as run-set-configuration-reads
+
+first-value-requires : tie.Need-first-value-requires
+first-value-requires c κs = search needs
+
+first-settings-requires : tie.Need-first-settings-requires
+first-settings-requires c κs = search needs
+
+run-set-configuration-requires : tie.Need-run-set-configuration-requires
+run-set-configuration-requires c κs = let e = c .before .before .before .first-settings .ensures in (first-room _ _ (c .before .before .before .first-settings .result) (c .before .before .before .before .before .before .before .before .before .before .pre .0) (e .1) (e .3) (e .4), (rw (e .2) (omega arith), rw (e .3) (omega (arith, c .before .before .before .before .before .before .before .before .before .before .pre .1))))
+
+value-after-requires : tie.Need-value-after-requires
+value-after-requires c κs = search needs
+
+count-configurations-requires : tie.Need-count-configurations-requires
+count-configurations-requires c κs = search needs
+
+after-reading-requires : tie.Need-after-reading-requires
+after-reading-requires c κs = search needs
+
+same-length : tie.Need-same-length
+same-length c = search needs
+
+same-length-2 : tie.Need-same-length-2
+same-length-2 c = search needs
+
+same-length-3 : tie.Need-same-length-3
+same-length-3 c = search needs
+
+returns : tie.Need-returns
+unfolding bringUpSettings
+returns c = λ hubs. let a = c .before .before .before .before .before .before .before .before .before .before .before .before .before .before .before .before .before .before .before .before .args .a in let list = c .before .before .before .before .before .before .before .before .before .before .before .before .before .before .before .before .before .before .before .before .args .list .now in let p = leaves (c .before .before .before .before .before .before .before .before .before .run-set-configuration .result) (c .before .before .before .before .before .before .before .before .before .run-set-configuration .last .0) (c .before .before .before .before .before .before .before .before .before .run-set-configuration .last .1 .0) (c .before .before .before .before .before .before .before .before .before .run-set-configuration .last .1 .1 .0) in sym (set-end (bringUpOf a hubs list) (c .before .before .before .before .before .before .before .before .before .before .before .before .before .before .before .before .before .before .before .before .args .spacing) (c .before .before .before .before .before .before .before .before .before .before .before .before .before .before .before .before .before .before .before .before .args .ctx .now) (c .before .before .before .before .before .before .before .before .before .before .before .before .before .before .before .before .before .before .before .before .args .routes .now) (c .before .before .before .before .before .before .before .before .before .before .before .before .before .before .before .before .before .before .before .before .args .outcomes .now) (c .before .before .before .before .before .before .before .before .before .before .before .before .before .before .before .before .before .before .before .before .args .n) (c .before .before .before .before .before .before .before .before .before .before .before .before .before .before .before .before .before .before .before .before .args .log .now) p (rw (← c .before .before .before .before .before .before .before .before .before .before .before .before .before .before .first-value .ensures, ← c .before .before .before .before .before .before .before .before .before .before .before .before .before .first-settings .ensures .0 list) (sym (c .before .before .before .before .before .before .before .before .before .run-set-configuration .ensures))) ∙ rw (c .after-reading .ensures, c .before .before .value-after .ensures, c .before .before .before .before .before .before .before .before .before .before .before .before .before .before .first-value .ensures, c .before .count-configurations .ensures, first-all list))
+
+pub set-first-spec : {M : Type 1} → statement M
+set-first-spec =
+    tie.close
+    (tie.spec
+    first-value-requires
+    first-settings-requires
+    run-set-configuration-requires
+    value-after-requires
+    count-configurations-requires
+    after-reading-requires
+    same-length
+    same-length-2
+    same-length-3
+    returns)

@@ -1,0 +1,2 @@
+pub mod Init
+pub mod Reading
