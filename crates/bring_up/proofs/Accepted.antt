@@ -21,6 +21,8 @@ use Rattle.settings.proofs.Laws.{match-none}
 use Rattle.device.specs.declared.record.Device.{Device}
 use Rattle.device.specs.Device.{listOf, cellsIn, heldOf, quarantinedOf}
 use Rattle.device.specs.Sound.{placeSound, countsFit, allRings, ringsSound, sound}
+use Rattle.device.proofs.Made.{sound-if}
+use Rattle.device.proofs.Updates.{liveOf}
 use Rattle.init.specs.Reading.{BringUp, Brought}
 use Rattle.bring_up.specs.BringUp.{spacingOf, broughtRecord}
 use Rattle.bring_up.proofs.Checks.{Passed}
@@ -99,11 +101,5 @@ module _ (a : BringUp) (ctx routes log : ℕ) (p : Passed a ctx routes log) (e :
 
   -- it is sound
   pub record-sound : sound (broughtRecord a (spacingOf ctx) e) ≡ true
-  unfolding d sound
-  record-sound =
-      and-true (placeSound d) _ place
-      (and-true (countsFit d) _ counts
-      (and-true (validList (listOf d)) _ (rw list (p .list))
-      (and-true (settingsSound (listOf d) (heldOf d)) _ settings
-      (and-true (addressesFit (addresses (take (d .«ep_count») (d .eps)))) _ fit
-      (and-true (endpointsMatch (listOf d) (heldOf d) (cellsIn d)) (ringsSound d) match rings)))))
+  unfolding d liveOf
+  record-sound = sound-if d place counts (rw list (p .list)) settings fit match rings

@@ -20,7 +20,7 @@ abbrev pub soundCounts : ℕ → ℕ → ℕ → ℕ → Bool
 soundCounts words endpoints held quarantined =
     leb words 256 && (leb endpoints 30 && (leb held 32 && leb quarantined 61))
 
--- A valid list, settings that it has, endpoint addresses that have places, endpoints that are those of the settings; and then the rest.
-abbrev pub soundLists : List ℕ → List Held → List ℕ → Cells → Bool → Bool
-soundLists list hs addresses c rest =
-    validList list && (settingsSound list hs && (addressesFit addresses && (endpointsMatch list hs c && rest)))
+-- A valid list, settings that it has, endpoint addresses that have places, endpoints that are those of the settings.
+abbrev pub soundLists : List ℕ → List Held → List ℕ → Cells → Bool
+soundLists list hs addresses c =
+    validList list && (settingsSound list hs && (addressesFit addresses && endpointsMatch list hs c))

@@ -1,7 +1,7 @@
 // Whether the fields and arrays of a record are sound; an array holds a list in its first n words.
 use endpoint::Endpoint;
 ghost use mathlib.Core.Path.{_≡_};
-ghost use mathlib.Core.Bool.{Bool, _&&_, _||_};
+ghost use mathlib.Core.Bool.{_||_};
 ghost use Prim.Native.Nat.{_≤_};
 ghost use lib.Dec.{eqb};
 ghost use lib.ListN.{take};
@@ -60,7 +60,7 @@ fn listed_sound(
     count: usize,
 ) -> bool
     requires { ⌜ (held ≤ 32) × (count ≤ 30) ⌝ }
-    ensures { λ r. ⌜ ((rest : Bool) → soundLists (now (list .entry)) (heldIn held interfaces alternates) (addresses (take count eps)) (cellsOf count eps owners) rest ≡ (r && rest)) ⌝ }
+    ensures { λ r. ⌜ r ≡ soundLists (now (list .entry)) (heldIn held interfaces alternates) (addresses (take count eps)) (cellsOf count eps owners) ⌝ }
 {
     if !configuration::valid_list(list) {
         return false;
@@ -86,7 +86,7 @@ pub fn lists_sound(
     count: usize,
 ) -> bool
     requires { ⌜ (n ≤ 256) × (held ≤ 32) × (count ≤ 30) ⌝ }
-    ensures { λ r. ⌜ ((rest : Bool) → soundLists (take n list) (heldIn held interfaces alternates) (addresses (take count eps)) (cellsOf count eps owners) rest ≡ (r && rest)) ⌝ }
+    ensures { λ r. ⌜ r ≡ soundLists (take n list) (heldIn held interfaces alternates) (addresses (take count eps)) (cellsOf count eps owners) ⌝ }
 {
     listed_sound(
         &list[0..n],

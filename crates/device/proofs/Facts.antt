@@ -20,7 +20,7 @@ use Rattle.settings.specs.Match.{endpointsMatch}
 use Rattle.checks.specs.Rings.{ringsFit}
 use Rattle.device.specs.declared.record.Device.{Device}
 use Rattle.device.specs.Device.{listOf, cellsIn, heldOf, quarantinedOf, unusable}
-use Rattle.device.specs.Sound.{placeSound, countsFit, allRings, ringsSound, sound}
+use Rattle.device.specs.Sound.{placeSound, countsFit, listsSound, allRings, ringsSound, sound}
 
 pub record PlaceFacts (d : Device) : Type 0 where
   pub slot-low : 1 ≤ d .slot .0
@@ -124,27 +124,27 @@ ring-facts d e =
 
 -- what a sound record says
 pub sound-facts : (d : Device) → sound d ≡ true → SoundFacts d
-unfolding sound
+unfolding sound listsSound
 sound-facts d e =
     let list = validList (listOf d) in
     let settings = settingsSound (listOf d) (heldOf d) in
     let fit = addressesFit (addresses (take (d .«ep_count») (d .eps))) in
     let match = endpointsMatch (listOf d) (heldOf d) (cellsIn d) in
     let rings = ringsSound d in
-    let e1 = both (placeSound d) (countsFit d && (list && (settings && (fit && (match && rings))))) e in
-    let e2 = both (countsFit d) (list && (settings && (fit && (match && rings)))) (e1 .1) in
-    let e3 = both list (settings && (fit && (match && rings))) (e2 .1) in
-    let e4 = both settings (fit && (match && rings)) (e3 .1) in
-    let e5 = both fit (match && rings) (e4 .1) in
-    let e6 = both match rings (e5 .1) in
+    let e1 = both (placeSound d) (countsFit d && (listsSound d && rings)) e in
+    let e2 = both (countsFit d) (listsSound d && rings) (e1 .1) in
+    let e3 = both (listsSound d) rings (e2 .1) in
+    let e4 = both list (settings && (fit && match)) (e3 .0) in
+    let e5 = both settings (fit && match) (e4 .1) in
+    let e6 = both fit match (e5 .1) in
     record {
       place = place-facts d (e1 .0);
       counts = count-facts d (e2 .0);
-      list = e3 .0;
-      settings = e4 .0;
-      addresses-fit = e5 .0;
-      endpoints = e6 .0;
-      rings = ring-facts d (e6 .1);
+      list = e4 .0;
+      settings = e5 .0;
+      addresses-fit = e6 .0;
+      endpoints = e6 .1;
+      rings = ring-facts d (e3 .1);
     }
 
 -- a record marked unusable is not usable

@@ -27,7 +27,7 @@ use Rattle.checks.specs.Rings.{ringsFit}
 use Rattle.checks.proofs.Laws.{Apart, Disjoint, control-ok, clean-in, apart-in, apart-none, placedRings, placed-few, placed-none, all-ok, all-distinct, all-few, endpoint-rings, endpoints-few, queue-rings}
 use Rattle.device.specs.declared.record.Device.{Device}
 use Rattle.device.specs.Device.{listOf, cellsIn, heldOf, quarantinedOf, withCells, withHeld, withConfiguration, withQuarantined, unusable}
-use Rattle.device.specs.Sound.{placeSound, countsFit, allRings, ringsSound, sound}
+use Rattle.device.specs.Sound.{placeSound, countsFit, listsSound, allRings, ringsSound, sound}
 use Rattle.device.specs.Left.{marked}
 use Rattle.device.specs.Claim.{quarantines}
 use Rattle.device.proofs.Counts.{sound-counts}
@@ -55,7 +55,7 @@ pub sound-if :
     (d : Device) → placeSound d ≡ true → countsFit d ≡ true → validList (listOf d) ≡ true → settingsSound (listOf d) (heldOf d) ≡ true →
     addressesFit (addresses (liveOf d)) ≡ true → endpointsMatch (listOf d) (heldOf d) (cellsIn d) ≡ true → ringsSound d ≡ true →
     sound d ≡ true
-unfolding sound liveOf
+unfolding sound listsSound liveOf
 sound-if d p q r s t u v = rw (p, q, r, s, t, u, v)
 
 rings-if : (d : Device) → length (allRings d) ≤ 61 → ringsOk (allRings d) ≡ true → distinct (allRings d) ≡ true →

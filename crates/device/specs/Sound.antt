@@ -16,6 +16,9 @@ placeSound d = soundPlace (d .slot .0) (d .n) (d .spacing) (d .«port_speed»)
 unfoldable pub countsFit : Device → Bool
 countsFit d = soundCounts (d .«list_len») (d .«ep_count») (d .«held_count») (d .«quarantined_count»)
 
+unfoldable pub listsSound : Device → Bool
+listsSound d = soundLists (listOf d) (heldOf d) (addresses (take (d .«ep_count») (d .eps))) (cellsIn d)
+
 -- Live, control and quarantined rings.
 unfoldable pub allRings : Device → List ℕ
 allRings d = ringsOf (take (d .«ep_count») (d .eps)) ++ (d .control ∷ quarantinedOf d)
@@ -24,7 +27,4 @@ unfoldable pub ringsSound : Device → Bool
 ringsSound d = soundRings (d .usable) (d .«quarantined_count») (allRings d)
 
 unfoldable pub sound : Device → Bool
-sound d =
-    placeSound d
-    && (countsFit d
-    && soundLists (listOf d) (heldOf d) (addresses (take (d .«ep_count») (d .eps))) (cellsIn d) (ringsSound d))
+sound d = placeSound d && (countsFit d && (listsSound d && ringsSound d))

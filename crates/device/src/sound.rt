@@ -1,17 +1,13 @@
 // Whether a record is sound, for any record whatsoever.
 use super::record::Device;
 ghost use mathlib.Core.Path.{_≡_};
-ghost use mathlib.Core.Bool.{true};
-ghost use lib.ListN.{take};
-ghost use Rattle.endpoint.specs.Endpoint.{addresses};
-ghost use Rattle.checks.specs.Sound.{soundLists};
-ghost use Rattle.device.specs.Device.{listOf, cellsIn, heldOf};
-ghost use Rattle.device.specs.Sound.{countsFit, ringsSound, sound};
+ghost use mathlib.Core.Bool.{true, _&&_};
+ghost use Rattle.device.specs.Sound.{countsFit, listsSound, ringsSound, sound};
 
 impl Device {
     fn arrays_sound(self) -> bool
         requires { ⌜ countsFit self ≡ true ⌝ }
-        ensures { λ r. ⌜ r ≡ soundLists (listOf self) (heldOf self) (addresses (take (self .«ep_count») (self .eps))) (cellsIn self) (ringsSound self) ⌝ }
+        ensures { λ r. ⌜ r ≡ listsSound self && ringsSound self ⌝ }
     {
         let list = self.list;
         let interfaces = self.interfaces;

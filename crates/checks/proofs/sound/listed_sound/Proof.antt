@@ -7,19 +7,19 @@ valid-list-requires : tie.Need-valid-list-requires
 valid-list-requires c κs = search needs
 
 returns : tie.Need-returns
-returns c = λ rest. rw (← c .before .valid-list .ensures, not-true (c .before .valid-list .result) (c .if1 .taken))
+returns c = rw (← c .before .valid-list .ensures, not-true (c .before .valid-list .result) (c .if1 .taken))
 
 settings-sound-requires : tie.Need-settings-sound-requires
 settings-sound-requires c κs = search needs
 
 returns-2 : tie.Need-returns-2
-returns-2 c = λ rest. rw (← c .before .before .before .valid-list .ensures, not-false (c .before .before .before .valid-list .result) (c .before .before .if1 .left), ← c .before .settings-sound .ensures, not-true (c .before .settings-sound .result) (c .if2 .taken))
+returns-2 c = rw (← c .before .before .before .valid-list .ensures, not-false (c .before .before .before .valid-list .result) (c .before .before .if1 .left), ← c .before .settings-sound .ensures, not-true (c .before .settings-sound .result) (c .if2 .taken))
 
 addresses-fit-requires : tie.Need-addresses-fit-requires
 addresses-fit-requires c κs = search needs
 
 returns-3 : tie.Need-returns-3
-returns-3 c = λ rest. rw (← c .before .before .before .before .before .valid-list .ensures, not-false (c .before .before .before .before .before .valid-list .result) (c .before .before .before .before .if1 .left), ← c .before .before .before .settings-sound .ensures, not-false (c .before .before .before .settings-sound .result) (c .before .before .if2 .left), ← c .before .addresses-fit .ensures, not-true (c .before .addresses-fit .result) (c .if3 .taken))
+returns-3 c = rw (← c .before .before .before .before .before .valid-list .ensures, not-false (c .before .before .before .before .before .valid-list .result) (c .before .before .before .before .if1 .left), ← c .before .before .before .settings-sound .ensures, not-false (c .before .before .before .settings-sound .result) (c .before .before .if2 .left), ← c .before .addresses-fit .ensures, not-true (c .before .addresses-fit .result) (c .if3 .taken))
 
 cells-of-requires : tie.Need-cells-of-requires
 cells-of-requires c κs = search needs
@@ -28,7 +28,7 @@ endpoints-match-requires : tie.Need-endpoints-match-requires
 endpoints-match-requires c κs = search needs
 
 returns-4 : tie.Need-returns-4
-returns-4 c = λ rest. rw (← c .before .before .before .before .before .before .before .valid-list .ensures, not-false (c .before .before .before .before .before .before .before .valid-list .result) (c .before .before .before .before .before .before .if1 .left), ← c .before .before .before .before .before .settings-sound .ensures, not-false (c .before .before .before .before .before .settings-sound .result) (c .before .before .before .before .if2 .left), ← c .before .before .before .addresses-fit .ensures, not-false (c .before .before .before .addresses-fit .result) (c .before .before .if3 .left), c .endpoints-match .ensures, c .before .cells-of .ensures)
+returns-4 c = rw (← c .before .before .before .before .before .before .before .valid-list .ensures, not-false (c .before .before .before .before .before .before .before .valid-list .result) (c .before .before .before .before .before .before .if1 .left), ← c .before .before .before .before .before .settings-sound .ensures, not-false (c .before .before .before .before .before .settings-sound .result) (c .before .before .before .before .if2 .left), ← c .before .before .before .addresses-fit .ensures, not-false (c .before .before .before .addresses-fit .result) (c .before .before .if3 .left), c .endpoints-match .ensures, c .before .cells-of .ensures)
 
 pub listed-sound-spec : {M : Type 1} → statement M
 listed-sound-spec =

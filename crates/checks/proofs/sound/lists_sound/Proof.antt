@@ -1,4 +1,3 @@
-use mathlib.Core.Path.{_∙_}
 use native.Mathlib.Nat.{sub-zero}
 use borrow.Author.Needs.{needs}
 use Rattle.checks.proofs.sound.lists_sound.Statement.{statement}
@@ -17,7 +16,7 @@ listed-sound-requires : tie.Need-listed-sound-requires
 listed-sound-requires c κs = search needs
 
 returns : tie.Need-returns
-returns c = λ rest. rw sub-zero at (c .listed-sound .ensures rest)
+returns c = rw (c .listed-sound .ensures, sub-zero)
 
 pub lists-sound-spec : {M : Type 1} → statement M
 lists-sound-spec =
