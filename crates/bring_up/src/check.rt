@@ -9,7 +9,6 @@ ghost use mathlib.Core.Bool.{_||_};
 ghost use mathlib.Core.List.{List};
 ghost use Prim.Native.Nat.{ℕ};
 ghost use lib.Dec.{eqb};
-ghost use Rattle.ring.specs.Rings.{ringOk};
 ghost use Rattle.transfer.specs.Routes.{withRoute, withRegistered};
 ghost use Rattle.answer.specs.declared.Answer.{Answer};
 ghost use Rattle.answer.specs.declared.Check.the-variants.{Pass, Refuse};

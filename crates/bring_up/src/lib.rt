@@ -5,7 +5,6 @@ mod record;
 use answer::Check;
 use device::Called;
 ghost use mathlib.Core.Path.{_≡_};
-ghost use lib.ListN.{length};
 ghost use Rattle.device.specs.Left.{leaves};
 ghost use Rattle.init.specs.Reading.{bringUpOf};
 ghost use Rattle.bring_up.specs.BringUp.{spacingOf, bringUp};

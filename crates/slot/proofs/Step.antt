@@ -29,7 +29,8 @@ use Rattle.controller.specs.Controller.{controlled, configurationSet}
 use Rattle.controller.proofs.Laws.{followed, controlled-course}
 use Rattle.device.specs.declared.record.Device.{Device}
 use Rattle.device.specs.Left.{Left, refused, ended}
-use Rattle.device.specs.Check.{recordCheck, isThought, hubCheck}
+use Rattle.checks.specs.Think.{isThought}
+use Rattle.device.specs.Check.{recordCheck, hubCheck}
 use Rattle.device.specs.Calls.{onCheck}
 use Rattle.device.specs.Claim.{claimCheck}
 use Rattle.device.specs.Release.{releaseCheck}

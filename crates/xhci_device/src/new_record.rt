@@ -5,7 +5,8 @@ use bring_up::BringUpArgs;
 use def::SlotId;
 ghost use lib.Dec.{eqb};
 ghost use lib.ListN.{length};
-ghost use Rattle.bring_up.specs.BringUp.{bringUp, bringUpOf};
+ghost use Rattle.init.specs.Reading.{bringUpOf};
+ghost use Rattle.bring_up.specs.BringUp.{bringUp};
 ghost use Rattle.image.specs.Image.{WORDS, isSet};
 ghost use Rattle.xhci_device.specs.Crossed.{crosses, CrossedAs};
 

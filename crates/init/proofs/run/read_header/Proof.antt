@@ -25,7 +25,7 @@ same-length c = search needs
 
 returns : tie.Need-returns
 unfolding bringUpHeader
-returns c = λ hubs. done-else _ _ _ _ (c .before .before .before .before .before .before .before .send .ensures) _ _ _ _ _ _ (c .before .before .before .enum-told .given .1) (ne-eqb _ _ (c .before .if1 .taken)) (ended-before _ _ (c .before .before .before .before .before .before .before .before .before .before .before .before .before .before .pre .1 .1) (c .before-reading .ensures))
+returns c = λ hubs. done-else _ _ _ _ (c .before .before .before .before .before .before .before .send .ensures) _ _ _ _ _ _ (c .before .before .before .enum-told .given .1) (ne-eqb (c .before .before .before .before .before .before .before .before .before .before .before .before .before .before .args .a .header) 8 (λ e. omega (arith, e, c .before .if1 .taken))) (ended-before _ _ (c .before .before .before .before .before .before .before .before .before .before .before .before .before .before .pre .1 .1) (c .before-reading .ensures))
 
 max-packet-requires : tie.Need-max-packet-requires
 max-packet-requires c κs = (c .before .before .before .before .before .before .before .before .before .before .before .before .before .before .before .before .pre .0, (omega (arith, c .before .before .before .before .before .before .before .before .before .send .kept .0, c .before .before .before .before .before .before .before .before .before .before .before .before .before .before .before .before .pre .1 .0), c .before .before .before .before .before .before .before .before .before .before .before .before .before .before .before .before .pre .1 .1))
@@ -53,7 +53,7 @@ same-length-4 c = search needs
 
 returns-2 : tie.Need-returns-2
 unfolding bringUpHeader
-returns-2 c = λ hubs. done-where _ _ _ _ (c .before .before .before .before .before .before .before .before .before .before .before .before .before .before .before .before .send .ensures) _ _ _ _ _ _ (c .before .before .before .before .before .before .before .before .before .before .before .before .enum-told .given .1) (eq-eqb _ _ (c .before .before .before .before .before .before .before .before .before .before .if1 .left)) (c .before .before .before .before .before .before .max-packet .ensures hubs)
+returns-2 c = λ hubs. done-where _ _ _ _ (c .before .before .before .before .before .before .before .before .before .before .before .before .before .before .before .before .send .ensures) _ _ _ _ _ _ (c .before .before .before .before .before .before .before .before .before .before .before .before .enum-told .given .1) (eq-eqb (c .before .before .before .before .before .before .before .before .before .before .before .before .before .before .before .before .before .before .before .before .before .before .before .args .a .header) 8 (omega (arith, c .before .before .before .before .before .before .before .before .before .before .if1 .left))) (c .before .before .before .before .before .before .max-packet .ensures hubs)
 
 same-length-5 : tie.Need-same-length-5
 same-length-5 c = search needs
