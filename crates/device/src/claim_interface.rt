@@ -102,7 +102,7 @@ fn with_quarantined(mut d: Device, q: Queues) -> Device
 }
 
 // The record of a claim that moved the settings.
-fn moved_record(d: Device, c: Cells, interface: u8, alternate: u8, pending: [u64; 30]) -> Device
+fn moved_record(mut d: Device, c: Cells, interface: u8, alternate: u8, pending: [u64; 30]) -> Device
     requires { ⌜ (d .«held_count» ≤ 32) × (length (withSetting interface alternate (heldOf d)) ≤ 32) ⌝ }
     ensures { λ r. ⌜ r ≡ withHeld (withSetting interface alternate (heldOf d)) (withCells (claimedCells interface pending c) d) ⌝ }
 {
@@ -110,26 +110,33 @@ fn moved_record(d: Device, c: Cells, interface: u8, alternate: u8, pending: [u64
     let alternates = d.alternates;
     let s = settings::with_setting(interfaces, alternates, d.held_count, interface, alternate);
     let claimed = endpoint::claimed_cells(interface, pending, c);
-    let e = update::with_cells(d, claimed);
-    update::with_held(e, s)
+    d = update::with_cells(d, claimed);
+    update::with_held(d, s)
 }
 
 // The record of one that did not: after 14 the pending rings are quarantined.
-fn kept_record(d: Device, c: Cells, interface: u8, active: usize, a: Answer, q: Queues) -> Device
+fn kept_record(
+    mut d: Device,
+    c: Cells,
+    interface: u8,
+    active: usize,
+    a: Answer,
+    q: Queues,
+) -> Device
     requires { ⌜ (quarantinedOf d ≡ []) × (q .count ≤ 30) ⌝ }
     ensures { λ r. ⌜ r ≡ quarantines a (take (q .count) (q .rings)) (withCells (withActive (Interface interface) active c) d) ⌝ }
 {
     let revoked = endpoint::with_active(Owner::Interface(interface), active, c);
-    let e = update::with_cells(d, revoked);
+    d = update::with_cells(d, revoked);
     if answer::answer_number(a) == 14 {
-        return with_quarantined(e, q);
+        return with_quarantined(d, q);
     }
-    e
+    d
 }
 
 // The record that the end of the course makes.
 fn claim_record(
-    d: Device,
+    mut d: Device,
     c: Cells,
     interface: u8,
     alternate: u8,
@@ -143,14 +150,16 @@ fn claim_record(
 {
     let a = e.answer;
     if e.moved {
-        return update::marked(moved_record(d, c, interface, alternate, pending), a);
+        d = moved_record(d, c, interface, alternate, pending);
+        return update::marked(d, a);
     }
-    update::marked(kept_record(d, c, interface, e.active, a, q), a)
+    d = kept_record(d, c, interface, e.active, a, q);
+    update::marked(d, a)
 }
 
 // What is done where the checks have passed.
 fn claim_run(
-    d: Device,
+    mut d: Device,
     ctx: &mut [u8],
     routes: &mut [u64],
     log: &mut [u32],
@@ -169,8 +178,9 @@ fn claim_run(
     let q = a.pending;
     let e = claim::claim_listed(ctx, routes, log, outcomes, a, list, d.list_len);
     let answer = e.answer;
+    d = claim_record(d, c, interface, alternate, pending, q, e);
     Called {
-        device: claim_record(d, c, interface, alternate, pending, q, e),
+        device: d,
         answer: answer,
         count: e.count,
     }
@@ -200,21 +210,24 @@ impl Device {
             rings,
         );
         match check {
-            Check::Refuse(a) => Called {
-                device: self,
-                answer: a,
-                count: 0,
-            },
-            Check::Pass => claim_run(
-                self,
-                ctx,
-                routes,
-                log,
-                outcomes,
-                interface,
-                alternate,
-                rings,
-            ),
+            Check::Refuse(a) => {
+                return Called {
+                    device: self,
+                    answer: a,
+                    count: 0,
+                };
+            }
+            Check::Pass => {}
         }
+        claim_run(
+            self,
+            ctx,
+            routes,
+            log,
+            outcomes,
+            interface,
+            alternate,
+            rings,
+        )
     }
 }

@@ -17,12 +17,13 @@ ghost use Rattle.device.specs.Calls.{hubContext, hubCourse, hubLeft, hub
 
 impl Device {
     // The end of a call that is one command, by its outcome.
-    fn hub_end(self, s: Sent, count: usize) -> Called
+    fn hub_end(mut self, s: Sent, count: usize) -> Called
         ensures { λ r. ⌜ r ≡ record { device = marked (answerOf s) self; answer = answerOf s; count = count } ⌝ }
     {
         let a = phase::answer_of(s);
+        self = update::marked(self, a);
         Called {
-            device: update::marked(self, a),
+            device: self,
             answer: a,
             count: count,
         }
@@ -62,12 +63,15 @@ impl Device {
     {
         let check = self.hub_check(ctx.len(), routes.len(), log.len(), ns);
         match check {
-            Check::Refuse(a) => Called {
-                device: self,
-                answer: a,
-                count: 0,
-            },
-            Check::Pass => self.hub_run(ctx, log, outcomes, ports, multi, ns),
+            Check::Refuse(a) => {
+                return Called {
+                    device: self,
+                    answer: a,
+                    count: 0,
+                };
+            }
+            Check::Pass => {}
         }
+        self.hub_run(ctx, log, outcomes, ports, multi, ns)
     }
 }

@@ -66,34 +66,37 @@ fn release_args(d: Device, c: Cells, interface: u8) -> ReleaseArgs
 }
 
 // The record without the interface's setting and endpoints.
-fn released(d: Device, c: Cells, interface: u8) -> Device
+fn released(mut d: Device, c: Cells, interface: u8) -> Device
     requires { ⌜ countsFit d ≡ true ⌝ }
     ensures { λ r. ⌜ r ≡ withHeld (withoutSetting interface (heldOf d)) (withCells (claimedCells interface (replicate PLACES 0) c) d) ⌝ }
 {
     let interfaces = d.interfaces;
     let alternates = d.alternates;
     let held = settings::without_setting(interfaces, alternates, d.held_count, interface);
-    let left = endpoint::claimed_cells(interface, [0u64; 30], c);
-    update::with_held(update::with_cells(d, left), held)
+    let others = endpoint::claimed_cells(interface, [0u64; 30], c);
+    d = update::with_cells(d, others);
+    update::with_held(d, held)
 }
 
 // The record that the end of the course makes.
-fn release_record(d: Device, c: Cells, e: Ended, interface: u8) -> Device
+fn release_record(mut d: Device, c: Cells, e: Ended, interface: u8) -> Device
     requires { ⌜ countsFit d ≡ true ⌝ }
     requires { ⌜ c ≡ cellsIn d ⌝ }
     ensures { λ r. ⌜ ((ctx routes : List ℕ) → r ≡ releaseRecord d interface (arrays.leaves e ctx routes [] .end)) ⌝ }
 {
     let answer = e.answer;
     if e.moved {
-        return update::marked(released(d, c, interface), answer);
+        d = released(d, c, interface);
+        return update::marked(d, answer);
     }
     let left = endpoint::with_active(Owner::Interface(interface), e.active, c);
-    update::marked(update::with_cells(d, left), answer)
+    d = update::with_cells(d, left);
+    update::marked(d, answer)
 }
 
 // What is done where the checks have passed.
 fn release_run(
-    d: Device,
+    mut d: Device,
     ctx: &mut [u8],
     routes: &mut [u64],
     log: &mut [u32],
@@ -108,8 +111,9 @@ fn release_run(
     let list = d.list;
     let e = release::release_listed(ctx, routes, log, outcomes, a, list, d.list_len);
     let answer = e.answer;
+    d = release_record(d, c, e, interface);
     Called {
-        device: release_record(d, c, e, interface),
+        device: d,
         answer: answer,
         count: e.count,
     }
@@ -129,12 +133,15 @@ impl Device {
     {
         let check = release_check(self, ctx.len(), routes.len(), log.len(), interface);
         match check {
-            Check::Refuse(a) => Called {
-                device: self,
-                answer: a,
-                count: 0,
-            },
-            Check::Pass => release_run(self, ctx, routes, log, outcomes, interface),
+            Check::Refuse(a) => {
+                return Called {
+                    device: self,
+                    answer: a,
+                    count: 0,
+                };
+            }
+            Check::Pass => {}
         }
+        release_run(self, ctx, routes, log, outcomes, interface)
     }
 }

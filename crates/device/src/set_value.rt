@@ -50,7 +50,7 @@ fn settings_args(d: Device, c: Cells, value: u8) -> SettingsArgs
 }
 
 // The record without held settings.
-fn bare(d: Device) -> Device
+fn bare(mut d: Device) -> Device
     ensures { λ r. ⌜ r ≡ bare d ⌝ }
 {
     let none = Settings {
@@ -59,7 +59,8 @@ fn bare(d: Device) -> Device
         count: 0,
     };
     let left = endpoint::no_cells();
-    update::with_held(update::with_cells(d, left), none)
+    d = update::with_cells(d, left);
+    update::with_held(d, none)
 }
 
 // The value is the record's where the call is accepted.
@@ -75,21 +76,24 @@ fn configured(mut d: Device, a: Answer, value: u8) -> Device
 }
 
 // The record that the end of the course makes.
-fn set_record(d: Device, c: Cells, e: Ended, value: u8) -> Device
+fn set_record(mut d: Device, c: Cells, e: Ended, value: u8) -> Device
     requires { ⌜ c ≡ cellsIn d ⌝ }
     ensures { λ r. ⌜ ((ctx routes : List ℕ) → r ≡ setRecord d value (arrays.leaves e ctx routes [] .end)) ⌝ }
 {
     let answer = e.answer;
     if e.moved {
-        return update::marked(configured(bare(d), answer, value), answer);
+        d = bare(d);
+        d = configured(d, answer, value);
+        return update::marked(d, answer);
     }
     let left = endpoint::with_active(Owner::Any, e.active, c);
-    update::marked(update::with_cells(d, left), answer)
+    d = update::with_cells(d, left);
+    update::marked(d, answer)
 }
 
 // What is done where the checks have passed.
 fn set_run(
-    d: Device,
+    mut d: Device,
     ctx: &mut [u8],
     routes: &mut [u64],
     log: &mut [u32],
@@ -104,8 +108,9 @@ fn set_run(
     let list = d.list;
     let e = set_configuration::set_listed(ctx, routes, log, outcomes, a, list, d.list_len);
     let answer = e.answer;
+    d = set_record(d, c, e, value);
     Called {
-        device: set_record(d, c, e, value),
+        device: d,
         answer: answer,
         count: e.count,
     }
@@ -125,12 +130,15 @@ impl Device {
     {
         let check = self.record_check(ctx.len(), routes.len(), log.len());
         match check {
-            Check::Refuse(a) => Called {
-                device: self,
-                answer: a,
-                count: 0,
-            },
-            Check::Pass => set_run(self, ctx, routes, log, outcomes, value),
+            Check::Refuse(a) => {
+                return Called {
+                    device: self,
+                    answer: a,
+                    count: 0,
+                };
+            }
+            Check::Pass => {}
         }
+        set_run(self, ctx, routes, log, outcomes, value)
     }
 }

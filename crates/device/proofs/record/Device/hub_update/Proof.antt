@@ -40,9 +40,9 @@ hub-update-spec =
     (tie.spec
     hub-check-requires
     enum-known-check
+    returns
     enum-told
     hub-run-requires
-    returns
     same-length
     same-length-2
     returns-2)

@@ -43,9 +43,9 @@ release-spec =
     (tie.spec
     release-check-requires
     enum-known-check
+    returns
     enum-told
     release-run-requires
-    returns
     same-length
     same-length-2
     same-length-3

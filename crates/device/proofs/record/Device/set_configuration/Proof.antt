@@ -43,9 +43,9 @@ set-configuration-spec =
     (tie.spec
     record-check-requires
     enum-known-check
+    returns
     enum-told
     set-run-requires
-    returns
     same-length
     same-length-2
     same-length-3
