@@ -33,31 +33,6 @@ fn words_check(
 }
 
 // 8, 9, 10.
-fn setting_check(
-    list: &[u32],
-    interface: u8,
-    alternate: u8,
-    c: Cells,
-    rings: &[u64],
-    control: u64,
-    quarantined: &[u64],
-) -> Check
-    ensures { λ r. ⌜ r ≡ offerCheck (now (list .entry)) interface alternate c (now (rings .entry)) control (now (quarantined .entry)) ⌝ }
-{
-    let found = configuration::find_interface_endpoints(list, interface, alternate);
-    match found {
-        Found::Endpoints { start, count } => words_check(
-            &list[start..start + count],
-            interface,
-            c,
-            rings,
-            control,
-            quarantined,
-        ),
-        Found::NotFound => Check::Refuse(Answer::NotFound),
-    }
-}
-
 pub fn list_check(
     list: [u32; 256],
     n: usize,
@@ -72,25 +47,23 @@ pub fn list_check(
     requires { ⌜ (n ≤ 256) × (m ≤ 61) ⌝ }
     ensures { λ r. ⌜ r ≡ offerCheck (take n list) interface alternate c (now (rings .entry)) control (take m quarantined) ⌝ }
 {
-    setting_check(
-        &list[0..n],
-        interface,
-        alternate,
-        c,
-        rings,
-        control,
-        &quarantined[0..m],
-    )
+    let words = &list[0..n];
+    let kept = &quarantined[0..m];
+    let found = configuration::find_interface_endpoints(words, interface, alternate);
+    match found {
+        Found::Endpoints { start, count } => words_check(
+            &words[start..start + count],
+            interface,
+            c,
+            rings,
+            control,
+            kept,
+        ),
+        Found::NotFound => Check::Refuse(Answer::NotFound),
+    }
 }
 
 // The rings offered for a setting's words, by place.
-fn setting_rings(list: &[u32], interface: u8, alternate: u8, rings: &[u64]) -> [u64; 30]
-    ensures { λ r. ⌜ r ≡ pendingRings (settingWords (now (list .entry)) interface alternate) (now (rings .entry)) ⌝ }
-{
-    let words = settings::setting_words(list, interface, alternate);
-    endpoint::pending_rings(words, rings)
-}
-
 pub fn list_rings(
     list: [u32; 256],
     n: usize,
@@ -101,7 +74,8 @@ pub fn list_rings(
     requires { ⌜ n ≤ 256 ⌝ }
     ensures { λ r. ⌜ r ≡ pendingRings (settingWords (take n list) interface alternate) (now (rings .entry)) ⌝ }
 {
-    setting_rings(&list[0..n], interface, alternate, rings)
+    let words = settings::setting_words(&list[0..n], interface, alternate);
+    endpoint::pending_rings(words, rings)
 }
 
 // Whether an interface has an alternate 0.

@@ -50,31 +50,6 @@ pub fn counts_fit(words: usize, endpoints: usize, held: usize, quarantined: usiz
 }
 
 // The list, and beside it the held settings and the endpoints.
-fn listed_sound(
-    list: &[u32],
-    interfaces: [u8; 32],
-    alternates: [u8; 32],
-    held: usize,
-    eps: [Endpoint; 30],
-    owners: [u8; 30],
-    count: usize,
-) -> bool
-    requires { ⌜ (held ≤ 32) × (count ≤ 30) ⌝ }
-    ensures { λ r. ⌜ r ≡ soundLists (now (list .entry)) (heldIn held interfaces alternates) (addresses (take count eps)) (cellsOf count eps owners) ⌝ }
-{
-    if !configuration::valid_list(list) {
-        return false;
-    }
-    if !settings::settings_sound(list, interfaces, alternates, held) {
-        return false;
-    }
-    if !endpoint::addresses_fit(eps, count) {
-        return false;
-    }
-    let c = endpoint::cells_of(eps, owners, count);
-    settings::endpoints_match(list, interfaces, alternates, held, c)
-}
-
 pub fn lists_sound(
     list: [u32; 256],
     n: usize,
@@ -88,13 +63,16 @@ pub fn lists_sound(
     requires { ⌜ (n ≤ 256) × (held ≤ 32) × (count ≤ 30) ⌝ }
     ensures { λ r. ⌜ r ≡ soundLists (take n list) (heldIn held interfaces alternates) (addresses (take count eps)) (cellsOf count eps owners) ⌝ }
 {
-    listed_sound(
-        &list[0..n],
-        interfaces,
-        alternates,
-        held,
-        eps,
-        owners,
-        count,
-    )
+    let words = &list[0..n];
+    if !configuration::valid_list(words) {
+        return false;
+    }
+    if !settings::settings_sound(words, interfaces, alternates, held) {
+        return false;
+    }
+    if !endpoint::addresses_fit(eps, count) {
+        return false;
+    }
+    let c = endpoint::cells_of(eps, owners, count);
+    settings::endpoints_match(words, interfaces, alternates, held, c)
 }

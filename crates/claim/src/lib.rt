@@ -242,27 +242,8 @@ fn held_words<'a>(list: &'a [u32], held: bool, interface: u8, alternate: u8) -> 
     &list[0..0]
 }
 
-// The same where the words are those that lookup finds in a list.
-fn claim_interface(
-    ctx: &mut [u8],
-    routes: &mut [u64],
-    log: &mut [u32],
-    outcomes: &[u8],
-    a: ClaimArgs,
-    list: &[u32],
-) -> Ended
-    requires { ⌜ Room (a .spacing) (length (now ctx)) (a .old) (a .all) ⌝ }
-    requires { ⌜ a .pending .count ≤ 30 ⌝ }
-    requires { ⌜ 64 ≤ length (now log) ⌝ }
-    ensures { λ r. ⌜ leaves r (now (ctx .exit)) (now (routes .exit)) (now (log .exit)) ≡ played (now (outcomes .entry)) 0 (claimCourse (claimOf a (cond (a .held) (settingWords (now (list .entry)) (a .interface) (a .«old_alternate»)) []) (settingWords (now (list .entry)) (a .interface) (a .alternate))) (now (ctx .entry)) (now (routes .entry))) (now (log .entry)) ⌝ }
-{
-    let old_words = held_words(list, a.held, a.interface, a.old_alternate);
-    let new_words = settings::setting_words(list, a.interface, a.alternate);
-    run_claim(ctx, routes, log, outcomes, a, old_words, new_words)
-}
-
-// The same where the list is the first n words of an array.
-pub fn claim_listed(
+// The same where the words are those that lookup finds in a list, the first n words of an array.
+pub fn claim_interface(
     ctx: &mut [u8],
     routes: &mut [u64],
     log: &mut [u32],
@@ -276,5 +257,8 @@ pub fn claim_listed(
     requires { ⌜ (64 ≤ length (now log)) × (n ≤ 256) ⌝ }
     ensures { λ r. ⌜ leaves r (now (ctx .exit)) (now (routes .exit)) (now (log .exit)) ≡ played (now (outcomes .entry)) 0 (claimCourse (claimOf a (cond (a .held) (settingWords (take n list) (a .interface) (a .«old_alternate»)) []) (settingWords (take n list) (a .interface) (a .alternate))) (now (ctx .entry)) (now (routes .entry))) (now (log .entry)) ⌝ }
 {
-    claim_interface(ctx, routes, log, outcomes, a, &list[0..n])
+    let words = &list[0..n];
+    let old_words = held_words(words, a.held, a.interface, a.old_alternate);
+    let new_words = settings::setting_words(words, a.interface, a.alternate);
+    run_claim(ctx, routes, log, outcomes, a, old_words, new_words)
 }

@@ -176,7 +176,7 @@ fn claim_run(
     let pending = checks::list_rings(list, d.list_len, interface, alternate, rings);
     let a = claim_args(d, c, interface, alternate, pending);
     let q = a.pending;
-    let e = claim::claim_listed(ctx, routes, log, outcomes, a, list, d.list_len);
+    let e = claim::claim_interface(ctx, routes, log, outcomes, a, list, d.list_len);
     let answer = e.answer;
     d = claim_record(d, c, interface, alternate, pending, q, e);
     Called {

@@ -109,7 +109,7 @@ fn release_run(
     let c = cells::cells_in(d);
     let a = release_args(d, c, interface);
     let list = d.list;
-    let e = release::release_listed(ctx, routes, log, outcomes, a, list, d.list_len);
+    let e = release::release_interface(ctx, routes, log, outcomes, a, list, d.list_len);
     let answer = e.answer;
     d = release_record(d, c, e, interface);
     Called {

@@ -123,25 +123,8 @@ fn run_release(
     }
 }
 
-// The same where the words are those that lookup finds in a list, none where it does not find the setting.
-fn release_interface(
-    ctx: &mut [u8],
-    routes: &mut [u64],
-    log: &mut [u32],
-    outcomes: &[u8],
-    a: ReleaseArgs,
-    list: &[u32],
-) -> Ended
-    requires { ⌜ Room (a .spacing) (length (now ctx)) (a .old) (a .all) ⌝ }
-    requires { ⌜ 64 ≤ length (now log) ⌝ }
-    ensures { λ r. ⌜ leaves r (now (ctx .exit)) (now (routes .exit)) (now (log .exit)) ≡ played (now (outcomes .entry)) 0 (releaseCourse (releaseOf a (settingWords (now (list .entry)) (a .interface) (a .alternate))) (now (ctx .entry)) (now (routes .entry))) (now (log .entry)) ⌝ }
-{
-    let words = settings::setting_words(list, a.interface, a.alternate);
-    run_release(ctx, routes, log, outcomes, a, words)
-}
-
-// The same where the list is the first n words of an array.
-pub fn release_listed(
+// The same where the words are those that lookup finds in a list, the first n words of an array; none where it does not find the setting.
+pub fn release_interface(
     ctx: &mut [u8],
     routes: &mut [u64],
     log: &mut [u32],
@@ -154,5 +137,6 @@ pub fn release_listed(
     requires { ⌜ (64 ≤ length (now log)) × (n ≤ 256) ⌝ }
     ensures { λ r. ⌜ leaves r (now (ctx .exit)) (now (routes .exit)) (now (log .exit)) ≡ played (now (outcomes .entry)) 0 (releaseCourse (releaseOf a (settingWords (take n list) (a .interface) (a .alternate))) (now (ctx .entry)) (now (routes .entry))) (now (log .entry)) ⌝ }
 {
-    release_interface(ctx, routes, log, outcomes, a, &list[0..n])
+    let words = settings::setting_words(&list[0..n], a.interface, a.alternate);
+    run_release(ctx, routes, log, outcomes, a, words)
 }

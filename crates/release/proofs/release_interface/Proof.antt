@@ -1,4 +1,5 @@
 use mathlib.Core.Path.{_∙_}
+use native.Mathlib.Nat.{sub-zero}
 use borrow.Author.Needs.{needs}
 use Rattle.release.proofs.release_interface.Statement.{statement}
 use Rattle.release.proofs.release_interface.Tie as tie
@@ -6,6 +7,15 @@ use Rattle.release.proofs.release_interface.Reads as reads
 use Rattle.release.proofs.release_interface.Lts as lts
 use Rattle.release.proofs.run_release.Reads as run-release-reads
 use Rattle.settings.proofs.setting_words.Reads as setting-words-reads
+
+sub-setting-words : tie.Need-sub-setting-words
+sub-setting-words c = search needs
+
+part-setting-words-start : tie.Need-part-setting-words-start
+part-setting-words-start c = search needs
+
+part-setting-words-end : tie.Need-part-setting-words-end
+part-setting-words-end c = search needs
 
 setting-words-requires : tie.Need-setting-words-requires
 setting-words-requires c κs = search needs
@@ -23,12 +33,15 @@ same-length-3 : tie.Need-same-length-3
 same-length-3 c = search needs
 
 returns : tie.Need-returns
-returns c = c .before .before .before .before .before .before .run-release .ensures ∙ rw (c .before .before .before .before .before .before .before .before .before .before .setting-words .ensures)
+returns c = c .before .before .before .before .before .before .run-release .ensures ∙ rw (c .before .before .before .before .before .before .before .before .before .before .setting-words .ensures, sub-zero)
 
 pub release-interface-spec : {M : Type 1} → statement M
 release-interface-spec =
     tie.close
     (tie.spec
+    sub-setting-words
+    part-setting-words-start
+    part-setting-words-end
     setting-words-requires
     run-release-requires
     same-length

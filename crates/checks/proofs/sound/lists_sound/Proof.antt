@@ -1,29 +1,58 @@
 use native.Mathlib.Nat.{sub-zero}
 use borrow.Author.Needs.{needs}
+use borrow.Author.Tests.{not-true, not-false}
 use Rattle.checks.proofs.sound.lists_sound.Statement.{statement}
 use Rattle.checks.proofs.sound.lists_sound.Tie as tie
 
-sub-listed-sound : tie.Need-sub-listed-sound
-sub-listed-sound c = search needs
+sub-words : tie.Need-sub-words
+sub-words c = search needs
 
-part-listed-sound-start : tie.Need-part-listed-sound-start
-part-listed-sound-start c = search needs
+part-words-start : tie.Need-part-words-start
+part-words-start c = search needs
 
-part-listed-sound-end : tie.Need-part-listed-sound-end
-part-listed-sound-end c = search needs
+part-words-end : tie.Need-part-words-end
+part-words-end c = search needs
 
-listed-sound-requires : tie.Need-listed-sound-requires
-listed-sound-requires c κs = search needs
+valid-list-requires : tie.Need-valid-list-requires
+valid-list-requires c κs = search needs
 
 returns : tie.Need-returns
-returns c = rw (c .listed-sound .ensures, sub-zero)
+returns c = rw (← (rw sub-zero at (c .before .valid-list .ensures)), not-true (c .before .valid-list .result) (c .if1 .taken))
+
+settings-sound-requires : tie.Need-settings-sound-requires
+settings-sound-requires c κs = search needs
+
+returns-2 : tie.Need-returns-2
+returns-2 c = rw (← (rw sub-zero at (c .before .before .before .valid-list .ensures)), not-false (c .before .before .before .valid-list .result) (c .before .before .if1 .left), ← (rw sub-zero at (c .before .settings-sound .ensures)), not-true (c .before .settings-sound .result) (c .if2 .taken))
+
+addresses-fit-requires : tie.Need-addresses-fit-requires
+addresses-fit-requires c κs = search needs
+
+returns-3 : tie.Need-returns-3
+returns-3 c = rw (← (rw sub-zero at (c .before .before .before .before .before .valid-list .ensures)), not-false (c .before .before .before .before .before .valid-list .result) (c .before .before .before .before .if1 .left), ← (rw sub-zero at (c .before .before .before .settings-sound .ensures)), not-false (c .before .before .before .settings-sound .result) (c .before .before .if2 .left), ← c .before .addresses-fit .ensures, not-true (c .before .addresses-fit .result) (c .if3 .taken))
+
+cells-of-requires : tie.Need-cells-of-requires
+cells-of-requires c κs = search needs
+
+endpoints-match-requires : tie.Need-endpoints-match-requires
+endpoints-match-requires c κs = search needs
+
+returns-4 : tie.Need-returns-4
+returns-4 c = rw (← (rw sub-zero at (c .before .before .before .before .before .before .before .valid-list .ensures)), not-false (c .before .before .before .before .before .before .before .valid-list .result) (c .before .before .before .before .before .before .if1 .left), ← (rw sub-zero at (c .before .before .before .before .before .settings-sound .ensures)), not-false (c .before .before .before .before .before .settings-sound .result) (c .before .before .before .before .if2 .left), ← c .before .before .before .addresses-fit .ensures, not-false (c .before .before .before .addresses-fit .result) (c .before .before .if3 .left), rw sub-zero at (c .endpoints-match .ensures), c .before .cells-of .ensures)
 
 pub lists-sound-spec : {M : Type 1} → statement M
 lists-sound-spec =
     tie.close
     (tie.spec
-    sub-listed-sound
-    part-listed-sound-start
-    part-listed-sound-end
-    listed-sound-requires
-    returns)
+    sub-words
+    part-words-start
+    part-words-end
+    valid-list-requires
+    returns
+    settings-sound-requires
+    returns-2
+    addresses-fit-requires
+    returns-3
+    cells-of-requires
+    endpoints-match-requires
+    returns-4)

@@ -14,8 +14,8 @@ list-rings-requires c κs = claim-passed _ _ _ _ _ _ _ (c .before .before .befor
 claim-args-requires : tie.Need-claim-args-requires
 claim-args-requires c κs = claim-passed _ _ _ _ _ _ _ (c .before .before .before .before .before .before .before .before .pre) .counts
 
-claim-listed-requires : tie.Need-claim-listed-requires
-claim-listed-requires c κs = let f = claim-passed _ _ _ _ _ _ _ (c .before .before .before .before .before .before .before .before .before .before .before .before .before .pre) in (claim-room _ _ _ _ _ _ _ (c .before .before .before .before .claim-args .ensures) (f .spaced), (c .before .before .before .before .claim-args .ensures .pending .room, (f .room, f .list)))
+claim-interface-requires : tie.Need-claim-interface-requires
+claim-interface-requires c κs = let f = claim-passed _ _ _ _ _ _ _ (c .before .before .before .before .before .before .before .before .before .before .before .before .before .pre) in (claim-room _ _ _ _ _ _ _ (c .before .before .before .before .claim-args .ensures) (f .spaced), (c .before .before .before .before .claim-args .ensures .pending .room, (f .room, f .list)))
 
 claim-record-requires : tie.Need-claim-record-requires
 claim-record-requires c κs = let f = claim-passed _ _ _ _ _ _ _ (c .before .before .before .before .before .before .before .before .before .before .before .before .before .before .before .before .before .before .before .before .pre) in ((f .held, f .fits), (c .before .before .before .before .before .before .before .before .before .before .before .before .before .cells-in .ensures, f .free, c .before .before .before .before .before .before .before .before .before .before .before .claim-args .ensures .pending))
@@ -31,7 +31,7 @@ same-length-3 c = search needs
 
 returns : tie.Need-returns
 unfolding listOf pendingOf
-returns c = claim-left _ _ _ _ _ _ _ _ _ _ _ _ _ _ _ _ (c .before .before .before .before .before .before .before .before .before .before .before .before .before .before .cells-in .ensures) (c .before .before .before .before .before .before .before .before .before .before .before .before .before .list-rings .ensures) (c .before .before .before .before .before .before .before .before .before .before .before .before .claim-args .ensures) (c .before .before .before .before .before .before .before .claim-listed .ensures) (c .claim-record .ensures _ _ _ (c .before .before .before .before .before .before .before .before .before .before .before .before .before .list-rings .ensures))
+returns c = claim-left _ _ _ _ _ _ _ _ _ _ _ _ _ _ _ _ (c .before .before .before .before .before .before .before .before .before .before .before .before .before .before .cells-in .ensures) (c .before .before .before .before .before .before .before .before .before .before .before .before .before .list-rings .ensures) (c .before .before .before .before .before .before .before .before .before .before .before .before .claim-args .ensures) (c .before .before .before .before .before .before .before .claim-interface .ensures) (c .claim-record .ensures _ _ _ (c .before .before .before .before .before .before .before .before .before .before .before .before .before .list-rings .ensures))
 
 pub claim-run-spec : {M : Type 1} → statement M
-claim-run-spec = tie.close (tie.spec cells-in-requires list-rings-requires claim-args-requires claim-listed-requires claim-record-requires same-length same-length-2 same-length-3 returns)
+claim-run-spec = tie.close (tie.spec cells-in-requires list-rings-requires claim-args-requires claim-interface-requires claim-record-requires same-length same-length-2 same-length-3 returns)

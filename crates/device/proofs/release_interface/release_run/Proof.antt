@@ -14,8 +14,8 @@ cells-in-requires c κs = search needs
 release-args-requires : tie.Need-release-args-requires
 release-args-requires c κs = search needs
 
-release-listed-requires : tie.Need-release-listed-requires
-release-listed-requires c κs = let a = c .before .before .before .before .release-args .ensures in let p = c .before .before .before .before .before .before .before .before .before .before .pre in (rw (a .1) (room-as _ _ _ _ _ _ (p .1) (a .2) (a .3)), (p .2, count-facts _ (p .0) .list))
+release-interface-requires : tie.Need-release-interface-requires
+release-interface-requires c κs = let a = c .before .before .before .before .release-args .ensures in let p = c .before .before .before .before .before .before .before .before .before .before .pre in (rw (a .1) (room-as _ _ _ _ _ _ (p .1) (a .2) (a .3)), (p .2, count-facts _ (p .0) .list))
 
 release-record-requires : tie.Need-release-record-requires
 release-record-requires c κs = search needs
@@ -31,7 +31,7 @@ same-length-3 c = search needs
 
 returns : tie.Need-returns
 unfolding listOf
-returns c = ended-as (releaseRecord _ _) _ _ _ _ _ _ (c .before .before .before .before .before .before .before .release-listed .ensures ∙ rw (c .before .before .before .before .before .before .before .before .before .before .before .before .release-args .ensures .0)) (c .release-record .ensures _ _)
+returns c = ended-as (releaseRecord _ _) _ _ _ _ _ _ (c .before .before .before .before .before .before .before .release-interface .ensures ∙ rw (c .before .before .before .before .before .before .before .before .before .before .before .before .release-args .ensures .0)) (c .release-record .ensures _ _)
 
 pub release-run-spec : {M : Type 1} → statement M
 release-run-spec =
@@ -39,7 +39,7 @@ release-run-spec =
     (tie.spec
     cells-in-requires
     release-args-requires
-    release-listed-requires
+    release-interface-requires
     release-record-requires
     same-length
     same-length-2
