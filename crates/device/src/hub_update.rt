@@ -6,14 +6,9 @@ use answer::Check;
 use command::Command;
 use command::Sent;
 ghost use mathlib.Core.Path.{_≡_};
-ghost use mathlib.Core.List.{List};
-ghost use Prim.Native.Nat.{ℕ, _<_};
-ghost use lib.ListN.{length};
-ghost use Rattle.command.specs.Course.{played};
-ghost use Rattle.context.specs.Place.{Spaced};
 ghost use Rattle.device.specs.Left.{leaves, marked};
 ghost use Rattle.phase.specs.End.{answerOf};
-ghost use Rattle.device.specs.Calls.{hubContext, hubCourse, hubLeft, hubUpdate};
+ghost use Rattle.device.specs.Calls.{hubUpdate};
 
 impl Device {
     // The end of a call that is one command, by its outcome.
@@ -27,25 +22,6 @@ impl Device {
             answer: a,
             count: count,
         }
-    }
-
-    // What is done where the checks have passed.
-    fn hub_run(
-        self,
-        ctx: &mut [u8],
-        log: &mut [u32],
-        outcomes: &[u8],
-        ports: u8,
-        multi: bool,
-        ns: u32,
-    ) -> Called
-        requires { ⌜ Spaced (self .spacing) (length (now ctx)) × (0 < length (now log)) ⌝ }
-        ensures { λ r. ⌜ ((routes : List ℕ) → leaves r (now (ctx .exit)) routes (now (log .exit)) ≡ hubLeft self (hubContext self ports multi ns (now (ctx .entry))) routes (played (now (outcomes .entry)) 0 (hubCourse (hubContext self ports multi ns (now (ctx .entry)))) (now (log .entry)))) ⌝ }
-    {
-        let think = checks::think_value(ns);
-        change_context::hub_context(ctx, self.spacing, self.port_speed, ports, multi, think);
-        let s = command::send(log, outcomes, 0, Command::Evaluate);
-        self.hub_end(s, 1)
     }
 
     // One Evaluate with the hub's slot fields.
@@ -72,6 +48,9 @@ impl Device {
             }
             Check::Pass => {}
         }
-        self.hub_run(ctx, log, outcomes, ports, multi, ns)
+        let think = checks::think_value(ns);
+        change_context::hub_context(ctx, self.spacing, self.port_speed, ports, multi, think);
+        let s = command::send(log, outcomes, 0, Command::Evaluate);
+        self.hub_end(s, 1)
     }
 }
