@@ -1,12 +1,13 @@
 // What the checks of a record ask of its fields and arrays.
+mod held;
 mod lengths;
 mod offer;
 mod rings;
 mod sound;
 mod think;
 
+pub use held::held_check;
 pub use lengths::lengths_check;
-pub use offer::held_check;
 pub use offer::list_check;
 pub use offer::list_rings;
 pub use rings::quarantined_rings;

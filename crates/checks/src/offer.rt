@@ -1,16 +1,14 @@
-// What a claim and a release ask of the list, and a claim of the rings offered.
+// What a claim asks of a setting, and of the rings offered for its endpoint words.
 use answer::Answer;
 use answer::Check;
 use configuration::Found;
 use endpoint::Cells;
 ghost use mathlib.Core.Path.{_≡_};
-ghost use mathlib.Core.List.{List};
-ghost use Prim.Native.Nat.{ℕ, _≤_};
+ghost use Prim.Native.Nat.{_≤_};
 ghost use lib.ListN.{take};
-ghost use Rattle.configuration.specs.Lookup.{findEndpoints};
 ghost use Rattle.endpoint.specs.Cells.{pendingRings};
-ghost use Rattle.settings.specs.Held.{heldIn, isFound, settingWords};
-ghost use Rattle.checks.specs.Offer.{wordsCheck, offerCheck, heldCheck};
+ghost use Rattle.settings.specs.Held.{settingWords};
+ghost use Rattle.checks.specs.Offer.{wordsCheck, offerCheck};
 
 // 9, 10, of the words that lookup found.
 fn words_check(
@@ -76,36 +74,4 @@ pub fn list_rings(
 {
     let words = settings::setting_words(&list[0..n], interface, alternate);
     endpoint::pending_rings(words, rings)
-}
-
-// Whether an interface has an alternate 0.
-fn has_alternate(list: [u32; 256], n: usize, interface: u8) -> bool
-    requires { ⌜ n ≤ 256 ⌝ }
-    ensures { λ r. ⌜ r ≡ isFound (findEndpoints (take n list) interface 0) ⌝ }
-{
-    let found = configuration::find_interface_endpoints(&list[0..n], interface, 0);
-    match found {
-        Found::Endpoints { .. } => true,
-        Found::NotFound => false,
-    }
-}
-
-// 8, of an interface to be released.
-pub fn held_check(
-    list: [u32; 256],
-    n: usize,
-    interfaces: [u8; 32],
-    held: usize,
-    interface: u8,
-) -> Check
-    requires { ⌜ (n ≤ 256) × (held ≤ 32) ⌝ }
-    ensures { λ r. ⌜ ((alternates : List ℕ) → r ≡ heldCheck (take n list) (heldIn held interfaces alternates) interface) ⌝ }
-{
-    if settings::is_held(interfaces, held, interface) {
-        return Check::Pass;
-    }
-    if has_alternate(list, n, interface) {
-        return Check::Pass;
-    }
-    Check::Refuse(Answer::NotFound)
 }

@@ -1,5 +1,13 @@
-use mathlib.Core.Path.{_∙_}
+use Prim.Native.Nat.{ℕ}
+use mathlib.Core.Path.{_≡_, _∙_}
+use mathlib.Core.Bool.{cond}
+use mathlib.Core.List.{List, []}
 use native.Mathlib.Nat.{sub-zero}
+use Rattle.command.specs.Course.{Played, played}
+use Rattle.settings.specs.Held.{settingWords}
+use Rattle.phase.specs.End.{End}
+use Rattle.claim.specs.declared.ClaimArgs.{ClaimArgs}
+use Rattle.claim.specs.Claim.{claimOf, claimCourse}
 use borrow.Author.Needs.{needs}
 use Rattle.claim.proofs.claim_interface.Statement.{statement}
 use Rattle.claim.proofs.claim_interface.Tie as tie
@@ -36,8 +44,21 @@ same-length-2 c = search needs
 same-length-3 : tie.Need-same-length-3
 same-length-3 c = search needs
 
+-- the course on the words of a list
+listed :
+    (a : ClaimArgs) (list words old new o ctx routes log : List ℕ) (x : Played End) →
+    old ≡ cond (a .held) (settingWords words (a .interface) (a .«old_alternate»)) [] →
+    new ≡ settingWords words (a .interface) (a .alternate) →
+    x ≡ played o 0 (claimCourse (claimOf a old new) ctx routes) log → words ≡ list →
+    x
+    ≡ played o 0
+    (claimCourse (claimOf a (cond (a .held) (settingWords list (a .interface) (a .«old_alternate»)) [])
+    (settingWords list (a .interface) (a .alternate))) ctx routes)
+    log
+listed a list words old new o ctx routes log x p q e w = e ∙ rw (p, q, w)
+
 returns : tie.Need-returns
-returns c = c .before .before .before .before .before .before .run-claim .ensures ∙ rw (c .before .before .before .before .before .before .before .before .before .before .before .held-words .ensures, c .before .before .before .before .before .before .before .before .before .before .setting-words .ensures, sub-zero)
+returns c = listed _ _ _ _ _ _ _ _ _ _ (c .before .before .before .before .before .before .before .before .before .before .before .held-words .ensures) (c .before .before .before .before .before .before .before .before .before .before .setting-words .ensures) (c .before .before .before .before .before .before .run-claim .ensures) (rw sub-zero)
 
 pub claim-interface-spec : {M : Type 1} → statement M
 claim-interface-spec =

@@ -1,6 +1,6 @@
 use borrow.Author.Needs.{needs}
-use Rattle.checks.proofs.offer.held_check.Statement.{statement}
-use Rattle.checks.proofs.offer.held_check.Tie as tie
+use Rattle.checks.proofs.held.held_check.Statement.{statement}
+use Rattle.checks.proofs.held.held_check.Tie as tie
 
 is-held-requires : tie.Need-is-held-requires
 is-held-requires c κs = search needs

@@ -2,8 +2,8 @@ use Rattle.settings.specs.Held.{isFound}
 use native.Mathlib.Nat.{sub-zero}
 use mathlib.Core.Path.{ap, sym, _∙_}
 use borrow.Author.Needs.{needs}
-use Rattle.checks.proofs.offer.has_alternate.Statement.{statement}
-use Rattle.checks.proofs.offer.has_alternate.Tie as tie
+use Rattle.checks.proofs.held.has_alternate.Statement.{statement}
+use Rattle.checks.proofs.held.has_alternate.Tie as tie
 
 sub-find-interface-endpoints : tie.Need-sub-find-interface-endpoints
 sub-find-interface-endpoints c = search needs
