@@ -7,11 +7,12 @@ use native.Mathlib.Numerals.{add-one}
 use native.Mathlib.Omega.{arith}
 use borrow.Author.Tests.{le-leb}
 use lib.ListN.{length, getD, set, take, length-append, length-set}
-use lib.Seq.{set-append-seam, take-suc, take-suc-set, take-set-le, length-take-le}
+use lib.Seq.{take-suc, take-suc-set, take-set-le, length-take-le}
 use Rattle.laws.proofs.Distinct.{distinct}
 use Rattle.ring.specs.Rings.{ringsOk}
 use Rattle.endpoint.specs.declared.entry.Endpoint.{Endpoint}
 use Rattle.endpoint.specs.Endpoint.{blank, ringsOf, padded}
+use Rattle.endpoint.proofs.Laws.{padded-next}
 use Rattle.checks.specs.Rings.{ringsFit}
 
 pub rings-length : (es : List Endpoint) → length (ringsOf es) ≡ length es
@@ -107,15 +108,6 @@ pub fit-tested : (l rings : List ℕ) (n : ℕ) (fit : Bool) → length l ≡ n 
     fit ≡ (ringsOk (take n rings) && distinct (take n rings)) → ringsFit l ≡ fit
 fit-tested l rings n fit e t h f = rw (f, t, e, le-leb n 61 h)
 
--- one more ring at the end of an array
-padded-put :
-    (n : ℕ) (l : List ℕ) (a : ℕ) → length l < n → set (padded n 0 l) (length l) a ≡ padded n 0 (l ++ (a ∷ []))
-unfolding padded
-padded-put n l a h =
-    let m : n - length l ≡ suc (n - (length l + 1)) = omega arith in
-    let m′ : n - length (l ++ (a ∷ [])) ≡ n - (length l + 1) = simp length-append in
-    rw (m, m′, set-append-seam, append-assoc) refl
-
 -- The first i of some rings at the front of an array, zeros after them.
 pub record Filled (rings out : List ℕ) (i : ℕ) : Type 0 where
   pub full : length rings ≡ 30
@@ -126,13 +118,8 @@ pub record Filled (rings out : List ℕ) (i : ℕ) : Type 0 where
 pub fill-next : {rings out : List ℕ} {i : ℕ} → Filled rings out i → i < 30 → Filled rings (set out i (getD rings i 0)) (i + 1)
 fill-next {rings} {out} {i} f h =
     let l : length rings ≡ 30 = f .full in
-    let t : length (take i rings) ≡ i = length-take-le i rings (omega arith) in
-    let s : take (i + 1) rings ≡ take i rings ++ (getD rings i 0 ∷ []) = rw (add-one i) (take-suc rings i 0 (omega arith)) in
-    let p : set (padded 61 0 (take i rings)) (length (take i rings)) (getD rings i 0)
-    ≡ padded 61 0 (take i rings ++ (getD rings i 0 ∷ [])) =
-    padded-put 61 (take i rings) (getD rings i 0) (omega (arith, t)) in
     record {
       full = l;
       room = length-set out i (getD rings i 0) ∙ f .room;
-      written = rw (s, f .written, ← p, t);
+      written = rw (f .written) (padded-next 61 0 rings i (omega arith) (omega arith));
     }
