@@ -41,7 +41,7 @@ same-length-3 : tie.Need-same-length-3
 same-length-3 c = search needs
 
 returns-2 : tie.Need-returns-2
-returns-2 c = set-left _ _ _ _ (c .before .before .before .before .before .before .before .before .before .before .before .before .settings-args .ensures) _ _ _ _ _ _ _ (c .before .before .before .before .before .before .before .set-listed .result) (c .set-end .result) (c .before .before .before .before .before .before .before .before .before .before .before .before .before .before .before .before .record-check .ensures) (c .before .before .before .before .before .before .before .before .before .before .before .before .before .before .enum-told .given .1) (c .before .before .before .before .before .before .before .set-listed .ensures) (c .set-end .ensures _ _ _)
+returns-2 c = set-left (c .before .before .before .before .before .before .before .before .before .before .before .before .before .before .before .before .before .before .before .before .before .args .self) _ (c .before .before .before .before .before .before .before .before .before .before .before .before .before .before .before .before .before .before .before .before .before .args .value) _ (c .before .before .before .before .before .before .before .before .before .before .before .before .settings-args .ensures) (c .before .before .before .before .before .before .before .before .before .before .before .before .before .before .before .before .before .before .before .before .before .args .outcomes .now) (c .before .before .before .before .before .before .before .before .before .before .before .before .before .before .before .before .before .before .before .before .before .args .ctx .now) (c .before .before .before .before .before .before .before .before .before .before .before .before .before .before .before .before .before .before .before .before .before .args .routes .now) (c .before .before .before .before .before .before .before .before .before .before .before .before .before .before .before .before .before .before .before .before .before .args .log .now) _ _ _ (c .before .before .before .before .before .before .before .set-listed .result) (c .set-end .result) (c .before .before .before .before .before .before .before .before .before .before .before .before .before .before .before .before .record-check .ensures) (c .before .before .before .before .before .before .before .before .before .before .before .before .before .before .enum-told .given .1) (c .before .before .before .before .before .before .before .set-listed .ensures) (c .set-end .ensures _ _ _)
 
 pub set-configuration-spec : {M : Type 1} → statement M
 set-configuration-spec =
