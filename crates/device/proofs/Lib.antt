@@ -6,4 +6,5 @@ pub mod Kept
 pub mod Laws
 pub mod Made
 pub mod Marks
+pub mod SetConfiguration
 pub mod Updates

@@ -12,14 +12,11 @@ use set_configuration::SettingsArgs;
 use settings::Settings;
 ghost use mathlib.Core.Path.{_≡_};
 ghost use mathlib.Core.Bool.{true, cond};
-ghost use mathlib.Core.List.{List, []};
+ghost use mathlib.Core.List.{List};
 ghost use Prim.Native.Nat.{ℕ, _≤_};
-ghost use lib.ListN.{length};
-ghost use Rattle.command.specs.Course.{played};
-ghost use Rattle.context.specs.Place.{Spaced};
 ghost use Rattle.endpoint.specs.Cells.{QueuesAs};
 ghost use Rattle.phase.specs.Arrays as arrays;
-ghost use Rattle.set_configuration.specs.SetConfiguration.{settingsOf, setCourse};
+ghost use Rattle.set_configuration.specs.SetConfiguration.{settingsOf};
 ghost use Rattle.device.specs.Device.{listOf, cellsIn, withConfiguration};
 ghost use Rattle.answer.specs.Answer.{isAccepted};
 ghost use Rattle.device.specs.Left.{leaves, ended};
@@ -75,40 +72,25 @@ fn configured(mut d: Device, a: Answer, value: u8) -> Device
     d
 }
 
-// The record that the end of the course makes.
-fn set_record(mut d: Device, c: Cells, e: Ended, value: u8) -> Device
+// The end of the course makes the record, and what the call hands back.
+fn set_end(mut d: Device, c: Cells, e: Ended, value: u8) -> Called
     requires { ⌜ c ≡ cellsIn d ⌝ }
-    ensures { λ r. ⌜ ((ctx routes : List ℕ) → r ≡ setRecord d value (arrays.leaves e ctx routes [] .end)) ⌝ }
+    ensures { λ r. ⌜ ((ctx routes log : List ℕ) → leaves r ctx routes log ≡ ended (setRecord d value) (arrays.leaves e ctx routes log)) ⌝ }
 {
     let answer = e.answer;
     if e.moved {
         d = bare(d);
         d = configured(d, answer, value);
-        return update::marked(d, answer);
+        d = update::marked(d, answer);
+        return Called {
+            device: d,
+            answer: answer,
+            count: e.count,
+        };
     }
     let left = endpoint::with_active(Owner::Any, e.active, c);
     d = update::with_cells(d, left);
-    update::marked(d, answer)
-}
-
-// What is done where the checks have passed.
-fn set_run(
-    mut d: Device,
-    ctx: &mut [u8],
-    routes: &mut [u64],
-    log: &mut [u32],
-    outcomes: &[u8],
-    value: u8,
-) -> Called
-    requires { ⌜ (countsFit d ≡ true) × Spaced (d .spacing) (length (now ctx)) × (64 ≤ length (now log)) ⌝ }
-    ensures { λ r. ⌜ leaves r (now (ctx .exit)) (now (routes .exit)) (now (log .exit)) ≡ ended (setRecord d value) (played (now (outcomes .entry)) 0 (setCourse (settingsIn d value) (now (ctx .entry)) (now (routes .entry))) (now (log .entry))) ⌝ }
-{
-    let c = cells::cells_in(d);
-    let a = settings_args(d, c, value);
-    let list = d.list;
-    let e = set_configuration::set_listed(ctx, routes, log, outcomes, a, list, d.list_len);
-    let answer = e.answer;
-    d = set_record(d, c, e, value);
+    d = update::marked(d, answer);
     Called {
         device: d,
         answer: answer,
@@ -139,6 +121,18 @@ impl Device {
             }
             Check::Pass => {}
         }
-        set_run(self, ctx, routes, log, outcomes, value)
+        let c = cells::cells_in(self);
+        let args = settings_args(self, c, value);
+        let list = self.list;
+        let e = set_configuration::set_listed(
+            ctx,
+            routes,
+            log,
+            outcomes,
+            args,
+            list,
+            self.list_len,
+        );
+        set_end(self, c, e, value)
     }
 }

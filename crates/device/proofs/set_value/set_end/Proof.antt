@@ -1,7 +1,8 @@
 use Rattle.device.specs.SetConfiguration.{setRecord}
+use Rattle.device.specs.Left.{ended}
 use borrow.Author.Needs.{needs}
-use Rattle.device.proofs.set_value.set_record.Statement.{statement}
-use Rattle.device.proofs.set_value.set_record.Tie as tie
+use Rattle.device.proofs.set_value.set_end.Statement.{statement}
+use Rattle.device.proofs.set_value.set_end.Tie as tie
 
 bare-requires : tie.Need-bare-requires
 bare-requires c κs = search needs
@@ -13,8 +14,8 @@ marked-requires : tie.Need-marked-requires
 marked-requires c κs = search needs
 
 returns : tie.Need-returns
-unfolding setRecord
-returns c = λ ctx routes. rw (c .marked .ensures, c .before .configured .ensures, c .before .before .bare .ensures, c .before .before .before .if1 .taken)
+unfolding setRecord ended
+returns c = λ ctx routes log. rw (c .marked .ensures, c .before .configured .ensures, c .before .before .bare .ensures, c .before .before .before .if1 .taken)
 
 with-active-requires : tie.Need-with-active-requires
 with-active-requires c κs = search needs
@@ -26,11 +27,11 @@ marked-requires-2 : tie.Need-marked-requires-2
 marked-requires-2 c κs = search needs
 
 returns-2 : tie.Need-returns-2
-unfolding setRecord
-returns-2 c = λ ctx routes. rw (c .marked2 .ensures, c .before .with-cells .ensures, c .before .before .with-active .ensures, c .before .before .before .if1 .left, c .before .before .before .before .pre)
+unfolding setRecord ended
+returns-2 c = λ ctx routes log. rw (c .marked2 .ensures, c .before .with-cells .ensures, c .before .before .with-active .ensures, c .before .before .before .if1 .left, c .before .before .before .before .pre)
 
-pub set-record-spec : {M : Type 1} → statement M
-set-record-spec =
+pub set-end-spec : {M : Type 1} → statement M
+set-end-spec =
     tie.close
     (tie.spec
     bare-requires
