@@ -8,8 +8,6 @@ use lib.Dec.{eqb}
 use lib.ListN.{length, take, replicate}
 use lib.Seq.{take-append-seam}
 use Rattle.laws.proofs.Distinct.{elem, distinct}
-use Rattle.laws.proofs.Tests.{and-true}
-use Rattle.configuration.specs.Valid.{validList}
 use Rattle.configuration.proofs.Laws.{valid-length}
 use Rattle.ring.specs.Rings.{ringsOk}
 use Rattle.answer.specs.Answer.{number}

@@ -1,10 +1,8 @@
 // The contexts of the other Evaluates: the end of a set configuration, and a hub update.
 ghost use mathlib.Core.Path.{_≡_};
-ghost use mathlib.Core.List.{[], _∷_, _++_};
-ghost use Prim.Native.Nat.{ℕ, _+_, _*_, _≤_};
+ghost use Prim.Native.Nat.{ℕ, _+_, _≤_};
 ghost use lib.ListN.{length};
-ghost use Rattle.block.specs.Fields.{CONFIGURATION-VALUE};
-ghost use Rattle.block.specs.Setting.{_:=_, settled};
+ghost use Rattle.block.specs.Setting.{settled};
 ghost use Rattle.block.specs.Blocks.{changed, hubSettings};
 ghost use Rattle.context.specs.Place.{onPart, written, Spaced};
 ghost use Rattle.context.specs.Steps.{configurationWrites, hubWrites};

@@ -6,7 +6,7 @@ ghost use Prim.Native.Nat.{ℕ, _+_, _*_, _<_, _≤_, max};
 ghost use lib.ListN.{length, getD};
 ghost use Rattle.block.specs.Fields.{ADD-FLAG, INTERFACE-NUMBER, ALTERNATE-SETTING, CONTEXT-ENTRIES};
 ghost use Rattle.block.specs.Setting.{_:=_, settled};
-ghost use Rattle.block.specs.Blocks.{changed, dropFlags, endpointSettings, wordDci};
+ghost use Rattle.block.specs.Blocks.{changed, dropFlags, endpointSettings};
 ghost use Rattle.descriptor.specs.Word.{endpointDescriptor};
 ghost use Rattle.transfer.specs.Routes.{queues, ringFor};
 ghost use Rattle.context.specs.Place.{onPart, inBlock, CONTROL, SLOT, written, Spaced};

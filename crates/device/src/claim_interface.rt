@@ -210,24 +210,21 @@ impl Device {
             rings,
         );
         match check {
-            Check::Refuse(a) => {
-                return Called {
-                    device: self,
-                    answer: a,
-                    count: 0,
-                };
-            }
-            Check::Pass => {}
+            Check::Refuse(a) => Called {
+                device: self,
+                answer: a,
+                count: 0,
+            },
+            Check::Pass => claim_run(
+                self,
+                ctx,
+                routes,
+                log,
+                outcomes,
+                interface,
+                alternate,
+                rings,
+            ),
         }
-        claim_run(
-            self,
-            ctx,
-            routes,
-            log,
-            outcomes,
-            interface,
-            alternate,
-            rings,
-        )
     }
 }

@@ -1,8 +1,8 @@
 // The contexts of the two Configures: the endpoint words of all held settings dropped, or added again.
 use super::run::SettingsArgs;
 ghost use mathlib.Core.Path.{_≡_};
-ghost use mathlib.Core.List.{[], _∷_, _++_};
-ghost use Prim.Native.Nat.{ℕ, _+_, _*_, _<_, _≤_, max};
+ghost use mathlib.Core.List.{[], _∷_};
+ghost use Prim.Native.Nat.{ℕ, _+_, _<_, _≤_, max};
 ghost use lib.ListN.{length, take};
 ghost use Rattle.block.specs.Blocks.{dropFlags};
 ghost use Rattle.block.specs.Fields.{CONTEXT-ENTRIES};

@@ -7,7 +7,6 @@ use mathlib.Core.Logic.{inr}
 use native.Mathlib.Omega.{arith}
 use borrow.Author.Tests.{ne-eqb}
 use lib.ListN.{length}
-use Rattle.answer.specs.declared.Answer.the-variants as answer
 use Rattle.answer.specs.declared.Check.the-variants.{Pass}
 use Rattle.ring.proofs.Laws.{ring-nonzero}
 use Rattle.command.specs.declared.Sent.the-variants.{Done}

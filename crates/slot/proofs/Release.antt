@@ -18,7 +18,6 @@ use Rattle.command.specs.Course.{Course, ends, sends, words, result, played}
 use Rattle.command.proofs.Operations.{ByteOperands, EachCommand}
 use Rattle.block.specs.Promises.{someDci}
 use Rattle.context.specs.Place.{Spaced}
-use Rattle.transfer.specs.declared.Replaced.the-variants as replace
 use Rattle.transfer.specs.Routes.{replaced, withReplaced}
 use Rattle.endpoint.specs.Order.{PLACES, dciAt}
 use Rattle.endpoint.specs.Cells.{isOwned, ownedRings, queuesOf, claimedCells, withActive}

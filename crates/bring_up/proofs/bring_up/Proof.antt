@@ -2,13 +2,6 @@ use Rattle.bring_up.proofs.Steps.{refused-left, passed-left, course-roo
 use borrow.Author.Needs.{needs}
 use Rattle.bring_up.proofs.bring_up.Statement.{statement}
 use Rattle.bring_up.proofs.bring_up.Tie as tie
-use Rattle.bring_up.proofs.bring_up.Reads as reads
-use Rattle.bring_up.proofs.bring_up.Lts as lts
-use Rattle.bring_up.proofs.check.enter.Reads as enter-reads
-use Rattle.bring_up.proofs.record.brought.Reads as brought-reads
-use Rattle.bring_up.proofs.record.refuse.Reads as refuse-reads
-use Rattle.bring_up.proofs.spacing_of.Reads as spacing-of-reads
-use Rattle.init.proofs.address.Reads as address-reads
 
 spacing-of-requires : tie.Need-spacing-of-requires
 spacing-of-requires c κs = search needs

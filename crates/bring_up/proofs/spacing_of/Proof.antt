@@ -2,8 +2,6 @@ use Rattle.bring_up.specs.BringUp.{spacingOf}
 use borrow.Author.Tests.{eq-eqb, ne-eqb}
 use Rattle.bring_up.proofs.spacing_of.Statement.{statement}
 use Rattle.bring_up.proofs.spacing_of.Tie as tie
-use Rattle.bring_up.proofs.spacing_of.Reads as reads
-use Rattle.bring_up.proofs.spacing_of.Lts as lts
 
 returns : tie.Need-returns
 unfolding spacingOf

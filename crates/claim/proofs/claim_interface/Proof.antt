@@ -11,11 +11,6 @@ use Rattle.claim.specs.Claim.{claimOf, claimCourse}
 use borrow.Author.Needs.{needs}
 use Rattle.claim.proofs.claim_interface.Statement.{statement}
 use Rattle.claim.proofs.claim_interface.Tie as tie
-use Rattle.claim.proofs.claim_interface.Reads as reads
-use Rattle.claim.proofs.claim_interface.Lts as lts
-use Rattle.claim.proofs.held_words.Reads as held-words-reads
-use Rattle.claim.proofs.run_claim.Reads as run-claim-reads
-use Rattle.settings.proofs.setting_words.Reads as setting-words-reads
 
 sub-words : tie.Need-sub-words
 sub-words c = search needs

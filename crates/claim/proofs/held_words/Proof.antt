@@ -1,9 +1,6 @@
 use borrow.Author.Needs.{needs}
 use Rattle.claim.proofs.held_words.Statement.{statement}
 use Rattle.claim.proofs.held_words.Tie as tie
-use Rattle.claim.proofs.held_words.Reads as reads
-use Rattle.claim.proofs.held_words.Lts as lts
-use Rattle.settings.proofs.setting_words.Reads as setting-words-reads
 
 setting-words-requires : tie.Need-setting-words-requires
 setting-words-requires c κs = search needs

@@ -3,10 +3,6 @@ use native.Mathlib.Nat.{sub-zero}
 use borrow.Author.Needs.{needs}
 use Rattle.release.proofs.release_interface.Statement.{statement}
 use Rattle.release.proofs.release_interface.Tie as tie
-use Rattle.release.proofs.release_interface.Reads as reads
-use Rattle.release.proofs.release_interface.Lts as lts
-use Rattle.release.proofs.run_release.Reads as run-release-reads
-use Rattle.settings.proofs.setting_words.Reads as setting-words-reads
 
 sub-setting-words : tie.Need-sub-setting-words
 sub-setting-words c = search needs

@@ -1,8 +1,6 @@
 use borrow.Author.Tests.{eq-eqb, ne-eqb}
 use Rattle.bring_up.proofs.check.context_known.Statement.{statement}
 use Rattle.bring_up.proofs.check.context_known.Tie as tie
-use Rattle.bring_up.proofs.check.context_known.Reads as reads
-use Rattle.bring_up.proofs.check.context_known.Lts as lts
 
 returns : tie.Need-returns
 returns c = rw (eq-eqb _ _ (c .if1 .taken))

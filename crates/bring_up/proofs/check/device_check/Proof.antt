@@ -3,12 +3,6 @@ use borrow.Author.Tests.{not-true, not-false}
 use borrow.Author.Needs.{needs}
 use Rattle.bring_up.proofs.check.device_check.Statement.{statement}
 use Rattle.bring_up.proofs.check.device_check.Tie as tie
-use Rattle.bring_up.proofs.check.device_check.Reads as reads
-use Rattle.bring_up.proofs.check.device_check.Lts as lts
-use Rattle.ring.proofs.ring_ok.Reads as ring-ok-reads
-use Rattle.configuration.proofs.valid_list.Reads as valid-list-reads
-use Rattle.def.proofs.speed_known.Reads as speed-known-reads
-use Rattle.hub.proofs.chain_ok.Reads as chain-ok-reads
 
 speed-known-requires : tie.Need-speed-known-requires
 speed-known-requires c κs = search needs

@@ -4,10 +4,6 @@ use mathlib.Core.Path.{sym, _∙_}
 use borrow.Author.Needs.{needs}
 use Rattle.bring_up.proofs.check.early_check.Statement.{statement}
 use Rattle.bring_up.proofs.check.early_check.Tie as tie
-use Rattle.bring_up.proofs.check.early_check.Reads as reads
-use Rattle.bring_up.proofs.check.early_check.Lts as lts
-use Rattle.bring_up.proofs.check.device_check.Reads as device-check-reads
-use Rattle.bring_up.proofs.check.slot_check.Reads as slot-check-reads
 
 slot-check-requires : tie.Need-slot-check-requires
 slot-check-requires c κs = search needs

@@ -3,10 +3,6 @@ use Rattle.bring_up.proofs.Steps.{entered-not, entered}
 use borrow.Author.Needs.{needs}
 use Rattle.bring_up.proofs.check.enter.Statement.{statement}
 use Rattle.bring_up.proofs.check.enter.Tie as tie
-use Rattle.bring_up.proofs.check.enter.Reads as reads
-use Rattle.bring_up.proofs.check.enter.Lts as lts
-use Rattle.bring_up.proofs.check.early_check.Reads as early-check-reads
-use Rattle.bring_up.proofs.check.register.Reads as register-reads
 
 early-check-requires : tie.Need-early-check-requires
 early-check-requires c κs = search needs

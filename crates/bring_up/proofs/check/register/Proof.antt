@@ -4,9 +4,6 @@ use Rattle.bring_up.proofs.Steps.{queue-full, queue-free}
 use borrow.Author.Needs.{needs}
 use Rattle.bring_up.proofs.check.register.Statement.{statement}
 use Rattle.bring_up.proofs.check.register.Tie as tie
-use Rattle.bring_up.proofs.check.register.Reads as reads
-use Rattle.bring_up.proofs.check.register.Lts as lts
-use Rattle.transfer.proofs.register_queue.Reads as register-queue-reads
 
 register-queue-requires : tie.Need-register-queue-requires
 register-queue-requires c κs = search needs

@@ -3,9 +3,6 @@ use borrow.Author.Tests.{eq-eqb, ne-eqb, le-leb, lt-leb, not-true, not-false}
 use borrow.Author.Needs.{needs}
 use Rattle.bring_up.proofs.check.slot_check.Statement.{statement}
 use Rattle.bring_up.proofs.check.slot_check.Tie as tie
-use Rattle.bring_up.proofs.check.slot_check.Reads as reads
-use Rattle.bring_up.proofs.check.slot_check.Lts as lts
-use Rattle.bring_up.proofs.check.context_known.Reads as context-known-reads
 
 cast-slot : tie.Need-cast-slot
 cast-slot c = search needs

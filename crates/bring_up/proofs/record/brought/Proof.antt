@@ -2,9 +2,6 @@ use Rattle.bring_up.specs.BringUp.{broughtLeft}
 use borrow.Author.Needs.{needs}
 use Rattle.bring_up.proofs.record.brought.Statement.{statement}
 use Rattle.bring_up.proofs.record.brought.Tie as tie
-use Rattle.bring_up.proofs.record.brought.Reads as reads
-use Rattle.bring_up.proofs.record.brought.Lts as lts
-use Rattle.bring_up.proofs.record.brought_device.Reads as brought-device-reads
 
 brought-device-requires : tie.Need-brought-device-requires
 brought-device-requires c κs = search needs

@@ -3,12 +3,6 @@ use lib.Seq.{length-take-le}
 use borrow.Author.Needs.{needs}
 use Rattle.bring_up.proofs.record.brought_device.Statement.{statement}
 use Rattle.bring_up.proofs.record.brought_device.Tie as tie
-use Rattle.bring_up.proofs.record.brought_device.Reads as reads
-use Rattle.bring_up.proofs.record.brought_device.Lts as lts
-use Rattle.init.proofs.count_words.Reads as count-words-reads
-use Rattle.bring_up.proofs.record.first_words.Reads as first-words-reads
-use Rattle.answer.proofs.answer_number.Reads as answer-number-reads
-use Rattle.bring_up.proofs.record.no_device.Reads as no-device-reads
 
 count-words-requires : tie.Need-count-words-requires
 count-words-requires c κs = search needs

@@ -7,8 +7,6 @@ use mathlib.Core.Path.{_≡_}
 use Prim.Native.Nat.{_≤_, _-_}
 use Rattle.bring_up.proofs.record.first_words.Statement.{statement}
 use Rattle.bring_up.proofs.record.first_words.Tie as tie
-use Rattle.bring_up.proofs.record.first_words.Reads as reads
-use Rattle.bring_up.proofs.record.first_words.Lts as lts
 
 abbrev Inv-loop : tie.InvT-loop
 Inv-loop list n words₀ i₀ words i = (i ≤ n) × (words ≡ padded 256 0 (take i list))

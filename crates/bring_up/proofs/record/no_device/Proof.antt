@@ -2,8 +2,6 @@ use borrow.Author.Needs.{needs}
 use Rattle.bring_up.specs.BringUp.{noDevice}
 use Rattle.bring_up.proofs.record.no_device.Statement.{statement}
 use Rattle.bring_up.proofs.record.no_device.Tie as tie
-use Rattle.bring_up.proofs.record.no_device.Reads as reads
-use Rattle.bring_up.proofs.record.no_device.Lts as lts
 
 returns : tie.Need-returns
 unfolding noDevice

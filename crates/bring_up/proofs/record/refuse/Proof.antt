@@ -1,9 +1,6 @@
 use borrow.Author.Needs.{needs}
 use Rattle.bring_up.proofs.record.refuse.Statement.{statement}
 use Rattle.bring_up.proofs.record.refuse.Tie as tie
-use Rattle.bring_up.proofs.record.refuse.Reads as reads
-use Rattle.bring_up.proofs.record.refuse.Lts as lts
-use Rattle.bring_up.proofs.record.no_device.Reads as no-device-reads
 
 no-device-requires : tie.Need-no-device-requires
 no-device-requires c κs = search needs

@@ -1,6 +1,5 @@
-use mathlib.Core.Path.{_∙_}
 use borrow.Author.Needs.{needs}
-use borrow.Author.Tests.{le-leb, lt-leb, not-true, not-false}
+use borrow.Author.Tests.{lt-leb, not-true, not-false}
 use Rattle.checks.proofs.Steps.{fit-tested}
 use Rattle.checks.proofs.rings.rings_sound.Statement.{statement}
 use Rattle.checks.proofs.rings.rings_sound.Tie as tie

@@ -4,9 +4,6 @@ use Rattle.device.proofs.Marks.{marked-lost, marked-kept}
 use borrow.Author.Needs.{needs}
 use Rattle.device.proofs.update.marked.Statement.{statement}
 use Rattle.device.proofs.update.marked.Tie as tie
-use Rattle.device.proofs.update.marked.Reads as reads
-use Rattle.device.proofs.update.marked.Lts as lts
-use Rattle.answer.proofs.answer_number.Reads as answer-number-reads
 
 answer-number-requires : tie.Need-answer-number-requires
 answer-number-requires c κs = search needs

@@ -2,9 +2,6 @@ use Rattle.device.specs.Device.{withCells}
 use borrow.Author.Needs.{needs}
 use Rattle.device.proofs.update.with_cells.Statement.{statement}
 use Rattle.device.proofs.update.with_cells.Tie as tie
-use Rattle.device.proofs.update.with_cells.Reads as reads
-use Rattle.device.proofs.update.with_cells.Lts as lts
-use Rattle.endpoint.proofs.endpoints_of.Reads as endpoints-of-reads
 
 endpoints-of-requires : tie.Need-endpoints-of-requires
 endpoints-of-requires c κs = search needs

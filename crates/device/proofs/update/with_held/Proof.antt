@@ -1,8 +1,6 @@
 use Rattle.device.specs.Device.{withHeld}
 use Rattle.device.proofs.update.with_held.Statement.{statement}
 use Rattle.device.proofs.update.with_held.Tie as tie
-use Rattle.device.proofs.update.with_held.Reads as reads
-use Rattle.device.proofs.update.with_held.Lts as lts
 
 returns : tie.Need-returns
 unfolding withHeld

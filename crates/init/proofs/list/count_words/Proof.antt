@@ -8,9 +8,6 @@ use lib.ListN.{length}
 use Prim.Native.Nat.{_-_, _+_}
 use Rattle.init.proofs.list.count_words.Statement.{statement}
 use Rattle.init.proofs.list.count_words.Tie as tie
-use Rattle.init.proofs.list.count_words.Reads as reads
-use Rattle.init.proofs.list.count_words.Lts as lts
-use Rattle.descriptor.proofs.word_kind.Reads as word-kind-reads
 
 abbrev Inv-loop : tie.InvT-loop
 Inv-loop list k left₀ i₀ left i = Counted list k left i

@@ -2,9 +2,6 @@ use Rattle.init.proofs.Lists.{value-none}
 use borrow.Author.Needs.{needs}
 use Rattle.init.proofs.list.first_value.Statement.{statement}
 use Rattle.init.proofs.list.first_value.Tie as tie
-use Rattle.init.proofs.list.first_value.Reads as reads
-use Rattle.init.proofs.list.first_value.Lts as lts
-use Rattle.descriptor.proofs.configuration_value.Reads as configuration-value-reads
 
 returns : tie.Need-returns
 returns c = value-none (c .before .before .args .list .now) (c .if1 .taken)

@@ -4,14 +4,6 @@ use native.Mathlib.Omega.{arith}
 use borrow.Author.Needs.{needs}
 use Rattle.init.proofs.run.address.Statement.{statement}
 use Rattle.init.proofs.run.address.Tie as tie
-use Rattle.init.proofs.run.address.Reads as reads
-use Rattle.init.proofs.run.address.Lts as lts
-use Rattle.address_context.proofs.address_context.Reads as address-context-reads
-use Rattle.init.proofs.run.before_reading.Reads as before-reading-reads
-use Rattle.init.proofs.run.read_header.Reads as header-reads
-use Rattle.command.proofs.send.Reads as send-reads
-use Rattle.hub.proofs.route_string.Reads as route-string-reads
-use Rattle.hub.proofs.transaction_translator.Reads as transaction-translator-reads
 
 route-string-requires : tie.Need-route-string-requires
 route-string-requires c κs = search needs

@@ -3,9 +3,6 @@ use mathlib.Core.Path.{refl}
 use borrow.Author.Needs.{needs}
 use Rattle.init.proofs.run.first_settings.Statement.{statement}
 use Rattle.init.proofs.run.first_settings.Tie as tie
-use Rattle.init.proofs.run.first_settings.Reads as reads
-use Rattle.init.proofs.run.first_settings.Lts as lts
-use Rattle.phase.proofs.no_queues.Reads as no-queues-reads
 
 no-queues-requires : tie.Need-no-queues-requires
 no-queues-requires c κs = search needs

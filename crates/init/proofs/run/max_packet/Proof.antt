@@ -4,12 +4,6 @@ use native.Mathlib.Omega.{arith}
 use borrow.Author.Needs.{needs}
 use Rattle.init.proofs.run.max_packet.Statement.{statement}
 use Rattle.init.proofs.run.max_packet.Tie as tie
-use Rattle.init.proofs.run.max_packet.Reads as reads
-use Rattle.init.proofs.run.max_packet.Lts as lts
-use Rattle.address_context.proofs.setup_max_packet.Reads as setup-max-packet-reads
-use Rattle.init.proofs.run.before_reading.Reads as before-reading-reads
-use Rattle.init.proofs.run.read_configuration.Reads as configuration-reads
-use Rattle.command.proofs.send.Reads as send-reads
 
 setup-max-packet-requires : tie.Need-setup-max-packet-requires
 setup-max-packet-requires c κs = search needs

@@ -13,12 +13,6 @@ use Prim.Native.Nat.{ℕ, _≤_, _-_, _+_}
 use native.Mathlib.Omega.{arith}
 use Rattle.init.proofs.run.read_configs.Statement.{statement}
 use Rattle.init.proofs.run.read_configs.Tie as tie
-use Rattle.init.proofs.run.read_configs.Reads as reads
-use Rattle.init.proofs.run.read_configs.Lts as lts
-use Rattle.configuration.proofs.count_configurations.Reads as count-configurations-reads
-use Rattle.init.proofs.run.after_reading.Reads as after-reading-reads
-use Rattle.init.proofs.run.set_first.Reads as set-first-reads
-use Rattle.command.proofs.send.Reads as send-reads
 
 abbrev Inv-loop : tie.InvT-loop
 Inv-loop ctx routes log₀ outcomes a spacing list all i₀ log i = (i ≤ all) × (all ≤ 8) × (length log ≡ length log₀) × ((hubs : List ℕ) → played outcomes 5 (bringUpConfigs (bringUpOf a hubs list) spacing all 0 ctx routes) log₀ ≡ played outcomes (5 + i) (bringUpConfigs (bringUpOf a hubs list) spacing (all - i) i ctx routes) log)

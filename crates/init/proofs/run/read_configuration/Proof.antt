@@ -4,11 +4,6 @@ use native.Mathlib.Omega.{arith}
 use borrow.Author.Needs.{needs}
 use Rattle.init.proofs.run.read_configuration.Statement.{statement}
 use Rattle.init.proofs.run.read_configuration.Tie as tie
-use Rattle.init.proofs.run.read_configuration.Reads as reads
-use Rattle.init.proofs.run.read_configuration.Lts as lts
-use Rattle.init.proofs.run.before_reading.Reads as before-reading-reads
-use Rattle.init.proofs.run.read_device.Reads as device-reads
-use Rattle.command.proofs.send.Reads as send-reads
 
 send-requires : tie.Need-send-requires
 send-requires c κs = search needs

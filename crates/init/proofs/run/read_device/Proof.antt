@@ -5,11 +5,6 @@ use borrow.Author.Tests.{eq-eqb, ne-eqb}
 use borrow.Author.Needs.{needs}
 use Rattle.init.proofs.run.read_device.Statement.{statement}
 use Rattle.init.proofs.run.read_device.Tie as tie
-use Rattle.init.proofs.run.read_device.Reads as reads
-use Rattle.init.proofs.run.read_device.Lts as lts
-use Rattle.init.proofs.run.after_reading.Reads as after-reading-reads
-use Rattle.init.proofs.run.read_configs.Reads as configurations-reads
-use Rattle.command.proofs.send.Reads as send-reads
 
 send-requires : tie.Need-send-requires
 send-requires c κs = search needs

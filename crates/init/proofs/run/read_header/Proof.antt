@@ -5,11 +5,6 @@ use borrow.Author.Tests.{eq-eqb, ne-eqb}
 use borrow.Author.Needs.{needs}
 use Rattle.init.proofs.run.read_header.Statement.{statement}
 use Rattle.init.proofs.run.read_header.Tie as tie
-use Rattle.init.proofs.run.read_header.Reads as reads
-use Rattle.init.proofs.run.read_header.Lts as lts
-use Rattle.init.proofs.run.before_reading.Reads as before-reading-reads
-use Rattle.init.proofs.run.max_packet.Reads as packet-reads
-use Rattle.command.proofs.send.Reads as send-reads
 
 send-requires : tie.Need-send-requires
 send-requires c κs = search needs

@@ -8,14 +8,6 @@ use native.Mathlib.Omega.{arith}
 use borrow.Author.Needs.{needs}
 use Rattle.init.proofs.run.set_first.Statement.{statement}
 use Rattle.init.proofs.run.set_first.Tie as tie
-use Rattle.init.proofs.run.set_first.Reads as reads
-use Rattle.init.proofs.run.set_first.Lts as lts
-use Rattle.configuration.proofs.count_configurations.Reads as count-configurations-reads
-use Rattle.init.proofs.list.first_value.Reads as first-value-reads
-use Rattle.init.proofs.run.after_reading.Reads as after-reading-reads
-use Rattle.init.proofs.run.first_settings.Reads as first-settings-reads
-use Rattle.init.proofs.run.value_after.Reads as value-after-reads
-use Rattle.set_configuration.proofs.run_set_configuration.Reads as run-set-configuration-reads
 
 first-value-requires : tie.Need-first-value-requires
 first-value-requires c κs = search needs

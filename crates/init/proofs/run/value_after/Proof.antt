@@ -2,9 +2,6 @@ use borrow.Author.Tests.{eq-eqb, ne-eqb}
 use borrow.Author.Needs.{needs}
 use Rattle.init.proofs.run.value_after.Statement.{statement}
 use Rattle.init.proofs.run.value_after.Tie as tie
-use Rattle.init.proofs.run.value_after.Reads as reads
-use Rattle.init.proofs.run.value_after.Lts as lts
-use Rattle.answer.proofs.answer_number.Reads as answer-number-reads
 
 answer-number-requires : tie.Need-answer-number-requires
 answer-number-requires c κs = search needs

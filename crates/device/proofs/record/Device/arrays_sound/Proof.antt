@@ -1,4 +1,3 @@
-use borrow.Author.Needs.{needs}
 use borrow.Author.Tests.{not-true, not-false}
 use Rattle.device.specs.Device.{listOf, cellsIn, heldOf, quarantinedOf}
 use Rattle.device.specs.Sound.{listsSound, allRings, ringsSound}

@@ -36,4 +36,4 @@ unfolding claim onCheck
 returns-2 c = c .before .before .before .before .before .before .claim-run .ensures ∙ sym (rw (← c .before .before .before .before .before .before .before .before .before .before .before .before .claim-check .ensures, c .before .before .before .before .before .before .before .before .before .before .enum-told .given .1))
 
 pub claim-spec : {M : Type 1} → statement M
-claim-spec = tie.close (tie.spec claim-check-requires enum-known-check returns enum-told claim-run-requires same-length same-length-2 same-length-3 returns-2)
+claim-spec = tie.close (tie.spec claim-check-requires enum-known-check enum-told claim-run-requires returns same-length same-length-2 same-length-3 returns-2)

@@ -1,10 +1,6 @@
 use borrow.Author.Needs.{needs}
 use Rattle.device.proofs.record.Device.hub_end.Statement.{statement}
 use Rattle.device.proofs.record.Device.hub_end.Tie as tie
-use Rattle.device.proofs.record.Device.hub_end.Reads as reads
-use Rattle.device.proofs.record.Device.hub_end.Lts as lts
-use Rattle.device.proofs.update.marked.Reads as marked-reads
-use Rattle.phase.proofs.answer_of.Reads as answer-of-reads
 
 answer-of-requires : tie.Need-answer-of-requires
 answer-of-requires c κs = search needs
