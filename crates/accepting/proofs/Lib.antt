@@ -1,3 +1,4 @@
 pub mod Accepting
 pub mod Back
+pub mod BringUp
 pub mod Runs

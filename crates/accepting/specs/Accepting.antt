@@ -25,6 +25,8 @@ use Rattle.device.specs.Claim.{claimCheck, claim}
 use Rattle.device.specs.Release.{releaseCheck, release}
 use Rattle.device.specs.SetConfiguration.{setConfiguration}
 use Rattle.device.proofs.Updates.{Same}
+use Rattle.init.specs.Reading.{BringUp}
+use Rattle.bring_up.specs.BringUp.{bringUpCheck, bringUp}
 
 -- A record and a table agree: the slot's routes are those of the record's endpoints.
 abbrev pub Routed : Device → List ℕ → Type 0
@@ -55,6 +57,25 @@ pub record Accepted (d : Device) (l : Left) : Type 0 where
   pub is-sound : sound (l .device) ≡ true
   pub table : length (l .routes) ≡ 32 * (l .device .n + 1)
   pub routed : Routed (l .device) (l .routes)
+
+-- A bring-up: the record is that of the slot and of the list that were asked for, it holds no setting, and control's ring is routed.
+pub record BroughtUp (a : BringUp) (l : Left) : Type 0 where
+  pub accepted : Accepted (l .device) l
+  pub slot : l .device .slot .0 ≡ a .slot
+  pub list : listOf (l .device) ≡ a .list
+  pub held : heldOf (l .device) ≡ []
+  pub control : l .device .control ≡ a .ring
+  pub route : routeOf (l .routes) (a .slot) 1 ≡ a .ring
+
+-- Its checks pass, the header has its eight bytes, and the slot has no routes yet.
+abbrev pub BringUpAccepted : Type 0
+BringUpAccepted =
+    (a : BringUp) (ctx routes log outcomes : List ℕ) →
+    bringUpCheck a (length ctx) routes (length log) ≡ Pass →
+    a .header ≡ 8 →
+    ((d : ℕ) → 2 ≤ d → d < 32 → routeOf routes (a .slot) d ≡ 0) →
+    AllDone outcomes 64 →
+    BroughtUp a (bringUp a ctx routes log outcomes)
 
 -- A claim: each endpoint word's Dci is routed to the ring offered for it; of several words of a Dci, the last counts.
 pub record Claimed (d : Device) (interface alternate : ℕ) (rings : List ℕ) (l : Left) : Type 0 where

@@ -8,6 +8,7 @@ mod Hub
 mod Made
 pub mod Outside
 mod Release
+pub mod Returned
 mod SetConfiguration
 pub mod Settings
 pub mod Step

@@ -3,6 +3,7 @@ use Prim.Native.Nat.{ℕ, _<_, _≤_}
 use mathlib.Core.Path.{_≡_}
 use mathlib.Core.Bool.{true, false}
 use mathlib.Core.List.{List, [], _∷_}
+use mathlib.Core.Logic.{_⊎_}
 use lib.ListN.{length, getD, take}
 use Rattle.answer.specs.declared.Answer.the-variants as answer
 use Rattle.answer.specs.declared.Check.the-variants.{Pass}
@@ -15,6 +16,7 @@ use Rattle.settings.specs.Held.{settingWords}
 use Rattle.init.specs.Reading.{BringUp}
 use Rattle.bring_up.specs.BringUp.{bringUp}
 use Rattle.device.specs.declared.record.Device.{Device}
+use Rattle.device.specs.Device.{quarantinedOf}
 use Rattle.device.specs.Left.{Left}
 use Rattle.device.specs.Sound.{sound}
 use Rattle.device.specs.Check.{recordCheck}
@@ -119,3 +121,14 @@ OutsideUntouched =
 -- Every call logs at most 64 words, so that the shortest log has room for them.
 abbrev pub FewWords : Type 0
 FewWords = (c : Call) (d : Device) (routes : List ℕ) → (left (c .asked) (c .buffers) d routes) .count ≤ 64
+
+-- Every call returns the record that it got, or one that is unusable, or a sound one,
+abbrev pub SoundReturned : Type 0
+SoundReturned =
+    (c : Call) (d : Device) (routes : List ℕ) →
+    let e = (left (c .asked) (c .buffers) d routes) .device in
+    (e ≡ d) ⊎ ((e .usable ≡ false) ⊎ (sound e ≡ true))
+
+-- and a sound record that is usable has no quarantined ring.
+abbrev pub NoneQuarantined : Type 0
+NoneQuarantined = (d : Device) → d .usable ≡ true → sound d ≡ true → quarantinedOf d ≡ []
