@@ -1,11 +1,10 @@
 -- The statement of specs/Accepting.antt for a bring-up.
-use Prim.Native.Nat.{ℕ, _+_, _<_, _≤_}
+use Prim.Native.Nat.{ℕ, _<_, _≤_}
 use mathlib.Core.Path.{_≡_, sym, _∙_}
 use mathlib.Core.List.{List}
 use native.Mathlib.Omega.{arith}
-use lib.ListN.{length, getD, length-set, getD-replicate}
+use lib.ListN.{length, length-set, getD-replicate}
 use Rattle.answer.specs.declared.Answer.the-variants as answer
-use Rattle.answer.specs.declared.Check.the-variants.{Pass}
 use Rattle.transfer.specs.Routes.{routeOf, routeIndex, withRoute}
 use Rattle.configuration.proofs.Laws.{valid-configurations}
 use Rattle.endpoint.specs.Cells.{noCells}
@@ -13,7 +12,7 @@ use Rattle.endpoint.proofs.Laws.{dci-low, dci-high}
 use Rattle.device.specs.Left.{Left}
 use Rattle.device.proofs.Updates.{same-self}
 use Rattle.init.specs.Reading.{BringUp}
-use Rattle.bring_up.specs.BringUp.{queueCheck, bringUpCheck, bringUp}
+use Rattle.bring_up.specs.BringUp.{queueCheck, bringUpCheck}
 use Rattle.bring_up.proofs.Checks.{passed}
 use Rattle.bring_up.proofs.Laws.{BroughtUp as Brought, bring-up-done, bring-up-accepted, brought-control, brought-others}
 use Rattle.accepting.specs.Accepting.{Accepted, BroughtUp, BringUpAccepted}

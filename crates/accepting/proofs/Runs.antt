@@ -1,6 +1,6 @@
 -- What the calls leave where their checks pass and every outcome is done.
 use Prim.Native.Nat.{ℕ, _+_, _<_}
-use mathlib.Core.Path.{_≡_, refl, sym, ap, _∙_}
+use mathlib.Core.Path.{_≡_, refl, sym, _∙_}
 use mathlib.Core.Bool.{false, not}
 use mathlib.Core.List.{List, []}
 use native.Mathlib.Nat.{zero-add}
@@ -13,12 +13,11 @@ use Rattle.answer.specs.declared.Answer.the-variants as answer
 use Rattle.answer.specs.declared.Check.{Check}
 use Rattle.answer.specs.declared.Check.the-variants.{Pass}
 use Rattle.answer.specs.Answer.{number, isLost}
-use Rattle.command.specs.declared.Command.{Command}
-use Rattle.command.specs.declared.Sent.{Sent}
 use Rattle.command.specs.declared.Sent.the-variants as sent
 use Rattle.command.specs.Command.{outcomeAt}
-use Rattle.command.specs.Course.{Course, sends, onSent, words, result, played}
+use Rattle.command.specs.Course.{Course, onSent, words, result, played}
 use Rattle.command.specs.Sweep.{stopAll}
+use Rattle.command.proofs.Done.{outcome-done, result-sends, stop-all-done}
 use Rattle.command.proofs.Laws.{result-then}
 use Rattle.command.proofs.Sweeps.{stop-done}
 use Rattle.transfer.specs.declared.Replaced.the-variants as replace
@@ -36,10 +35,10 @@ use Rattle.routing.proofs.Laws.{claim-routed, release-routed, bare-routed, no-q
 use Rattle.phase.specs.End.{End, moves}
 use Rattle.phase.proofs.Laws.{length-dcis}
 use Rattle.claim.specs.Claim.{claimCourse, claimContext}
-use Rattle.claim.proofs.Laws.{outcome-done, claim-accepted}
+use Rattle.claim.proofs.Laws.{claim-accepted}
 use Rattle.release.specs.Release.{Release, releaseCourse, releaseContext, releaseConfigure, releasePublish, releasePublished}
 use Rattle.set_configuration.specs.SetConfiguration.{setCourse, valueContext, dropContext}
-use Rattle.set_configuration.proofs.Laws.{stop-all-done, set-accepted}
+use Rattle.set_configuration.proofs.Laws.{set-accepted}
 use Rattle.device.specs.declared.record.Device.{Device}
 use Rattle.device.specs.Device.{listOf, cellsIn, heldOf}
 use Rattle.device.specs.Left.{Left, ended}
@@ -121,16 +120,9 @@ module _ (d : Device) (ctx routes log o : List ℕ) (i a : ℕ) (rings : List �
       ran d routes (withSetting i a (heldOf d)) (claimedCells i pending (cellsIn d)) old pending (claimRecord d i a rings) _ o log
       (claimContext (claimIn d i a rings) ctx) (claimCourse (claimIn d i a rings) ctx routes) _ (g .passes)
       (claim-accepted (claimIn d i a rings) ctx routes o 0
-      (λ k l. rw zero-add (done-at o 64 k (g .done) (omega (arith, queues-fit old)))) (t .done))
+      (λ k l m. done-at o 64 k (g .done) (omega (arith, queues-fit old))) (t .done))
       (claim-moves d _ _ _ i a rings (g .passes) _ refl)
       (t .routed)
-
--- A done command.
-done-next :
-    {A : Type 0} (o : List ℕ) (n : ℕ) (c : Command) (ctx : List ℕ) (k : Sent → Course A) → outcomeAt o n ≡ sent.Done →
-    result o n (sends c ctx k) ≡ result o (n + 1) (k sent.Done)
-unfolding result
-done-next o n c ctx k e = ap (λ s. result o (n + 1) (k s)) e
 
 -- With every outcome done and the old routes there, a release is accepted and they are out.
 module _ (a : Release) (routes o : List ℕ) where
@@ -145,7 +137,7 @@ module _ (a : Release) (routes o : List ℕ) where
       result o n (releaseConfigure a ctx routes)
       ≡ moves answer.Accepted (releaseContext a ctx) (withReplaced routes (a .slot) (a .old) [])
   unfolding releaseConfigure onSent
-  configure-done ctx n e r = done-next o n _ _ _ e ∙ publish-done (releaseContext a ctx) (n + 1) r
+  configure-done ctx n e r = result-sends o n _ _ _ sent.Done e ∙ publish-done (releaseContext a ctx) (n + 1) r
 
   pub release-accepted :
       (ctx : List ℕ) → AllDone o (length (a .old) + 1) → replaced routes (a .slot) (a .old) [] ≡ replace.Done →

@@ -2,11 +2,10 @@
 use Prim.Native.Nat.{ℕ, suc, _+_, _*_, _<_, _≤_}
 use mathlib.Core.Path.{_≡_, refl, sym, _∙_}
 use mathlib.Core.Bool.{Bool, true, false, cond, true≢false}
-use mathlib.Core.List.{List, [], _∷_, _++_}
+use mathlib.Core.List.{List, _++_}
 use mathlib.Core.Logic.{_⊎_, inl, inr, _↔_}
 use native.Mathlib.Nat.{add-zero}
 use native.Mathlib.Omega.{arith}
-use borrow.Author.Tests.{lt-ltb}
 use lib.ListN.{length, getD, length-append}
 use lib.Seq.{getD-append-seam}
 use Rattle.answer.specs.declared.Answer.{Answer}
@@ -17,8 +16,9 @@ use Rattle.command.specs.declared.Sent.{Sent}
 use Rattle.command.specs.declared.Sent.the-variants as sent
 use Rattle.command.specs.Command.{commandWord, outcomeAt}
 use Rattle.command.specs.Course.{Course, ends, sends, onSent, then, words, result, Ended, CutsTo, CutEnds}
-use Rattle.command.specs.Sweep.{Sweep, swept, stopFrom, stopAll, undoStops, resumeAll, orCode}
+use Rattle.command.specs.Sweep.{Sweep, stopAll, resumeAll, orCode}
 use Rattle.command.proofs.Cuts.{cut-past, on-sent, cuts-then, cut-last}
+use Rattle.command.proofs.Done.{result-sends, AllDone, stop-all-done}
 use Rattle.command.proofs.Laws.{words-then, result-then}
 use Rattle.command.proofs.Sweeps.{words-length-resume, words-length-stop, active-stop, active-resume, stop-done, CutSweep, stop-cuts, resume-cuts, stop-uncut, resume-uncut, sweep-uncut}
 use Rattle.endpoint.specs.Cells.{queueDcis}
@@ -28,30 +28,6 @@ use Rattle.transfer.specs.Routes.{replaced, withReplaced}
 use Rattle.phase.specs.End.{End, stays, moves, answerOf}
 use Rattle.phase.proofs.Laws.{length-dcis}
 use Rattle.claim.specs.Claim.{Claim, claimContext, undoContext, claimPublished, claimPublish, claimSwitchBack, claimUndone, claimUndo, claimSwitch, claimResume, claimConfigure, claimCourse}
-
--- a command's outcome decides how a course goes on
-result-sends : {A : Type 0} (o : List ℕ) (n : ℕ) (c : Command) (ctx : List ℕ) (k : Sent → Course A) (s : Sent) →
-    outcomeAt o n ≡ s → result o n (sends c ctx k) ≡ result o (n + 1) (k s)
-unfolding result
-result-sends o n c ctx k s e = rw e
-
--- a byte 0 is done
-pub outcome-done : (o : List ℕ) (k : ℕ) → k < length o → getD o k 0 ≡ 0 → outcomeAt o k ≡ sent.Done
-unfolding outcomeAt
-outcome-done o k h e = rw (lt-ltb k (length o) h, e)
-
--- where every outcome is done, so is stopping
-pub stops-done : (o ctx stopped ds : List ℕ) (n : ℕ) → ((k : ℕ) → k < length ds → outcomeAt o (n + k) ≡ sent.Done) →
-    result o n (stopFrom ctx stopped ds) ≡ swept sent.Done 0
-unfolding stopFrom onSent result
-stops-done o ctx stopped [] n h = refl
-stops-done o ctx stopped (d ∷ ds) n h =
-    let e : outcomeAt o n ≡ sent.Done = rw add-zero at (h 0 (omega arith)) in
-    let next : (k : ℕ) → k < length ds → outcomeAt o (n + 1 + k) ≡ sent.Done =
-    λ k l. let z : n + 1 + k ≡ n + suc k = omega arith in rw z (h (suc k) (omega arith)) in
-    let rest : Sent → Course Sweep =
-    λ s. onSent s (stopFrom ctx (stopped ++ (d ∷ [])) ds) (undoStops ctx stopped) (ends (swept sent.Cut 0)) in
-    result-sends o n (command.Stop d) ctx rest sent.Done e ∙ stops-done o ctx (stopped ++ (d ∷ [])) ds (n + 1) next
 
 broken-failed : {P : Type 0} {code : ℕ} → answer.InterfaceBroken ≡ answer.Failed code → P
 broken-failed e = let z : _≡_ {A = ℕ} 0 1 = cc in absurd (omega arith)
@@ -330,7 +306,7 @@ module _ (a : Claim) (ctx routes o : List ℕ) where
   publish-done n at r = rw r
 
   -- with every outcome done and routes that allow it, it is accepted
-  pub claim-accepted : (n : ℕ) → ((k : ℕ) → k < length (a .old) + 2 → outcomeAt o (n + k) ≡ sent.Done) →
+  pub claim-accepted : (n : ℕ) → AllDone o n (length (a .old) + 2) →
       replaced routes (a .slot) (a .old) (a .pending) ≡ replace.Done →
       result o n (claimCourse a ctx routes) ≡
       moves answer.Accepted (claimContext a ctx) (withReplaced routes (a .slot) (a .old) (a .pending))
@@ -338,10 +314,9 @@ module _ (a : Claim) (ctx routes o : List ℕ) where
   claim-accepted n h r =
       let m : ℕ = length (a .old) in
       let l : length (queueDcis (a .old)) ≡ m = length-dcis (a .old) in
-      let s = stops-done o ctx [] (queueDcis (a .old)) n (λ k b. h k (omega arith)) in
-      let p = claim-configured n (rw s) (h m (omega arith)) in
-      let z : n + m + 1 ≡ n + (m + 1) = omega arith in
-      let q = result-sends o (n + m + 1) _ _ _ sent.Done (rw z (h (m + 1) (omega arith))) in
+      let s = stop-all-done o ctx (queueDcis (a .old)) n (λ i b t. h i b (omega arith)) in
+      let p = claim-configured n s (h (n + m) (omega arith) (omega arith)) in
+      let q = result-sends o (n + m + 1) _ _ _ sent.Done (h (n + m + 1) (omega arith) (omega arith)) in
       p ∙ q ∙ publish-done (n + m + 1 + 1) (claimContext a ctx) r
 
   -- it breaks only after a Configure was sent

@@ -1,4 +1,5 @@
 pub mod Cuts
+pub mod Done
 pub mod Laws
 pub mod Operations
 pub mod Sweeps

@@ -23,7 +23,8 @@ use Rattle.command.proofs.Cuts.{on-sent}
 use Rattle.command.proofs.Laws.{result-then, words-then}
 use Rattle.phase.specs.End.{End}
 use Rattle.set_configuration.specs.SetConfiguration.{setCourse}
-use Rattle.set_configuration.proofs.Laws.{set-moved, AllDone, set-accepted, set-words}
+use Rattle.set_configuration.proofs.Laws.{set-moved, set-accepted, set-words}
+use Rattle.command.proofs.Done.{AllDone}
 use Rattle.init.specs.Reading.{BringUp, Reading, nothingRead, readUpTo, Brought, brought}
 use Rattle.init.specs.Init.{step, bringUpSettings, bringUpSet, bringUpConfigs, bringUpDevice, bringUpConfiguration, bringUpPacket, bringUpHeader, bringUpAddress}
 use Rattle.init.proofs.Lists.{first-empty}

@@ -2,7 +2,7 @@
 use Prim.Native.Nat.{ℕ, suc, _+_, _*_, _<_, _≤_}
 use mathlib.Core.Path.{_≡_, refl, sym, ap, _∙_}
 use mathlib.Core.Bool.{Bool, true, false, _||_}
-use mathlib.Core.List.{List, [], _∷_, _++_}
+use mathlib.Core.List.{List, []}
 use mathlib.Core.Logic.{_⊎_, inl, inr}
 use native.Mathlib.Omega.{arith}
 use lib.ListN.{length, getD, length-append}
@@ -16,8 +16,9 @@ use Rattle.command.specs.declared.Sent.{Sent}
 use Rattle.command.specs.declared.Sent.the-variants as sent
 use Rattle.command.specs.Command.{outcomeAt}
 use Rattle.command.specs.Course.{Course, ends, sends, onSent, words, result, Ended, CutsTo, CutEnds}
-use Rattle.command.specs.Sweep.{Sweep, stopFrom, stopAll, resumeAll}
-use Rattle.command.proofs.Cuts.{done-cut, failed-done, on-sent}
+use Rattle.command.specs.Sweep.{stopAll, resumeAll}
+use Rattle.command.proofs.Cuts.{on-sent}
+use Rattle.command.proofs.Done.{result-sends, AllDone, stop-all-done}
 use Rattle.command.proofs.Laws.{words-then, result-then}
 use Rattle.command.proofs.Operations.{ByteOperands, operation, EachCommand, each-then}
 use Rattle.command.proofs.Sweeps.{words-length-resume, words-length-stop, stop-done, stop-cuts, resume-cuts, sweep-cut-ends, stop-each, resume-each}
@@ -446,30 +447,6 @@ set-out a routes o ctx n v d r =
     both false true f g = g refl
     both false false f g = refl
 
--- Each of k outcomes from number n on is done.
-abbrev pub AllDone : List ℕ → ℕ → ℕ → Type 0
-AllDone o n k = (i : ℕ) → n ≤ i → i < n + k → outcomeAt o i ≡ sent.Done
-
-stops-done : (o ctx stopped ds : List ℕ) (n : ℕ) → AllDone o n (length ds) → (result o n (stopFrom ctx stopped ds)) .sent ≡ sent.Done
-unfolding stopFrom result
-stops-done o ctx stopped [] n h = refl
-stops-done o ctx stopped (d ∷ ds) n h =
-    let done : outcomeAt o n ≡ sent.Done = h n (omega arith) (omega arith) in
-    on-sent (λ (c : Course Sweep). (result o (n + 1) c) .sent ≡ sent.Done) (outcomeAt o n) _ _ _
-    (λ e. stops-done o ctx (stopped ++ (d ∷ [])) ds (n + 1) (λ i l m. h i (omega arith) (omega arith)))
-    (λ code e. failed-done (sym e ∙ done))
-    (λ e. done-cut (sym done ∙ e))
-
--- stopping ends done where every outcome is
-pub stop-all-done : (o ctx ds : List ℕ) (n : ℕ) → AllDone o n (length ds) → (result o n (stopAll ctx ds)) .sent ≡ sent.Done
-unfolding stopAll
-stop-all-done o ctx ds n h = stops-done o ctx [] ds n h
-
-done-next : {A : Type 0} (o : List ℕ) (n : ℕ) (c : Command) (ctx : List ℕ) (k : Sent → Course A) → outcomeAt o n ≡ sent.Done →
-    result o n (sends c ctx k) ≡ result o (n + 1) (k sent.Done)
-unfolding result
-done-next o n c ctx k e = ap (λ s. result o (n + 1) (k s)) e
-
 done-end : {A : Type 0} (o : List ℕ) (n : ℕ) (x : A) → result o n (ends x) ≡ x
 unfolding result
 done-end o n x = refl
@@ -480,10 +457,10 @@ module _ (a : Settings) (routes o : List ℕ) where
       ≡ moves answer.Accepted (valueContext a (dropContext a ctx)) (withReplaced routes (a .slot) (a .old) [])
   unfolding setConfigure setSwitch setPublish setPublished setEvaluate onSent
   configure-accepted ctx n h d =
-      done-next o n _ _ _ (h n (omega arith) (omega arith))
-      ∙ done-next o (n + 1) _ _ _ (h (n + 1) (omega arith) (omega arith))
+      result-sends o n _ _ _ sent.Done (h n (omega arith) (omega arith))
+      ∙ result-sends o (n + 1) _ _ _ sent.Done (h (n + 1) (omega arith) (omega arith))
       ∙ ap (λ r. result o (n + 1 + 1) (setPublished r a (dropContext a ctx) routes)) d
-      ∙ done-next o (n + 1 + 1) _ _ _ (h (n + 1 + 1) (omega arith) (omega arith))
+      ∙ result-sends o (n + 1 + 1) _ _ _ sent.Done (h (n + 1 + 1) (omega arith) (omega arith))
       ∙ done-end o (n + 1 + 1 + 1) _
 
   -- with every outcome done and the old routes there, it is accepted and they are out

@@ -300,9 +300,7 @@ module _ (slot : ℕ) (before : List ℕ) (s : State) (buffers : Buffers) (i a :
         let old = ownedRings (Interface i) (cellsIn d) in
         ap (λ (e : End). e .answer)
         (claim-accepted (claimIn d i a rings) (buffers .ctx) (s .routes) (buffers .outcomes) 0
-        (λ n h.
-        let z : 0 + n ≡ n = omega arith in
-        rw z (done n (omega (arith, h, queues-fit old))))
+        (λ n l h. done n (omega (arith, h, queues-fit old)))
         (ap (λ x. replaced (s .routes) x (queuesOf old) (queuesOf pending)) (l .place) ∙ rerouted k l .done))
 
     pub claim-done : (left asked buffers d (s .routes)) .answer ≡ answer.Accepted

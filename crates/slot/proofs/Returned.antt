@@ -1,8 +1,6 @@
 -- Every call returns the record that it got, or one that is unusable, or a sound one.
-use Prim.Native.Nat.{ℕ}
 use mathlib.Core.Path.{_≡_}
 use mathlib.Core.Bool.{true, false}
-use mathlib.Core.List.{List}
 use mathlib.Core.Logic.{_⊎_, inl, inr}
 use Rattle.device.specs.declared.record.Device.{Device}
 use Rattle.device.specs.Sound.{sound}
