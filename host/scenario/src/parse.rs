@@ -148,7 +148,8 @@ fn setting(text: &str) -> Parsed<(u8, u8)> {
     Ok((decimal(interface)?, decimal(alternate)?))
 }
 
-fn record_field(record: &mut Record, text: &str) -> Parsed<()> {
+/// Takes one field of a record, and gives its name.
+fn record_field<'a>(record: &mut Record, text: &'a str) -> Parsed<&'a str> {
     let (name, value) = split(text, '=')?;
     match name {
         "usable" => record.usable = flag(value)?,
@@ -165,7 +166,7 @@ fn record_field(record: &mut Record, text: &str) -> Parsed<()> {
         }
         _ => return Err(format!("a record has no '{name}'")),
     }
-    Ok(())
+    Ok(name)
 }
 
 /// A call between its name and `go`.
@@ -229,8 +230,13 @@ impl Building {
         }
         match key {
             "record" => {
+                let mut given = Vec::new();
                 for text in words.by_ref() {
-                    record_field(&mut self.record, text)?;
+                    let name = record_field(&mut self.record, text)?;
+                    if given.contains(&name) {
+                        return Err(format!("'{name}' is given twice"));
+                    }
+                    given.push(name);
                 }
             }
             "reclist" => self.record.list = list_within(words, LIST_ROOM, hex32)?,

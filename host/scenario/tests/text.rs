@@ -110,6 +110,7 @@ fn the_first_bad_line_is_named() {
     assert_eq!(error("scenario a\nclaim\noutcomes 0g\n").0, 3);
     assert_eq!(error("scenario a\nbringup\nlist 123456789\n").0, 3);
     assert_eq!(error("scenario a\nclaim\nroutes 1=2 1=3\n").0, 3);
+    assert_eq!(error("scenario a\nclaim\nrecord usable=1 slot=1 slot=2\n"), (3, "'slot' is given twice".to_string()));
     assert_eq!(error("scenario a\nclaim\neps 81:2000:0:active\ngo\n").0, 4);
     assert_eq!(error("scenario a\nbringup\nrecord usable=1\n").0, 3);
     assert_eq!(error("scenario a\nunplug\n").0, 2);
