@@ -7,17 +7,19 @@ use native.Mathlib.Nat.{zero-add, mod-eq-of-lt, mod-lt}
 use native.Mathlib.Omega.{arith}
 use borrow.Author.Tests.{eq-eqb, eqb-true}
 use lib.Dec.{eqb}
+use mir.Val.{boolByte}
 use lib.ListN.{length, getD, take}
+use lib.Seq.{sets}
 use Rattle.laws.proofs.Tests.{and-left, and-right, and-true}
 use Rattle.endpoint.specs.Cells.{tabulated}
 use Rattle.endpoint.specs.Endpoint.{blank}
 use Rattle.endpoint.specs.declared.entry.Handle.{Handle}
 use Rattle.endpoint.specs.declared.entry.Handle.the-variants.{Active, Revoked}
 use Rattle.device.specs.declared.record.Device.{Device}
-use Rattle.image.specs.Image.{flag, revoked, handleWord, addressWord, ringWord, parts, encode, isSet, handleIn, byteAt, wordAt, numberAt, endpointIn, read, decode, below, isImage}
+use Rattle.image.specs.Image.{flag, revoked, handleWord, addressWord, ringWord, parts, encode, isSet, handleIn, byteAt, wordAt, numberAt, endpointIn, read, decode, stored, below, isImage}
 use Rattle.image.specs.Fits.{Below, Fits}
 use Rattle.image.proofs.Steps.{mapped, length-mapped}
-use Rattle.image.proofs.Parts.{sum, length-joined, at-part, tabulated-list, tabulated-same, tabulated-map, tabulated-length, tabulated-at, cuts, cuts-joined, number-list, below-run, below-add, below-in}
+use Rattle.image.proofs.Parts.{sum, map-size, laid-cuts, lay, length-joined, at-part, tabulated-list, tabulated-same, tabulated-map, tabulated-length, tabulated-at, cuts, cuts-joined, number-list, below-run, below-add, below-in}
 
 abbrev SIZES : List ℕ
 SIZES = 3 ∷ 30 ∷ 4 ∷ 30 ∷ 30 ∷ 32 ∷ 32 ∷ 256 ∷ 6 ∷ 30 ∷ 61 ∷ []
@@ -54,6 +56,7 @@ unfolding revoked
 revoked-below Active = omega arith
 revoked-below Revoked = omega arith
 
+-- The numbers of a record, by width.
 abbrev flagsOf : Device → List ℕ
 flagsOf d = flag (d .usable) ∷ flag (d .configured) ∷ revoked (d .«control_handle») ∷ []
 
@@ -64,6 +67,11 @@ abbrev countsOf : Device → List ℕ
 countsOf d =
     d .spacing ∷ d .«list_len» ∷ d .«ep_count» ∷ d .«held_count» ∷ d .«quarantined_count» ∷ d .control ∷ []
 
+flag-byte : (b : Bool) → boolByte b ≡ flag b
+unfolding flag
+flag-byte true = refl
+flag-byte false = refl
+
 three-below : (bound a b c : ℕ) → a < bound → b < bound → c < bound → Below bound (a ∷ b ∷ c ∷ [])
 three-below bound a b c x y z zero h = x
 three-below bound a b c x y z (suc zero) h = y
@@ -73,11 +81,6 @@ three-below bound a b c x y z (suc (suc (suc i))) h = absurd (omega arith)
 cons-below : (bound a : ℕ) (l : List ℕ) → a < bound → Below bound l → Below bound (a ∷ l)
 cons-below bound a l x b zero h = x
 cons-below bound a l x b (suc i) h = b i (omega arith)
-
-map-size : (ps : List (List ℕ)) (j : ℕ) → length (getD ps j []) ≡ getD (map length ps) j 0
-map-size [] j = refl
-map-size (p ∷ ps) zero = refl
-map-size (p ∷ ps) (suc j) = map-size ps j
 
 module _ (d : Device) (fits : Fits d) where
   sizes : map length (parts d) ≡ SIZES
@@ -97,6 +100,31 @@ module _ (d : Device) (fits : Fits d) where
   length-encode : length (encode d) ≡ 514
   unfolding encode sum
   length-encode = length-joined (parts d) ∙ ap sum sizes
+
+  -- What is left where each part is written over a buffer.
+  pub encoded :
+      (l : List ℕ) → length l ≡ 514 → {l1 l2 l3 l4 : List ℕ} {w : ℕ} →
+      l1
+      ≡ sets (sets (sets (sets l 3 (map handleWord (d .eps))) 37 (map addressWord (d .eps))) 67 (d .«ep_interfaces»)) 423
+      (map ringWord (d .eps)) →
+      l2 ≡ sets (sets l1 97 (d .interfaces)) 129 (d .alternates) → l3 ≡ sets l2 161 (d .list) →
+      l4 ≡ sets l3 453 (d .quarantined) → w ≡ revoked (d .«control_handle») →
+      sets (sets (sets l4 0 (boolByte (d .usable) ∷ boolByte (d .configured) ∷ w ∷ [])) 33 (bytesOf d)) 417 (countsOf d)
+      ≡ stored d l
+  unfolding encode parts stored sum cuts
+  encoded l e a b c f g =
+      rw (eq-eqb (length l) 514 e, g, flag-byte (d .usable), flag-byte (d .configured), f, c, b, a)
+      (lay 8 (countsOf d) refl
+      (lay 2 (bytesOf d) refl
+      (lay 0 (flagsOf d) refl
+      (lay 10 (d .quarantined) (fits .quarantined)
+      (lay 7 (d .list) (fits .list .0)
+      (lay 6 (d .alternates) (fits .alternates .0)
+      (lay 5 (d .interfaces) (fits .interfaces .0)
+      (lay 9 (map ringWord (d .eps)) (length-mapped ringWord (d .eps) (fits .eps .0))
+      (lay 4 (d .«ep_interfaces») (fits .owners .0)
+      (lay 3 (map addressWord (d .eps)) (length-mapped addressWord (d .eps) (fits .eps .0))
+      (lay 1 (map handleWord (d .eps)) (length-mapped handleWord (d .eps) (fits .eps .0)) (laid-cuts SIZES l e))))))))))) .joined)
 
   module _ (j k a : ℕ) (p : List ℕ) (ek : getD SIZES j 0 ≡ k) (ea : sum (take j SIZES) ≡ a) (ep : getD (parts d) j [] ≡ p) where
     word : (i : ℕ) → i < k → getD (encode d) (a + i) 0 ≡ getD p i 0

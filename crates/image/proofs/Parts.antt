@@ -8,8 +8,8 @@ use native.Mathlib.Decide.{decLt}
 use native.Mathlib.Omega.{arith}
 use borrow.Author.Tests.{lt-ltb, ltb-true}
 use lib.Dec.{ltb}
-use lib.ListN.{length, getD, take, length-append, List·getD-append}
-use lib.Seq.{getD-append-add}
+use lib.ListN.{length, getD, set, take, length-append, List·getD-append}
+use lib.Seq.{getD-append-add, drop-at, sets, sets-eq, map-set-same}
 use Rattle.laws.proofs.Tests.{and-left, and-right, and-true}
 use Rattle.endpoint.specs.Cells.{tabulated}
 use Rattle.image.specs.Image.{numberAt, below}
@@ -143,3 +143,59 @@ below-in bound (suc k) a l e i g h =
         let same : a ≡ i = omega arith in
         subst (λ (m : ℕ). getD l m 0 < bound) same
         (ltb-true (getD l a 0) bound (and-left (ltb (getD l a 0) bound) (below bound k (a + 1) l) e))
+
+-- A list in pieces of some sizes, and a piece of it written over.
+pub map-size : (ps : List (List ℕ)) (j : ℕ) → length (getD ps j []) ≡ getD (map length ps) j 0
+map-size [] j = refl
+map-size (p ∷ ps) zero = refl
+map-size (p ∷ ps) (suc j) = map-size ps j
+
+cuts-sizes : (ks : List ℕ) (a : ℕ) (l : List ℕ) → map length (cuts ks a l) ≡ ks
+unfolding cuts
+cuts-sizes [] a l = refl
+cuts-sizes (k ∷ ks) a l = rw (tabulated-length (numberAt l) k a, cuts-sizes ks (a + k) l)
+
+sets-cons : (p r : List ℕ) (y k : ℕ) → sets (y ∷ r) (suc k) p ≡ y ∷ sets r k p
+sets-cons [] r y k = refl
+sets-cons (x ∷ p) r y k = sets-cons p (set r k x) y (suc k)
+
+sets-beyond : (q l p : List ℕ) (k : ℕ) → sets (q ++ l) (length q + k) p ≡ q ++ sets l k p
+sets-beyond [] l p k = rw zero-add
+sets-beyond (y ∷ q) l p k =
+    let e : suc (length q) + k ≡ suc (length q + k) = omega arith in
+    ap (λ (m : ℕ). sets (y ∷ (q ++ l)) m p) e ∙ sets-cons p (q ++ l) y (length q + k)
+    ∙ ap (λ (m : List ℕ). y ∷ m) (sets-beyond q l p k)
+
+set-piece :
+    (ps : List (List ℕ)) (j : ℕ) (p : List ℕ) → length p ≡ length (getD ps j []) →
+    sets (flatten ps) (sum (take j (map length ps))) p ≡ flatten (set ps j p)
+unfolding flatten sum
+set-piece [] j [] h = refl
+set-piece [] j (x ∷ p) h = absurd (omega arith)
+set-piece (q ∷ ps) zero p h =
+    sets-eq p (q ++ flatten ps) 0 (omega (arith, length-append q (flatten ps)))
+    ∙ ap (λ (m : List ℕ). p ++ m) (drop-at q (flatten ps) (0 + length p) (omega arith))
+set-piece (q ∷ ps) (suc j) p h =
+    sets-beyond q (flatten ps) p (sum (take j (map length ps))) ∙ ap (λ (m : List ℕ). q ++ m) (set-piece ps j p h)
+
+pub record Laid (ks : List ℕ) (ps : List (List ℕ)) (l : List ℕ) : Type 0 where
+  pub joined : l ≡ flatten ps
+  pub sized : map length ps ≡ ks
+
+pub laid-cuts : (ks l : List ℕ) → length l ≡ sum ks → Laid ks (cuts ks 0 l) l
+laid-cuts ks l e =
+    record { joined = sym (cuts-joined ks 0 l ∙ number-list l (sum ks) e); sized = cuts-sizes ks 0 l }
+
+pub lay :
+    {ks : List ℕ} {ps : List (List ℕ)} {l : List ℕ} (j : ℕ) (p : List ℕ) → length p ≡ getD ks j 0 → Laid ks ps l →
+    Laid ks (set ps j p) (sets l (sum (take j ks)) p)
+lay {ks} {ps} {l} j p h w =
+    let size : length p ≡ length (getD ps j []) =
+    h ∙ sym (map-size ps j ∙ ap (λ (m : List ℕ). getD m j 0) (w .sized)) in
+    record {
+      joined =
+          ap (λ (m : List ℕ). sets m (sum (take j ks)) p) (w .joined)
+          ∙ subst (λ (m : List ℕ). sets (flatten ps) (sum (take j m)) p ≡ flatten (set ps j p)) (w .sized)
+          (set-piece ps j p size);
+      sized = map-set-same length ps j p [] size ∙ w .sized;
+    }

@@ -1,22 +1,28 @@
--- One turn of each loop.
-use Prim.Native.Nat.{ℕ, zero, suc, _+_, _-_, _≤_, _<_}
+-- One turn of each loop, and what is known before and after.
+use Prim.Native.Nat.{ℕ, zero, suc, _+_, _-_, _%_, _≤_, _<_}
 use mathlib.Core.Path.{_≡_, refl, sym, ap, _∙_}
 use mathlib.Core.Bool.{true, false, not}
 use lib.Dec.{eqb}
-use mathlib.Core.List.{List, [], _∷_, _++_, append-assoc, append-nil, map, flatten}
+use mir.Val.{Val}
+use denote.Shadow.{shadow}
+use denote.Array.{each}
+use denote.Struct.Field.{array-field}
+use mathlib.Core.List.{List, [], _∷_, _++_, map}
 use native.Mathlib.Numerals.{add-one}
 use native.Mathlib.Nat.{add-zero}
-use native.Mathlib.Decide.{decLt}
 use native.Mathlib.Omega.{arith}
 use borrow.Author.Tests.{lt-ltb, le-ltb}
-use lib.ListN.{length, getD, set, take, drop, length-set, length-append}
-use lib.Seq.{take-suc, take-suc-set, take-all, take-at, sets, sets-eq, length-take-le}
+use lib.ListN.{length, getD, set, take, drop, length-set, length-drop, drop-of-length-le}
+use lib.Seq.{take-suc-set, take-all, drop-cons, set-comm, sets}
 use Rattle.endpoint.specs.Cells.{tabulated}
 use Rattle.endpoint.specs.declared.entry.Handle.{Handle}
 use Rattle.endpoint.specs.declared.entry.Endpoint.{Endpoint}
+use Rattle.endpoint.specs.declared.entry.Endpoints.{Endpoints}
+use Rattle.endpoint.proofs.entry.Endpoint.{the-field}
+use Rattle.endpoint.specs.Endpoint.{blank}
 use Rattle.device.specs.declared.record.Device.{Device}
+use Rattle.image.specs.Image.{handleWord, addressWord, ringWord, isSet, handleIn, byteAt, wordAt, numberAt, endpointIn, read, below}
 use Rattle.image.specs.Fits.{Below}
-use Rattle.image.specs.Image.{isSet, handleIn, byteAt, wordAt, numberAt, endpointIn, read, below}
 
 tabulated-snoc : {A : Type 0} (f : ℕ → A) (k a : ℕ) → tabulated f (suc k) a ≡ tabulated f k a ++ (f (a + k) ∷ [])
 unfolding tabulated
@@ -50,60 +56,82 @@ read-done {m = m} {f} {from} {p} {l} w g h =
     let same : p ≡ m = omega arith in
     sym (take-all p l (omega arith)) ∙ w .said ∙ ap (λ (k : ℕ). tabulated f k from) same
 
--- An image whose words up to `from` are as they were and are followed by the first p values of a list.
-pub record Put (from : ℕ) (old values : List ℕ) (p : ℕ) (image : List ℕ) : Type 0 where
-  pub put : take (from + p) image ≡ take from old ++ take p values
-  pub size : length image ≡ length old
+-- A list's elements from i on, still to be written over the words from a on.
+unfoldable pub rest : ℕ → List ℕ → ℕ → List ℕ → List ℕ
+rest a vs i l = sets l (a + i) (drop i vs)
 
-pub put-none : (from : ℕ) (old values : List ℕ) → Put from old values 0 old
-put-none from old values = record { put = rw (add-zero, append-nil) refl; size = refl }
+pub rest-none : (a : ℕ) (vs l : List ℕ) → sets l a vs ≡ rest a vs 0 l
+unfolding rest
+rest-none a vs l = rw add-zero
 
-pub put-next :
-    {from : ℕ} {old values : List ℕ} {p : ℕ} {image : List ℕ} (v : ℕ) → Put from old values p image →
-    p < length values → from + p < length old → v ≡ getD values p 0 → Put from old values (p + 1) (set image (from + p) v)
-put-next {from} {old} {values} {p} {image} v w h g q =
-    let e : from + (p + 1) ≡ suc (from + p) = omega arith in
-    let s : from + p < length image = rw (w .size) g in
-    record {
-      put = rw (e, add-one p, take-suc-set image (from + p) v s, take-suc values p 0 h, w .put, q, append-assoc);
-      size = length-set image (from + p) v ∙ w .size;
-    }
+pub rest-all : (a : ℕ) (vs : List ℕ) (i : ℕ) (l : List ℕ) → length vs ≤ i → rest a vs i l ≡ l
+unfolding rest
+rest-all a vs i l h = rw (drop-of-length-le vs {i = i} h)
 
-pub put-done :
-    {from k : ℕ} {old values : List ℕ} {p : ℕ} {image : List ℕ} → Put from old values p image → length values ≡ k →
-    k ≤ p → p ≤ k → take (from + k) image ≡ take from old ++ values
-put-done {from} {k} {old} {values} {p} {image} w e g h =
-    let same : k ≡ p = omega arith in
-    ap (λ (m : ℕ). take (from + m) image) same ∙ w .put
-    ∙ ap (λ (l : List ℕ). take from old ++ l) (take-all p values (omega arith))
+pub rest-next :
+    (a : ℕ) (vs : List ℕ) (i : ℕ) (l : List ℕ) → i < length vs → rest a vs i l ≡ rest a vs (i + 1) (set l (a + i) (getD vs i 0))
+unfolding rest
+rest-next a vs i l h = let e : a + (i + 1) ≡ suc (a + i) = omega arith in rw (e, drop-cons vs i 0 h, add-one i)
 
--- The first p values of a list are below a bound.
-pub record Low (bound : ℕ) (values : List ℕ) (p : ℕ) : Type 0 where
-  pub low : (i : ℕ) → i < p → getD values i 0 < bound
+sets-past :
+    (vs l : List ℕ) (i j v : ℕ) → i + length vs ≤ j → set (sets l i vs) j v ≡ sets (set l j v) i vs
+sets-past [] l i j v h = refl
+sets-past (x ∷ vs) l i j v h =
+    sets-past vs (set l i x) (suc i) j v (omega arith)
+    ∙ ap (λ (m : List ℕ). sets m (suc i) vs) (set-comm l i j x v (λ e. omega arith))
 
-pub low-none : (bound : ℕ) (values : List ℕ) → Low bound values 0
-low-none bound values = record { low = λ i h. absurd (omega arith) }
+rest-past :
+    (a b : ℕ) (vs : List ℕ) (i : ℕ) (l : List ℕ) (v : ℕ) → i < length vs → a + length vs ≤ b →
+    set (rest a vs (i + 1) l) (b + i) v ≡ rest a vs (i + 1) (set l (b + i) v)
+unfolding rest
+rest-past a b vs i l v g h = sets-past (drop (i + 1) vs) l (a + (i + 1)) (b + i) v (omega (arith, length-drop (i + 1) vs))
 
-pub low-next :
-    {bound : ℕ} {values : List ℕ} {p : ℕ} (v : ℕ) → Low bound values p → v ≡ getD values p 0 → v < bound →
-    Low bound values (p + 1)
-low-next {bound} {values} {p} v w e h = record { low = λ i g. go i g (decLt i p) }
-  where
-    go : (i : ℕ) → i < p + 1 → Dec (i < p) → getD values i 0 < bound
-    go i g (yes l) = w .low i l
-    go i g (no l) = let same : i ≡ p = omega arith in rw (same, ← e) h
+module _ (a b : ℕ) (vs ws : List ℕ) (i : ℕ) (l : List ℕ) where
+  abbrev one : List ℕ
+  one = set l (a + i) (getD vs i 0)
 
-pub low-done :
-    {bound : ℕ} {values : List ℕ} {p : ℕ} (k : ℕ) → Low bound values p → length values ≡ k → k ≤ p → Below bound values
-low-done k w e h i g = w .low i (omega arith)
+  abbrev two : List ℕ
+  two = set one (b + i) (getD ws i 0)
+
+  -- Two lists side by side.
+  pub pair-next :
+      i < length vs → i < length ws → a + length vs ≤ b →
+      rest b ws i (rest a vs i l) ≡ rest b ws (i + 1) (rest a vs (i + 1) two)
+  pair-next f g r =
+      ap (rest b ws i) (rest-next a vs i l f) ∙ rest-next b ws i (rest a vs (i + 1) one) g
+      ∙ ap (rest b ws (i + 1)) (rest-past a b vs i one (getD ws i 0) f r)
+
+  pair-past :
+      (c v : ℕ) (m : List ℕ) → i < length vs → i < length ws → a + length vs ≤ b → b + length ws ≤ c →
+      set (rest b ws (i + 1) (rest a vs (i + 1) m)) (c + i) v ≡ rest b ws (i + 1) (rest a vs (i + 1) (set m (c + i) v))
+  pair-past c v m f g r s =
+      rest-past b c ws i (rest a vs (i + 1) m) v g s ∙ ap (rest b ws (i + 1)) (rest-past a c vs i m v f (omega arith))
+
+  -- Four of them.
+  four-next :
+      (c d : ℕ) (xs ys : List ℕ) → i < length vs → i < length ws → i < length xs → i < length ys →
+      a + length vs ≤ b → b + length ws ≤ c → c + length xs ≤ d →
+      rest d ys i (rest c xs i (rest b ws i (rest a vs i l)))
+      ≡ rest d ys (i + 1) (rest c xs (i + 1) (rest b ws (i + 1) (rest a vs (i + 1)
+      (set (set two (c + i) (getD xs i 0)) (d + i) (getD ys i 0)))))
+  four-next c d xs ys f g h k r s t =
+      let three : List ℕ = set two (c + i) (getD xs i 0) in
+      ap (λ (m : List ℕ). rest d ys i (rest c xs i m)) (pair-next f g r)
+      ∙ ap (rest d ys i)
+      (rest-next c xs i (rest b ws (i + 1) (rest a vs (i + 1) two)) h
+      ∙ ap (rest c xs (i + 1)) (pair-past c (getD xs i 0) two f g r s))
+      ∙ rest-next d ys i (rest c xs (i + 1) (rest b ws (i + 1) (rest a vs (i + 1) three))) k
+      ∙ ap (rest d ys (i + 1))
+      (rest-past c d xs i (rest b ws (i + 1) (rest a vs (i + 1) three)) (getD ys i 0) h t
+      ∙ ap (rest c xs (i + 1)) (pair-past d (getD ys i 0) three f g r (omega arith)))
 
 -- What a list's elements say, element by element.
+length-map : {A B : Type 0} (f : A → B) (l : List A) → length (map f l) ≡ length l
+length-map f [] = refl
+length-map f (x ∷ l) = ap suc (length-map f l)
+
 pub length-mapped : {A : Type 0} {k : ℕ} (f : A → ℕ) (l : List A) → length l ≡ k → length (map f l) ≡ k
-length-mapped {A = A} {k} f l e = go l ∙ e
-  where
-    go : (l : List A) → length (map f l) ≡ length l
-    go [] = refl
-    go (x ∷ l) = ap suc (go l)
+length-mapped f l e = length-map f l ∙ e
 
 pub mapped :
     {A : Type 0} {k : ℕ} (f : A → ℕ) (l : List A) (i : ℕ) (d : A) → length l ≡ k → i < k →
@@ -115,27 +143,52 @@ mapped {A = A} f l i d e h = go l i (rw e h)
     go (x ∷ l) zero h = refl
     go (x ∷ l) (suc i) h = go l i (omega arith)
 
--- Words written one after the other.
-run : (vs l : List ℕ) (i : ℕ) → i + length vs ≤ length l → take (i + length vs) (sets l i vs) ≡ take i l ++ vs
-run vs l i h =
-    rw (sets-eq vs l i h)
-    (take-at (take i l ++ vs) (drop (i + length vs) l) (i + length vs)
-    (length-append (take i l) vs ∙ ap (λ (k : ℕ). k + length vs) (length-take-le i l (omega arith))))
+-- What owning a record tells of its endpoints.
+each-address :
+    (eps : List Endpoint) (us : List Val) (i : ℕ) →
+    shadow (each (the-field .row .Denot) (the-field .row .own) (map (the-field .into) eps) us) →
+    getD (map addressWord eps) i 0 < 256
+unfolding addressWord
+each-address [] us i p = omega arith
+each-address (e ∷ eps) [] i p = absurd p
+each-address (e ∷ eps) (u ∷ us) zero p = p .0 .1 .1 .0 .1
+each-address (e ∷ eps) (u ∷ us) (suc i) p = each-address eps us i (p .1)
 
-module _ (l : List ℕ) (a b c : ℕ) where
-  pub put-three : length l ≡ 514 → take 3 (set (set (set l 0 a) 1 b) 2 c) ≡ a ∷ b ∷ c ∷ []
-  put-three h = run (a ∷ b ∷ c ∷ []) l 0 (omega arith)
+pub endpoints-known :
+    (eps : List Endpoint) (vs : List Val) → shadow (array-field the-field 30 .row .own (map (the-field .into) eps) vs) →
+    (length eps ≡ 30) × Below 256 (map addressWord eps)
+endpoints-known eps vs p =
+    (sym (length-map (the-field .into) eps) ∙ p .1 .0 .1, λ i h. each-address eps (p .0) i (p .1 .1))
 
-  module _ (d : ℕ) where
-    pub put-four :
-        length l ≡ 514 → take 37 (set (set (set (set l 33 a) 34 b) 35 c) 36 d) ≡ take 33 l ++ (a ∷ b ∷ c ∷ d ∷ [])
-    put-four h = run (a ∷ b ∷ c ∷ d ∷ []) l 33 (omega arith)
+-- One endpoint more written.
+pub endpoints-next :
+    (eps : List Endpoint) (owners l : List ℕ) (i : ℕ) {h : ℕ} → length eps ≡ 30 → length owners ≡ 30 → i < 30 →
+    h ≡ handleWord (getD eps i blank) →
+    rest 423 (map ringWord eps) i (rest 67 owners i (rest 37 (map addressWord eps) i (rest 3 (map handleWord eps) i l)))
+    ≡ rest 423 (map ringWord eps) (i + 1)
+    (rest 67 owners (i + 1)
+    (rest 37 (map addressWord eps) (i + 1)
+    (rest 3 (map handleWord eps) (i + 1)
+    (set (set (set (set l (3 + i) h) (37 + i) (addressWord (getD eps i blank))) (67 + i) (getD owners i 0)) (423 + i)
+    (ringWord (getD eps i blank))))))
+endpoints-next eps owners l i e o g q =
+    let a : length (map handleWord eps) ≡ 30 = length-mapped handleWord eps e in
+    let b : length (map addressWord eps) ≡ 30 = length-mapped addressWord eps e in
+    let c : length (map ringWord eps) ≡ 30 = length-mapped ringWord eps e in
+    rw (q, mapped handleWord eps i blank e g, mapped addressWord eps i blank e g, mapped ringWord eps i blank e g)
+    (four-next 3 37 (map handleWord eps) (map addressWord eps) i l 67 423 owners (map ringWord eps)
+    (omega arith) (omega arith) (omega arith) (omega arith) (omega arith) (omega arith) (omega arith))
 
-    pub put-six :
-        (e f : ℕ) → length l ≡ 514 →
-        take 423 (set (set (set (set (set (set l 417 a) 418 b) 419 c) 420 d) 421 e) 422 f)
-        ≡ take 417 l ++ (a ∷ b ∷ c ∷ d ∷ e ∷ f ∷ [])
-    put-six e f h = run (a ∷ b ∷ c ∷ d ∷ e ∷ f ∷ []) l 417 (omega arith)
+pub endpoints-all :
+    (eps : List Endpoint) (owners l : List ℕ) (i : ℕ) → length eps ≡ 30 → length owners ≡ 30 → 30 ≤ i →
+    rest 423 (map ringWord eps) i (rest 67 owners i (rest 37 (map addressWord eps) i (rest 3 (map handleWord eps) i l)))
+    ≡ l
+endpoints-all eps owners l i e o g =
+    let a : length (map handleWord eps) ≡ 30 = length-mapped handleWord eps e in
+    let b : length (map addressWord eps) ≡ 30 = length-mapped addressWord eps e in
+    let c : length (map ringWord eps) ≡ 30 = length-mapped ringWord eps e in
+    rest-all _ _ _ _ (omega arith) ∙ rest-all _ _ _ _ (omega arith) ∙ rest-all _ _ _ _ (omega arith)
+    ∙ rest-all _ _ _ _ (omega arith)
 
 -- One word more tested.
 pub below-next :
@@ -156,43 +209,34 @@ below-none bound k i l h = let e : k - i ≡ 0 = omega arith in rw e
 
 -- A record of what was read.
 pub read-of :
-    (l : List ℕ) {slot n speed value : ℕ} {list : List ℕ} {eps : List Endpoint} {owners interfaces alternates : List ℕ}
-    {handle : Handle} {quarantined : List ℕ} {spacing words endpoints held rings : ℕ} →
-    slot ≡ byteAt l 33 → n ≡ byteAt l 34 → speed ≡ byteAt l 35 → value ≡ byteAt l 36 →
-    list ≡ tabulated (wordAt l) 256 161 → eps ≡ tabulated (endpointIn l) 30 0 → owners ≡ tabulated (byteAt l) 30 67 →
+    (l : List ℕ) {list interfaces alternates quarantined : List ℕ} {e : Endpoints} {handle : Handle} →
+    list ≡ tabulated (wordAt l) 256 161 →
+    (e .eps ≡ tabulated (endpointIn l) 30 0) × (e .owners ≡ tabulated (byteAt l) 30 67) × (e .count ≡ getD l 419 0) →
     interfaces ≡ tabulated (byteAt l) 32 97 → alternates ≡ tabulated (byteAt l) 32 129 → handle ≡ handleIn (getD l 2 0) →
-    quarantined ≡ tabulated (numberAt l) 61 453 → spacing ≡ getD l 417 0 → words ≡ getD l 418 0 →
-    endpoints ≡ getD l 419 0 → held ≡ getD l 420 0 → rings ≡ getD l 421 0 →
+    quarantined ≡ tabulated (numberAt l) 61 453 →
     _≡_ {A = Device}
     (record {
       usable = not (eqb (getD l 0 0) 0);
-      slot = record { 0 = slot };
-      n = n;
-      spacing = spacing;
-      «port_speed» = speed;
+      slot = record { 0 = getD l 33 0 % 256 };
+      n = getD l 34 0 % 256;
+      spacing = getD l 417 0;
+      «port_speed» = getD l 35 0 % 256;
       configured = not (eqb (getD l 1 0) 0);
-      «current_config_value» = value;
+      «current_config_value» = getD l 36 0 % 256;
       list = list;
-      «list_len» = words;
-      eps = eps;
-      «ep_interfaces» = owners;
-      «ep_count» = endpoints;
+      «list_len» = getD l 418 0;
+      eps = e .eps;
+      «ep_interfaces» = e .owners;
+      «ep_count» = e .count;
       interfaces = interfaces;
       alternates = alternates;
-      «held_count» = held;
+      «held_count» = getD l 420 0;
       control = getD l 422 0;
       «control_handle» = handle;
       quarantined = quarantined;
-      «quarantined_count» = rings;
+      «quarantined_count» = getD l 421 0;
     })
     (read l)
-unfolding read isSet
-read-of l a b c d e f g h i j k m n o p q = rw (a, b, c, d, e, f, g, h, i, j, k, m, n, o, p, q)
-
--- The parts of an image, each after those before it.
-pub encoded :
-    {t1 t2 t3 t4 t5 t6 t7 t8 t9 t10 t11 : List ℕ} (p0 p1 p2 p3 p4 p5 p6 p7 p8 p9 p10 : List ℕ) →
-    t1 ≡ p0 → t2 ≡ t1 ++ p1 → t3 ≡ t2 ++ p2 → t4 ≡ t3 ++ p3 → t5 ≡ t4 ++ p4 → t6 ≡ t5 ++ p5 → t7 ≡ t6 ++ p6 → t8 ≡ t7 ++ p7 → t9 ≡ t8 ++ p8 → t10 ≡ t9 ++ p9 → t11 ≡ t10 ++ p10 →
-    t11 ≡ flatten (p0 ∷ p1 ∷ p2 ∷ p3 ∷ p4 ∷ p5 ∷ p6 ∷ p7 ∷ p8 ∷ p9 ∷ p10 ∷ [])
-unfolding flatten
-encoded p0 p1 p2 p3 p4 p5 p6 p7 p8 p9 p10 e0 e1 e2 e3 e4 e5 e6 e7 e8 e9 e10 = rw (e10, e9, e8, e7, e6, e5, e4, e3, e2, e1, e0) (simp (append-assoc, append-nil))
+unfolding read isSet byteAt
+read-of l list eps interfaces alternates handle quarantined =
+    rw (list, eps .0, eps .1, eps .2, interfaces, alternates, handle, quarantined)

@@ -1,31 +1,76 @@
-use native.Mathlib.Nat.{zero-add}
+use borrow.Author.Needs.{needs}
 use Prim.Native.Nat.{_≤_, _-_}
 use mathlib.Core.Path.{_≡_, refl}
 use lib.ListN.{length}
-use borrow.Author.Needs.{needs}
-use Rattle.image.specs.Image.{endpointIn}
+use native.Mathlib.Nat.{zero-add}
+use Rattle.image.specs.Image.{byteAt, endpointIn}
 use Rattle.image.proofs.Steps.{Read, read-none, read-next, read-done}
 use Rattle.image.proofs.reading.endpoints_in.Statement.{statement}
 use Rattle.image.proofs.reading.endpoints_in.Tie as tie
 
 abbrev Inv-loop : tie.InvT-loop
-Inv-loop image eps₀ i₀ eps i =
-    (length image ≡ 514) × (i ≤ 30) × Read 30 (endpointIn image) 0 i eps
+Inv-loop image eps₀ owners₀ i₀ eps owners i =
+    (length image ≡ 514) × (i ≤ 30) × Read 30 (endpointIn image) 0 i eps × Read 30 (byteAt image) 67 i owners
 
 abbrev μ-loop : tie.MeasureT-loop
-μ-loop image eps₀ i₀ eps i = 30 - i
+μ-loop image eps₀ owners₀ i₀ eps owners i = 30 - i
 
 loop-holds : tie.Need-loop-holds Inv-loop μ-loop
-loop-holds c = (search needs, search needs, read-none _ _ _ _ refl)
+loop-holds c = (search needs, search needs, read-none _ _ _ _ refl, read-none _ _ _ _ refl)
 
-endpoint-in-requires : tie.Need-endpoint-in-requires Inv-loop μ-loop
-endpoint-in-requires c κs = search needs
+add-handle-in : tie.Need-add-handle-in Inv-loop μ-loop
+add-handle-in c = search needs
+
+mul-handle-in : tie.Need-mul-handle-in Inv-loop μ-loop
+mul-handle-in c = search needs
+
+shared-slice-read-handle-in : tie.Need-shared-slice-read-handle-in Inv-loop μ-loop
+shared-slice-read-handle-in c = search needs
+
+handle-in-requires : tie.Need-handle-in-requires Inv-loop μ-loop
+handle-in-requires c κs = search needs
+
+add-owners : tie.Need-add-owners Inv-loop μ-loop
+add-owners c = search needs
+
+mul-owners : tie.Need-mul-owners Inv-loop μ-loop
+mul-owners c = search needs
+
+shared-slice-read-owners : tie.Need-shared-slice-read-owners Inv-loop μ-loop
+shared-slice-read-owners c = search needs
+
+cast-owners : tie.Need-cast-owners Inv-loop μ-loop
+cast-owners c = search needs
+
+add-owners-2 : tie.Need-add-owners-2 Inv-loop μ-loop
+add-owners-2 c = search needs
+
+mul-owners-2 : tie.Need-mul-owners-2 Inv-loop μ-loop
+mul-owners-2 c = search needs
+
+shared-slice-read-owners-2 : tie.Need-shared-slice-read-owners-2 Inv-loop μ-loop
+shared-slice-read-owners-2 c = search needs
 
 mul-eps : tie.Need-mul-eps Inv-loop μ-loop
 mul-eps c = search needs
 
 array-set-from-eps : tie.Need-array-set-from-eps Inv-loop μ-loop
 array-set-from-eps c = search needs
+
+add-owners-3 : tie.Need-add-owners-3 Inv-loop μ-loop
+add-owners-3 c = search needs
+
+mul-owners-3 : tie.Need-mul-owners-3 Inv-loop μ-loop
+mul-owners-3 c = search needs
+
+shared-slice-read-owners-3 : tie.Need-shared-slice-read-owners-3 Inv-loop μ-loop
+shared-slice-read-owners-3 c = search needs
+
+cast-owners-2 : tie.Need-cast-owners-2 Inv-loop μ-loop
+cast-owners-2 c = search needs
+
+array-write-owners : tie.Need-array-write-owners Inv-loop μ-loop
+array-write-owners c = search needs
 
 add-i : tie.Need-add-i Inv-loop μ-loop
 add-i c = search needs
@@ -34,10 +79,24 @@ loop-less : tie.Need-loop-less Inv-loop μ-loop
 loop-less c = search needs
 
 loop-again : tie.Need-loop-again Inv-loop μ-loop
-loop-again c = (search needs, search needs, read-next _ (c .before .before .loop .inv .2) (c .before .loop-test .taken) (rw (zero-add) (c .endpoint-in .ensures)))
+unfolding endpointIn byteAt
+loop-again c =
+    let turn = c .before .before .before .before .before .before .loop .inv in
+    let test = c .before .before .before .before .before .loop-test .taken in (
+      search needs,
+      search needs,
+      read-next _ (turn .2) test (rw (zero-add, c .before .before .before .handle-in .ensures) refl),
+      read-next _ (turn .3) test refl,
+    )
+
+shared-slice-read-t30 : tie.Need-shared-slice-read-t30 Inv-loop μ-loop
+shared-slice-read-t30 c = search needs
 
 returns : tie.Need-returns Inv-loop μ-loop
-returns c = read-done (c .before .loop .inv .2) (c .loop-test .left) (c .before .loop .inv .1)
+returns c =
+    let turn = c .before .before .loop .inv in
+    let test = c .before .loop-test .left in
+    (read-done (turn .2) test (turn .1), read-done (turn .3) test (turn .1), refl)
 
 pub endpoints-in-spec : {M : Type 1} → statement M
 endpoints-in-spec =
@@ -46,10 +105,26 @@ endpoints-in-spec =
     Inv-loop
     μ-loop
     loop-holds
-    endpoint-in-requires
+    add-handle-in
+    mul-handle-in
+    shared-slice-read-handle-in
+    handle-in-requires
+    add-owners
+    mul-owners
+    shared-slice-read-owners
+    cast-owners
+    add-owners-2
+    mul-owners-2
+    shared-slice-read-owners-2
     mul-eps
     array-set-from-eps
+    add-owners-3
+    mul-owners-3
+    shared-slice-read-owners-3
+    cast-owners-2
+    array-write-owners
     add-i
     loop-less
     loop-again
+    shared-slice-read-t30
     returns)

@@ -1,7 +1,7 @@
+use borrow.Author.Needs.{needs}
 use Prim.Native.Nat.{_≤_, _-_}
 use mathlib.Core.Path.{_≡_, refl}
 use lib.ListN.{length}
-use borrow.Author.Needs.{needs}
 use Rattle.image.specs.Image.{wordAt}
 use Rattle.image.proofs.Steps.{Read, read-none, read-next, read-done}
 use Rattle.image.proofs.reading.list_in.Statement.{statement}
@@ -17,8 +17,8 @@ abbrev μ-loop : tie.MeasureT-loop
 loop-holds : tie.Need-loop-holds Inv-loop μ-loop
 loop-holds c = (search needs, search needs, read-none _ _ _ _ refl)
 
-add-at : tie.Need-add-at Inv-loop μ-loop
-add-at c = search needs
+add-list : tie.Need-add-list Inv-loop μ-loop
+add-list c = search needs
 
 mul-list : tie.Need-mul-list Inv-loop μ-loop
 mul-list c = search needs
@@ -55,7 +55,7 @@ list-in-spec =
     Inv-loop
     μ-loop
     loop-holds
-    add-at
+    add-list
     mul-list
     shared-slice-read-list
     cast-list

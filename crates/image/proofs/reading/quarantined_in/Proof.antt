@@ -1,7 +1,7 @@
+use borrow.Author.Needs.{needs}
 use Prim.Native.Nat.{_≤_, _-_}
 use mathlib.Core.Path.{_≡_, refl}
 use lib.ListN.{length}
-use borrow.Author.Needs.{needs}
 use Rattle.image.specs.Image.{numberAt}
 use Rattle.image.proofs.Steps.{Read, read-none, read-next, read-done}
 use Rattle.image.proofs.reading.quarantined_in.Statement.{statement}

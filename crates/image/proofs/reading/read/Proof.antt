@@ -3,26 +3,11 @@ use borrow.Author.Needs.{needs}
 use Rattle.image.proofs.reading.read.Statement.{statement}
 use Rattle.image.proofs.reading.read.Tie as tie
 
-byte-at-requires : tie.Need-byte-at-requires
-byte-at-requires c κs = search needs
-
-byte-at-requires-2 : tie.Need-byte-at-requires-2
-byte-at-requires-2 c κs = search needs
-
-byte-at-requires-3 : tie.Need-byte-at-requires-3
-byte-at-requires-3 c κs = search needs
-
-byte-at-requires-4 : tie.Need-byte-at-requires-4
-byte-at-requires-4 c κs = search needs
-
 list-in-requires : tie.Need-list-in-requires
 list-in-requires c κs = search needs
 
 endpoints-in-requires : tie.Need-endpoints-in-requires
 endpoints-in-requires c κs = search needs
-
-owners-in-requires : tie.Need-owners-in-requires
-owners-in-requires c κs = search needs
 
 settings-in-requires : tie.Need-settings-in-requires
 settings-in-requires c κs = search needs
@@ -39,75 +24,85 @@ handle-in-requires c κs = search needs
 quarantined-in-requires : tie.Need-quarantined-in-requires
 quarantined-in-requires c κs = search needs
 
-shared-slice-read-t14 : tie.Need-shared-slice-read-t14
-shared-slice-read-t14 c = search needs
+shared-slice-read-t11 : tie.Need-shared-slice-read-t11
+shared-slice-read-t11 c = search needs
 
-shared-slice-read-count-in : tie.Need-shared-slice-read-count-in
-shared-slice-read-count-in c = search needs
+shared-slice-read-t15 : tie.Need-shared-slice-read-t15
+shared-slice-read-t15 c = search needs
 
-count-in-requires : tie.Need-count-in-requires
-count-in-requires c κs = search needs
+cast-t17 : tie.Need-cast-t17
+cast-t17 c = search needs
 
-shared-slice-read-t22 : tie.Need-shared-slice-read-t22
-shared-slice-read-t22 c = search needs
+shared-slice-read-t20 : tie.Need-shared-slice-read-t20
+shared-slice-read-t20 c = search needs
 
-shared-slice-read-count-in-2 : tie.Need-shared-slice-read-count-in-2
-shared-slice-read-count-in-2 c = search needs
+cast-t22 : tie.Need-cast-t22
+cast-t22 c = search needs
 
-count-in-requires-2 : tie.Need-count-in-requires-2
-count-in-requires-2 c κs = search needs
+shared-slice-read-t24 : tie.Need-shared-slice-read-t24
+shared-slice-read-t24 c = search needs
 
-shared-slice-read-count-in-3 : tie.Need-shared-slice-read-count-in-3
-shared-slice-read-count-in-3 c = search needs
+shared-slice-read-t27 : tie.Need-shared-slice-read-t27
+shared-slice-read-t27 c = search needs
 
-count-in-requires-3 : tie.Need-count-in-requires-3
-count-in-requires-3 c κs = search needs
+cast-t29 : tie.Need-cast-t29
+cast-t29 c = search needs
 
-shared-slice-read-count-in-4 : tie.Need-shared-slice-read-count-in-4
-shared-slice-read-count-in-4 c = search needs
-
-count-in-requires-4 : tie.Need-count-in-requires-4
-count-in-requires-4 c κs = search needs
+shared-slice-read-t31 : tie.Need-shared-slice-read-t31
+shared-slice-read-t31 c = search needs
 
 shared-slice-read-t34 : tie.Need-shared-slice-read-t34
 shared-slice-read-t34 c = search needs
 
-shared-slice-read-count-in-5 : tie.Need-shared-slice-read-count-in-5
-shared-slice-read-count-in-5 c = search needs
+cast-t36 : tie.Need-cast-t36
+cast-t36 c = search needs
 
-count-in-requires-5 : tie.Need-count-in-requires-5
-count-in-requires-5 c κs = search needs
+shared-slice-read-t38 : tie.Need-shared-slice-read-t38
+shared-slice-read-t38 c = search needs
+
+shared-slice-read-t41 : tie.Need-shared-slice-read-t41
+shared-slice-read-t41 c = search needs
+
+shared-slice-read-t44 : tie.Need-shared-slice-read-t44
+shared-slice-read-t44 c = search needs
+
+shared-slice-read-t46 : tie.Need-shared-slice-read-t46
+shared-slice-read-t46 c = search needs
 
 returns : tie.Need-returns
-returns c = read-of (c .before .before .before .before .before .before .before .before .before .before .before .before .before .before .before .before .before .before .before .before .before .before .before .before .before .before .args .image .now) (c .before .before .before .before .before .before .before .before .before .before .before .before .before .before .before .before .before .before .before .before .before .before .before .before .byte-at .ensures) (c .before .before .before .before .before .before .before .before .before .before .before .before .before .before .before .before .before .before .before .before .before .before .before .byte-at2 .ensures) (c .before .before .before .before .before .before .before .before .before .before .before .before .before .before .before .before .before .before .before .before .before .before .byte-at3 .ensures) (c .before .before .before .before .before .before .before .before .before .before .before .before .before .before .before .before .before .before .before .before .before .byte-at4 .ensures) (c .before .before .before .before .before .before .before .before .before .before .before .before .before .before .before .before .before .before .before .before .list-in .ensures) (c .before .before .before .before .before .before .before .before .before .before .before .before .before .before .before .before .before .before .before .endpoints-in .ensures) (c .before .before .before .before .before .before .before .before .before .before .before .before .before .before .before .before .before .before .owners-in .ensures) (c .before .before .before .before .before .before .before .before .before .before .before .before .before .before .before .before .before .settings-in .ensures) (c .before .before .before .before .before .before .before .before .before .before .before .before .before .before .before .before .settings-in2 .ensures) (c .before .before .before .before .before .before .before .before .before .before .before .before .before .before .handle-in .ensures) (c .before .before .before .before .before .before .before .before .before .before .before .before .before .quarantined-in .ensures) (c .before .before .before .before .before .before .before .before .before .before .count-in .ensures) (c .before .before .before .before .before .before .before .count-in2 .ensures) (c .before .before .before .before .before .count-in3 .ensures) (c .before .before .before .count-in4 .ensures) (c .count-in5 .ensures)
+returns c =
+    let last = c .before .before .before .before .before .before .before .before .before .before .before in
+    let alternates = last .before .before .before in
+    let endpoints = alternates .before .before .before .before in
+    let list = endpoints .before in
+    read-of (list .before .before .args .image .now) (list .list-in .ensures) (endpoints .endpoints-in .ensures)
+    (alternates .before .settings-in .ensures) (alternates .settings-in2 .ensures) (last .before .handle-in .ensures)
+    (last .quarantined-in .ensures)
 
 pub read-spec : {M : Type 1} → statement M
 read-spec =
     tie.close
     (tie.spec
-    byte-at-requires
-    byte-at-requires-2
-    byte-at-requires-3
-    byte-at-requires-4
     list-in-requires
     endpoints-in-requires
-    owners-in-requires
     settings-in-requires
     settings-in-requires-2
     shared-slice-read-handle-in
     handle-in-requires
     quarantined-in-requires
-    shared-slice-read-t14
-    shared-slice-read-count-in
-    count-in-requires
-    shared-slice-read-t22
-    shared-slice-read-count-in-2
-    count-in-requires-2
-    shared-slice-read-count-in-3
-    count-in-requires-3
-    shared-slice-read-count-in-4
-    count-in-requires-4
+    shared-slice-read-t11
+    shared-slice-read-t15
+    cast-t17
+    shared-slice-read-t20
+    cast-t22
+    shared-slice-read-t24
+    shared-slice-read-t27
+    cast-t29
+    shared-slice-read-t31
     shared-slice-read-t34
-    shared-slice-read-count-in-5
-    count-in-requires-5
+    cast-t36
+    shared-slice-read-t38
+    shared-slice-read-t41
+    shared-slice-read-t44
+    shared-slice-read-t46
     returns)

@@ -1,7 +1,7 @@
+use borrow.Author.Needs.{needs}
 use Prim.Native.Nat.{_≤_, _-_, _+_}
 use mathlib.Core.Path.{refl}
 use lib.ListN.{length}
-use borrow.Author.Needs.{needs}
 use Rattle.image.specs.Image.{byteAt}
 use Rattle.image.proofs.Steps.{Read, read-none, read-next, read-done}
 use Rattle.image.proofs.reading.settings_in.Statement.{statement}
@@ -17,11 +17,17 @@ abbrev μ-loop : tie.MeasureT-loop
 loop-holds : tie.Need-loop-holds Inv-loop μ-loop
 loop-holds c = (search needs, search needs, read-none _ _ _ _ refl)
 
-add-byte-at : tie.Need-add-byte-at Inv-loop μ-loop
-add-byte-at c = search needs
+add-numbers : tie.Need-add-numbers Inv-loop μ-loop
+add-numbers c = search needs
 
-byte-at-requires : tie.Need-byte-at-requires Inv-loop μ-loop
-byte-at-requires c κs = search needs
+mul-numbers : tie.Need-mul-numbers Inv-loop μ-loop
+mul-numbers c = search needs
+
+shared-slice-read-numbers : tie.Need-shared-slice-read-numbers Inv-loop μ-loop
+shared-slice-read-numbers c = search needs
+
+cast-numbers : tie.Need-cast-numbers Inv-loop μ-loop
+cast-numbers c = search needs
 
 array-write-numbers : tie.Need-array-write-numbers Inv-loop μ-loop
 array-write-numbers c = search needs
@@ -33,7 +39,8 @@ loop-less : tie.Need-loop-less Inv-loop μ-loop
 loop-less c = search needs
 
 loop-again : tie.Need-loop-again Inv-loop μ-loop
-loop-again c = (search needs, search needs, read-next _ (c .before .before .loop .inv .2) (c .before .loop-test .taken) (c .byte-at .ensures))
+unfolding byteAt
+loop-again c = (search needs, search needs, read-next _ (c .before .before .loop .inv .2) (c .before .loop-test .taken) refl)
 
 returns : tie.Need-returns Inv-loop μ-loop
 returns c = read-done (c .before .loop .inv .2) (c .loop-test .left) (c .before .loop .inv .1)
@@ -45,8 +52,10 @@ settings-in-spec =
     Inv-loop
     μ-loop
     loop-holds
-    add-byte-at
-    byte-at-requires
+    add-numbers
+    mul-numbers
+    shared-slice-read-numbers
+    cast-numbers
     array-write-numbers
     add-i
     loop-less

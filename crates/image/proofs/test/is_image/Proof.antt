@@ -20,14 +20,21 @@ all-below-requires-2 c κs = search needs
 
 returns-3 : tie.Need-returns-3
 unfolding isImage
-returns-3 c = rw (eq-eqb _ _ (c .before .before .before .before .if1 .left), ← c .before .before .before .all-below .ensures, not-false (c .before .before .before .all-below .result) (c .before .before .if2 .left), ← c .before .all-below2 .ensures, not-true (c .before .all-below2 .result) (c .if3 .taken))
+returns-3 c =
+    let second = c .before in
+    let first = second .before .before in
+    rw (eq-eqb _ _ (first .before .if1 .left), ← first .all-below .ensures, not-false (first .all-below .result) (second .before .if2 .left), ← second .all-below2 .ensures, not-true (second .all-below2 .result) (c .if3 .taken))
 
 all-below-requires-3 : tie.Need-all-below-requires-3
 all-below-requires-3 c κs = search needs
 
 returns-4 : tie.Need-returns-4
 unfolding isImage
-returns-4 c = rw (eq-eqb _ _ (c .before .before .before .before .before .if1 .left), ← c .before .before .before .before .all-below .ensures, not-false (c .before .before .before .before .all-below .result) (c .before .before .before .if2 .left), ← c .before .before .all-below2 .ensures, not-false (c .before .before .all-below2 .result) (c .before .if3 .left)) (c .all-below3 .ensures)
+returns-4 c =
+    let second = c .before .before in
+    let first = second .before .before in
+    rw (eq-eqb _ _ (first .before .if1 .left), ← first .all-below .ensures, not-false (first .all-below .result) (second .before .if2 .left), ← second .all-below2 .ensures, not-false (second .all-below2 .result) (c .before .if3 .left))
+    (c .all-below3 .ensures)
 
 pub is-image-spec : {M : Type 1} → statement M
 is-image-spec =

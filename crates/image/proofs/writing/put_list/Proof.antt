@@ -1,37 +1,37 @@
-use Rattle.image.proofs.Steps.{Low, low-none, low-next, low-done}
-use Prim.Native.Nat.{_≤_, _-_}
-use mathlib.Core.Path.{_≡_}
-use native.Mathlib.Omega.{arith}
-use lib.ListN.{length}
 use borrow.Author.Needs.{needs}
-use Rattle.image.proofs.Steps.{Put, put-none, put-next, put-done}
+use Prim.Native.Nat.{_≤_, _-_}
+use mathlib.Core.Path.{_≡_, sym, _∙_}
+use lib.ListN.{length}
+use lib.Seq.{sets}
+use native.Mathlib.Omega.{arith}
+use Rattle.image.proofs.Steps.{rest, rest-none, rest-next, rest-all}
 use Rattle.image.proofs.writing.put_list.Statement.{statement}
 use Rattle.image.proofs.writing.put_list.Tie as tie
 
 abbrev Inv-loop : tie.InvT-loop
 Inv-loop image₀ list i₀ image i =
-    (length image₀ ≡ 514) × (length list ≡ 256) × (i ≤ 256) × Put 161 image₀ list i image × Low 4294967296 list i
+    (length image₀ ≡ 514) × (length image ≡ 514) × (length list ≡ 256) × (i ≤ 256) × (sets image₀ 161 list ≡ rest 161 list i image)
 
 abbrev μ-loop : tie.MeasureT-loop
 μ-loop image₀ list i₀ image i = 256 - i
 
 loop-holds : tie.Need-loop-holds Inv-loop μ-loop
-loop-holds c = (search needs, search needs, search needs, put-none _ _ _, low-none _ _)
+loop-holds c = (search needs, search needs, search needs, search needs, rest-none _ _ _)
 
-mul-wide-word : tie.Need-mul-wide-word Inv-loop μ-loop
-mul-wide-word c = search needs
+mul-image : tie.Need-mul-image Inv-loop μ-loop
+mul-image c = search needs
 
-array-read-wide-word : tie.Need-array-read-wide-word Inv-loop μ-loop
-array-read-wide-word c = search needs
+array-read-image : tie.Need-array-read-image Inv-loop μ-loop
+array-read-image c = search needs
 
-wide-word-requires : tie.Need-wide-word-requires Inv-loop μ-loop
-wide-word-requires c κs = search needs
+cast-image : tie.Need-cast-image Inv-loop μ-loop
+cast-image c = search needs
 
 add-image : tie.Need-add-image Inv-loop μ-loop
 add-image c = search needs
 
-mul-image : tie.Need-mul-image Inv-loop μ-loop
-mul-image c = search needs
+mul-image-2 : tie.Need-mul-image-2 Inv-loop μ-loop
+mul-image-2 c = search needs
 
 slice-write-image : tie.Need-slice-write-image Inv-loop μ-loop
 slice-write-image c = search needs
@@ -43,13 +43,21 @@ loop-less : tie.Need-loop-less Inv-loop μ-loop
 loop-less c = search needs
 
 loop-again : tie.Need-loop-again Inv-loop μ-loop
-loop-again c = (search needs, search needs, search needs, put-next _ (c .before .before .loop .inv .3) (omega (arith, c .before .before .loop .inv .1, c .before .loop-test .taken)) (omega (arith, c .before .before .loop .inv .0, c .before .loop-test .taken)) (c .wide-word .ensures .0), low-next _ (c .before .before .loop .inv .4) (c .wide-word .ensures .0) (c .wide-word .ensures .1))
+loop-again c =
+    let turn = c .before .loop .inv in (
+      search needs,
+      search needs,
+      search needs,
+      search needs,
+      turn .4 ∙ rest-next _ _ _ _ (omega (arith, turn .2, c .loop-test .taken)),
+    )
 
 same-length : tie.Need-same-length Inv-loop μ-loop
-same-length c = c .before .loop .inv .3 .size
+same-length c = omega (arith, c .before .loop .inv .0, c .before .loop .inv .1)
 
 returns : tie.Need-returns Inv-loop μ-loop
-returns c = (put-done (c .before .loop .inv .3) (c .before .loop .inv .1) (c .loop-test .left) (c .before .loop .inv .2), c .before .loop .inv .1, low-done _ (c .before .loop .inv .4) (c .before .loop .inv .1) (c .loop-test .left))
+returns c =
+    let turn = c .before .loop .inv in sym (turn .4 ∙ rest-all _ _ _ _ (omega (arith, turn .2, c .loop-test .left)))
 
 pub put-list-spec : {M : Type 1} → statement M
 put-list-spec =
@@ -58,11 +66,11 @@ put-list-spec =
     Inv-loop
     μ-loop
     loop-holds
-    mul-wide-word
-    array-read-wide-word
-    wide-word-requires
-    add-image
     mul-image
+    array-read-image
+    cast-image
+    add-image
+    mul-image-2
     slice-write-image
     add-i
     loop-less

@@ -1,21 +1,22 @@
-use Prim.Native.Nat.{_≤_, _-_}
-use mathlib.Core.Path.{_≡_, refl}
-use native.Mathlib.Omega.{arith}
-use lib.ListN.{length}
 use borrow.Author.Needs.{needs}
-use Rattle.image.proofs.Steps.{Put, put-none, put-next, put-done}
+use Prim.Native.Nat.{_≤_, _-_}
+use mathlib.Core.Path.{_≡_, sym, _∙_}
+use lib.ListN.{length}
+use lib.Seq.{sets}
+use native.Mathlib.Omega.{arith}
+use Rattle.image.proofs.Steps.{rest, rest-none, rest-next, rest-all}
 use Rattle.image.proofs.writing.put_quarantined.Statement.{statement}
 use Rattle.image.proofs.writing.put_quarantined.Tie as tie
 
 abbrev Inv-loop : tie.InvT-loop
 Inv-loop image₀ rings i₀ image i =
-    (length image₀ ≡ 514) × (length rings ≡ 61) × (i ≤ 61) × Put 453 image₀ rings i image
+    (length image₀ ≡ 514) × (length image ≡ 514) × (length rings ≡ 61) × (i ≤ 61) × (sets image₀ 453 rings ≡ rest 453 rings i image)
 
 abbrev μ-loop : tie.MeasureT-loop
 μ-loop image₀ rings i₀ image i = 61 - i
 
 loop-holds : tie.Need-loop-holds Inv-loop μ-loop
-loop-holds c = (search needs, search needs, search needs, put-none _ _ _)
+loop-holds c = (search needs, search needs, search needs, search needs, rest-none _ _ _)
 
 mul-image : tie.Need-mul-image Inv-loop μ-loop
 mul-image c = search needs
@@ -39,13 +40,21 @@ loop-less : tie.Need-loop-less Inv-loop μ-loop
 loop-less c = search needs
 
 loop-again : tie.Need-loop-again Inv-loop μ-loop
-loop-again c = (search needs, search needs, search needs, put-next _ (c .before .loop .inv .3) (omega (arith, c .before .loop .inv .1, c .loop-test .taken)) (omega (arith, c .before .loop .inv .0, c .loop-test .taken)) refl)
+loop-again c =
+    let turn = c .before .loop .inv in (
+      search needs,
+      search needs,
+      search needs,
+      search needs,
+      turn .4 ∙ rest-next _ _ _ _ (omega (arith, turn .2, c .loop-test .taken)),
+    )
 
 same-length : tie.Need-same-length Inv-loop μ-loop
-same-length c = c .before .loop .inv .3 .size
+same-length c = omega (arith, c .before .loop .inv .0, c .before .loop .inv .1)
 
 returns : tie.Need-returns Inv-loop μ-loop
-returns c = (put-done (c .before .loop .inv .3) (c .before .loop .inv .1) (c .loop-test .left) (c .before .loop .inv .2), c .before .loop .inv .1)
+returns c =
+    let turn = c .before .loop .inv in sym (turn .4 ∙ rest-all _ _ _ _ (omega (arith, turn .2, c .loop-test .left)))
 
 pub put-quarantined-spec : {M : Type 1} → statement M
 put-quarantined-spec =
