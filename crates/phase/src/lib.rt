@@ -26,27 +26,14 @@ pub struct Ended {
     pub moved: bool,
 }
 
-fn stop_first(log: &mut [u32], outcomes: &[u8], n: usize, dcis: [u8; 30], count: usize) -> Swept
-    requires { ⌜ (count ≤ 30) × (n + 2 * count ≤ length (now log)) ⌝ }
-    ensures { λ r. ⌜ ((ctx : List ℕ) → SweptAs r (now (log .exit)) (played (now (outcomes .entry)) n (stopAll ctx (take count dcis)) (now (log .entry)))) ⌝ }
-{
-    command::stop_all(log, outcomes, n, &dcis[0..count])
-}
-
 // Stops the endpoints of some queues.
 pub fn stop_queues(log: &mut [u32], outcomes: &[u8], n: usize, q: Queues) -> Swept
     requires { ⌜ (q .count ≤ 30) × (n + 2 * q .count ≤ length (now log)) ⌝ }
     ensures { λ r. ⌜ ((ctx : List ℕ) → SweptAs r (now (log .exit)) (played (now (outcomes .entry)) n (stopAll ctx (dcisIn q)) (now (log .entry)))) ⌝ }
 {
     let dcis = q.dcis;
-    stop_first(log, outcomes, n, dcis, q.count)
-}
-
-fn resume_first(log: &mut [u32], outcomes: &[u8], n: usize, dcis: [u8; 30], count: usize) -> Swept
-    requires { ⌜ (count ≤ 30) × (n + count ≤ length (now log)) ⌝ }
-    ensures { λ r. ⌜ ((ctx : List ℕ) → SweptAs r (now (log .exit)) (played (now (outcomes .entry)) n (resumeAll ctx (take count dcis)) (now (log .entry)))) ⌝ }
-{
-    command::resume_all(log, outcomes, n, &dcis[0..count])
+    let count = q.count;
+    command::stop_all(log, outcomes, n, &dcis[0..count])
 }
 
 // Resumes the endpoints of some queues.
@@ -55,30 +42,8 @@ pub fn resume_queues(log: &mut [u32], outcomes: &[u8], n: usize, q: Queues) -> S
     ensures { λ r. ⌜ ((ctx : List ℕ) → SweptAs r (now (log .exit)) (played (now (outcomes .entry)) n (resumeAll ctx (dcisIn q)) (now (log .entry)))) ⌝ }
 {
     let dcis = q.dcis;
-    resume_first(log, outcomes, n, dcis, q.count)
-}
-
-fn replace_first(
-    routes: &mut [u64],
-    slot: SlotId,
-    old_dcis: [u8; 30],
-    old_rings: [u64; 30],
-    old_count: usize,
-    new_dcis: [u8; 30],
-    new_rings: [u64; 30],
-    new_count: usize,
-) -> Replaced
-    requires { ⌜ («old_count» ≤ 30) × («new_count» ≤ 30) ⌝ }
-    ensures { λ r. ⌜ (r ≡ replaced (now (routes .entry)) (slot .0) (queues (take «old_count» «old_dcis») (take «old_count» «old_rings»)) (queues (take «new_count» «new_dcis») (take «new_count» «new_rings»))) × (now (routes .exit) ≡ withReplaced (now (routes .entry)) (slot .0) (queues (take «old_count» «old_dcis») (take «old_count» «old_rings»)) (queues (take «new_count» «new_dcis») (take «new_count» «new_rings»))) ⌝ }
-{
-    transfer::replace_queues(
-        routes,
-        slot,
-        &old_dcis[0..old_count],
-        &old_rings[0..old_count],
-        &new_dcis[0..new_count],
-        &new_rings[0..new_count],
-    )
+    let count = q.count;
+    command::resume_all(log, outcomes, n, &dcis[0..count])
 }
 
 // Takes the routes of some queues out and puts those of others in.
@@ -93,17 +58,17 @@ pub fn publish_endpoint_routes(
 {
     let old_dcis = old.dcis;
     let old_rings = old.rings;
+    let old_count = old.count;
     let new_dcis = new.dcis;
     let new_rings = new.rings;
-    replace_first(
+    let new_count = new.count;
+    transfer::replace_queues(
         routes,
         slot,
-        old_dcis,
-        old_rings,
-        old.count,
-        new_dcis,
-        new_rings,
-        new.count,
+        &old_dcis[0..old_count],
+        &old_rings[0..old_count],
+        &new_dcis[0..new_count],
+        &new_rings[0..new_count],
     )
 }
 
@@ -115,38 +80,6 @@ pub fn no_queues() -> Queues
         rings: [0; 30],
         count: 0,
     }
-}
-
-fn prepare_first(
-    ctx: &mut [u8],
-    spacing: usize,
-    speed: u8,
-    interface: u8,
-    alternate: u8,
-    dropped: &[u32],
-    added: &[u32],
-    dcis: [u8; 30],
-    rings: [u64; 30],
-    count: usize,
-    all: [u8; 30],
-    all_count: usize,
-)
-    requires { ⌜ Spaced spacing (length (now ctx)) ⌝ }
-    requires { ⌜ (count ≤ 30) × («all_count» ≤ 30) × (highestDci (take «all_count» all) < 255) ⌝ }
-    ensures { λ r. ⌜ now (ctx .exit) ≡ written spacing (configureWrites speed interface alternate (now (dropped .entry)) (now (added .entry)) (queues (take count dcis) (take count rings)) (take «all_count» all)) (now (ctx .entry)) ⌝ }
-{
-    configure_context::prepare_configure_context(
-        ctx,
-        spacing,
-        speed,
-        interface,
-        alternate,
-        dropped,
-        added,
-        &dcis[0..count],
-        &rings[0..count],
-        &all[0..all_count],
-    );
 }
 
 // The context of a Configure, with the rings of some queues for the added words; `all` are the record's endpoints.
@@ -167,8 +100,10 @@ pub fn prepare_configure(
 {
     let dcis = q.dcis;
     let rings = q.rings;
-    let d = all.dcis;
-    prepare_first(
+    let count = q.count;
+    let endpoints = all.dcis;
+    let endpoint_count = all.count;
+    configure_context::prepare_configure_context(
         ctx,
         spacing,
         speed,
@@ -176,11 +111,9 @@ pub fn prepare_configure(
         alternate,
         dropped,
         added,
-        dcis,
-        rings,
-        q.count,
-        d,
-        all.count,
+        &dcis[0..count],
+        &rings[0..count],
+        &endpoints[0..endpoint_count],
     );
 }
 
