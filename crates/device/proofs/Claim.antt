@@ -6,6 +6,7 @@ use mathlib.Core.List.{List, []}
 use borrow.Author.Tests.{eq-eqb, ne-eqb}
 use lib.ListN.{length}
 use Rattle.answer.specs.declared.Answer.{Answer}
+use Rattle.answer.specs.declared.Check.{Check}
 use Rattle.answer.specs.declared.Check.the-variants.{Pass}
 use Rattle.answer.specs.Answer.{number}
 use Rattle.configuration.specs.Lookup.{findEndpoints}
@@ -22,11 +23,13 @@ use Rattle.phase.proofs.Laws.{queues-as, room-as}
 use Rattle.claim.specs.declared.ClaimArgs.{ClaimArgs}
 use Rattle.claim.specs.Claim.{claimOf, claimCourse}
 use Rattle.device.specs.declared.record.Device.{Device}
+use Rattle.device.specs.declared.record.Called.{Called}
 use Rattle.device.specs.Device.{listOf, cellsIn, heldOf, quarantinedOf, withCells, withHeld, withQuarantined}
 use Rattle.device.specs.Sound.{countsFit}
 use Rattle.device.specs.Left.{leaves, ended}
 use Rattle.device.specs.Check.{recordCheck}
-use Rattle.device.specs.Claim.{claimCheck, pendingOf, claimIn, ClaimAs, quarantines, claimRecord}
+use Rattle.device.specs.Calls.{onCheck}
+use Rattle.device.specs.Claim.{claimCheck, pendingOf, claimIn, ClaimAs, quarantines, claimRecord, claim}
 use Rattle.device.proofs.Counts.{sound-counts}
 use Rattle.device.proofs.Facts.{none-quarantined}
 use Rattle.device.proofs.Laws.{pass-if, passed}
@@ -119,3 +122,13 @@ module _ (d : Device) (i alt : ℕ) (rings : List ℕ) where
   unfolding ended
   claim-left a c by o ctx routes log ctx′ routes′ log′ x made e p s run m =
       rw (← claim-of a c by e p s, ← run, m)
+
+  -- and so is what the whole call leaves
+  pub claim-done :
+      (x : Check) (o ctx routes log ctx′ routes′ log′ : List ℕ) (r : Called) →
+      x ≡ recordCheck d (length ctx) (length routes) (length log) (claimCheck d i alt rings) → x ≡ Pass →
+      leaves r ctx′ routes′ log′
+      ≡ ended (claimRecord d i alt rings) (played o 0 (claimCourse (claimIn d i alt rings) ctx routes) log) →
+      leaves r ctx′ routes′ log′ ≡ claim d ctx routes log o i alt rings
+  unfolding claim onCheck
+  claim-done x o ctx routes log ctx′ routes′ log′ r k p m = m ∙ sym (rw (← k, p))

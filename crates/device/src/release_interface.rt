@@ -11,18 +11,16 @@ use release::ReleaseArgs;
 ghost use mathlib.Core.Path.{_≡_};
 ghost use mathlib.Core.Bool.{true};
 ghost use mathlib.Core.List.{List, []};
-ghost use Prim.Native.Nat.{ℕ, _≤_};
-ghost use lib.ListN.{length, replicate};
-ghost use Rattle.command.specs.Course.{played};
-ghost use Rattle.context.specs.Place.{Spaced};
+ghost use Prim.Native.Nat.{ℕ};
+ghost use lib.ListN.{replicate};
 ghost use Rattle.endpoint.specs.Order.{PLACES};
 ghost use Rattle.endpoint.specs.declared.cells.Owner.the-variants.{Interface};
 ghost use Rattle.endpoint.specs.Cells.{ownedRings, claimedCells, QueuesAs};
 ghost use Rattle.phase.specs.Arrays as arrays;
 ghost use Rattle.settings.specs.Held.{settingWords, withoutSetting};
-ghost use Rattle.release.specs.Release.{releaseOf, releaseCourse};
+ghost use Rattle.release.specs.Release.{releaseOf};
 ghost use Rattle.device.specs.Device.{listOf, cellsIn, heldOf, withCells, withHeld};
-ghost use Rattle.device.specs.Left.{leaves, ended};
+ghost use Rattle.device.specs.Left.{leaves};
 ghost use Rattle.device.specs.Sound.{countsFit};
 ghost use Rattle.device.specs.Check.{recordCheck};
 ghost use Rattle.device.specs.Release.{releaseCheck, releaseIn, releaseRecord, release};
@@ -94,31 +92,6 @@ fn release_record(mut d: Device, c: Cells, e: Ended, interface: u8) -> Device
     update::marked(d, answer)
 }
 
-// What is done where the checks have passed.
-fn release_run(
-    mut d: Device,
-    ctx: &mut [u8],
-    routes: &mut [u64],
-    log: &mut [u32],
-    outcomes: &[u8],
-    interface: u8,
-) -> Called
-    requires { ⌜ (countsFit d ≡ true) × Spaced (d .spacing) (length (now ctx)) × (64 ≤ length (now log)) ⌝ }
-    ensures { λ r. ⌜ leaves r (now (ctx .exit)) (now (routes .exit)) (now (log .exit)) ≡ ended (releaseRecord d interface) (played (now (outcomes .entry)) 0 (releaseCourse (releaseIn d interface) (now (ctx .entry)) (now (routes .entry))) (now (log .entry))) ⌝ }
-{
-    let c = cells::cells_in(d);
-    let a = release_args(d, c, interface);
-    let list = d.list;
-    let e = release::release_interface(ctx, routes, log, outcomes, a, list, d.list_len);
-    let answer = e.answer;
-    d = release_record(d, c, e, interface);
-    Called {
-        device: d,
-        answer: answer,
-        count: e.count,
-    }
-}
-
 impl Device {
     // The interface's endpoints are stopped and dropped, its setting is no longer held.
     pub fn release(
@@ -142,6 +115,16 @@ impl Device {
             }
             Check::Pass => {}
         }
-        release_run(self, ctx, routes, log, outcomes, interface)
+        let c = cells::cells_in(self);
+        let args = release_args(self, c, interface);
+        let list = self.list;
+        let e = release::release_interface(ctx, routes, log, outcomes, args, list, self.list_len);
+        let answer = e.answer;
+        self = release_record(self, c, e, interface);
+        Called {
+            device: self,
+            answer: answer,
+            count: e.count,
+        }
     }
 }

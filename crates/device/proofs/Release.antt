@@ -1,0 +1,53 @@
+-- What a release whose checks have passed may rely on, and what it leaves.
+use Prim.Native.Nat.{ℕ, _≤_}
+use mathlib.Core.Path.{_≡_, sym, _∙_}
+use mathlib.Core.Bool.{true}
+use mathlib.Core.List.{List, []}
+use lib.ListN.{length, take}
+use Rattle.answer.specs.declared.Check.{Check}
+use Rattle.answer.specs.declared.Check.the-variants.{Pass}
+use Rattle.command.specs.Course.{played}
+use Rattle.endpoint.specs.declared.cells.Owner.the-variants.{Interface}
+use Rattle.endpoint.specs.Cells.{ownedRings, QueuesAs}
+use Rattle.settings.specs.Held.{settingWords}
+use Rattle.phase.specs.declared.Ended.{Ended}
+use Rattle.phase.specs.Arrays as arrays
+use Rattle.phase.proofs.Laws.{room-as}
+use Rattle.release.specs.declared.ReleaseArgs.{ReleaseArgs}
+use Rattle.release.specs.Release.{releaseOf, releaseCourse}
+use Rattle.device.specs.declared.record.Device.{Device}
+use Rattle.device.specs.Device.{listOf, cellsIn}
+use Rattle.device.specs.Sound.{countsFit}
+use Rattle.device.specs.Left.{leaves, ended}
+use Rattle.device.specs.Check.{recordCheck}
+use Rattle.device.specs.Calls.{onCheck}
+use Rattle.device.specs.Release.{releaseCheck, releaseIn, releaseRecord, release}
+use Rattle.device.proofs.Counts.{sound-counts}
+use Rattle.device.proofs.Laws.{passed}
+
+module _ (d : Device) (i : ℕ) (x : Check) where
+  -- the counts of a record that passed
+  pub release-counts : (ctx routes log : ℕ) → x ≡ recordCheck d ctx routes log (releaseCheck d i) → x ≡ Pass → countsFit d ≡ true
+  release-counts ctx routes log k p = sound-counts d (passed d ctx routes log (releaseCheck d i) (sym k ∙ p) .0 .is-sound)
+
+  module _ (a : ReleaseArgs)
+      (s : (releaseOf a (settingWords (listOf d) (a .interface) (a .alternate)) ≡ releaseIn d i) × (a .spacing ≡ d .spacing)
+      × QueuesAs (a .old) (ownedRings (Interface i) (cellsIn d)) × QueuesAs (a .all) ((cellsIn d) .rings)) where
+    -- what its course asks
+    pub release-room : (ctx routes log : ℕ) → x ≡ recordCheck d ctx routes log (releaseCheck d i) → x ≡ Pass →
+        arrays.Room (a .spacing) ctx (a .old) (a .all) × ((64 ≤ log) × (d .«list_len» ≤ 256))
+    release-room ctx routes log k p =
+        let f = passed d ctx routes log (releaseCheck d i) (sym k ∙ p) .0 in
+        (rw (s .1) (room-as (d .spacing) ctx (a .old) (a .all) _ _ (f .spaced) (s .2) (s .3)), (f .room, f .facts .counts .list))
+
+    -- what it leaves is what the end of its course makes
+    pub release-left :
+        (o ctx routes log ctx′ routes′ log′ : List ℕ) (e : Ended) (made : Device) →
+        x ≡ recordCheck d (length ctx) (length routes) (length log) (releaseCheck d i) → x ≡ Pass →
+        arrays.leaves e ctx′ routes′ log′
+        ≡ played o 0 (releaseCourse (releaseOf a (settingWords (take (d .«list_len») (d .list)) (a .interface) (a .alternate))) ctx routes)
+        log →
+        made ≡ releaseRecord d i (arrays.leaves e ctx′ routes′ [] .end) →
+        leaves (record { device = made; answer = e .answer; count = e .count }) ctx′ routes′ log′ ≡ release d ctx routes log o i
+    unfolding release onCheck ended listOf
+    release-left o ctx routes log ctx′ routes′ log′ e made k p run m = sym (rw (← k, p, ← s .0, ← run, ← m))
