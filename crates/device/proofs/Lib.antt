@@ -1,5 +1,6 @@
 pub mod Claim
 pub mod Counts
+pub mod Ends
 pub mod Exits
 pub mod Facts
 pub mod Kept

@@ -1,24 +1,26 @@
 -- What a release whose checks have passed may rely on, and what it leaves.
 use Prim.Native.Nat.{ℕ, _≤_}
 use mathlib.Core.Path.{_≡_, sym, _∙_}
-use mathlib.Core.Bool.{true}
+use mathlib.Core.Bool.{true, cond}
 use mathlib.Core.List.{List, []}
-use lib.ListN.{length, take}
+use lib.ListN.{length, take, replicate}
 use Rattle.answer.specs.declared.Check.{Check}
 use Rattle.answer.specs.declared.Check.the-variants.{Pass}
 use Rattle.command.specs.Course.{played}
 use Rattle.endpoint.specs.declared.cells.Owner.the-variants.{Interface}
-use Rattle.endpoint.specs.Cells.{ownedRings, QueuesAs}
-use Rattle.settings.specs.Held.{settingWords}
+use Rattle.endpoint.specs.Order.{PLACES}
+use Rattle.endpoint.specs.declared.cells.Cells.{Cells}
+use Rattle.endpoint.specs.Cells.{ownedRings, claimedCells, withActive, QueuesAs}
+use Rattle.settings.specs.Held.{settingWords, withoutSetting}
 use Rattle.phase.specs.declared.Ended.{Ended}
 use Rattle.phase.specs.Arrays as arrays
 use Rattle.phase.proofs.Laws.{room-as}
 use Rattle.release.specs.declared.ReleaseArgs.{ReleaseArgs}
 use Rattle.release.specs.Release.{releaseOf, releaseCourse}
 use Rattle.device.specs.declared.record.Device.{Device}
-use Rattle.device.specs.Device.{listOf, cellsIn}
+use Rattle.device.specs.Device.{listOf, cellsIn, heldOf, withCells, withHeld}
 use Rattle.device.specs.Sound.{countsFit}
-use Rattle.device.specs.Left.{leaves, ended}
+use Rattle.device.specs.Left.{leaves, marked, ended}
 use Rattle.device.specs.Check.{recordCheck}
 use Rattle.device.specs.Calls.{onCheck}
 use Rattle.device.specs.Release.{releaseCheck, releaseIn, releaseRecord, release}
@@ -51,3 +53,11 @@ module _ (d : Device) (i : ℕ) (x : Check) where
         leaves (record { device = made; answer = e .answer; count = e .count }) ctx′ routes′ log′ ≡ release d ctx routes log o i
     unfolding release onCheck ended listOf
     release-left o ctx routes log ctx′ routes′ log′ e made k p run m = sym (rw (← k, p, ← s .0, ← run, ← m))
+
+-- the record that the end of its course makes, step by step
+pub release-made :
+    (d x r : Device) (i : ℕ) (c m : Cells) (e : Ended) → m ≡ claimedCells i (replicate PLACES 0) c →
+    x ≡ cond (e .moved) (withHeld (withoutSetting i (heldOf d)) (withCells m d)) (withCells (withActive (Interface i) (e .active) c) d) →
+    r ≡ marked (e .answer) x → c ≡ cellsIn d → (ctx routes : List ℕ) → r ≡ releaseRecord d i (arrays.leaves e ctx routes [] .end)
+unfolding releaseRecord
+release-made d x r i c m e p ex er k ctx routes = er ∙ rw (ex, p, k)

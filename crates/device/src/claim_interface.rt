@@ -3,7 +3,6 @@ use super::cells;
 use super::record::Called;
 use super::record::Device;
 use super::update;
-use answer::Answer;
 use answer::Check;
 use claim::ClaimArgs;
 use endpoint::Cells;
@@ -11,18 +10,17 @@ use endpoint::Owner;
 use endpoint::Queues;
 use phase::Ended;
 ghost use mathlib.Core.Path.{_≡_};
-ghost use mathlib.Core.Bool.{true};
+ghost use mathlib.Core.Bool.{true, cond};
 ghost use mathlib.Core.List.{List, []};
 ghost use Prim.Native.Nat.{ℕ, _≤_};
 ghost use lib.ListN.{length, take};
 ghost use Rattle.answer.specs.declared.Check.the-variants.{Pass};
 ghost use Rattle.command.specs.Course.{played};
-ghost use Rattle.endpoint.specs.declared.cells.Owner.the-variants.{Interface};
-ghost use Rattle.endpoint.specs.Cells.{claimedCells, withActive, QueuesAs};
+ghost use Rattle.endpoint.specs.Cells.{QueuesAs};
 ghost use Rattle.settings.specs.Held.{withSetting};
 ghost use Rattle.phase.specs.Arrays as arrays;
 ghost use Rattle.claim.specs.Claim.{claimCourse};
-ghost use Rattle.device.specs.Device.{cellsIn, heldOf, quarantinedOf, withCells, withHeld, withQuarantined};
+ghost use Rattle.device.specs.Device.{cellsIn, heldOf, quarantinedOf};
 ghost use Rattle.device.specs.Sound.{countsFit};
 ghost use Rattle.device.specs.Left.{leaves, ended};
 ghost use Rattle.device.specs.Check.{recordCheck};
@@ -90,46 +88,21 @@ fn claim_args(d: Device, c: Cells, interface: u8, alternate: u8, pending: [u64; 
     }
 }
 
-fn with_quarantined(mut d: Device, q: Queues) -> Device
+// Where the settings did not move, 14 puts the pending rings in quarantine.
+fn with_quarantined(mut d: Device, e: Ended, q: Queues) -> Device
     requires { ⌜ (quarantinedOf d ≡ []) × (q .count ≤ 30) ⌝ }
-    ensures { λ r. ⌜ r ≡ withQuarantined (take (q .count) (q .rings)) d ⌝ }
+    ensures { λ r. ⌜ r ≡ cond (e .moved) d (quarantines (e .answer) (take (q .count) (q .rings)) d) ⌝ }
 {
-    let rings = q.rings;
-    let quarantined = checks::quarantined_rings(rings, q.count);
-    d.quarantined = quarantined;
-    d.quarantined_count = q.count;
-    d
-}
-
-// The record of a claim that moved the settings.
-fn moved_record(mut d: Device, c: Cells, interface: u8, alternate: u8, pending: [u64; 30]) -> Device
-    requires { ⌜ (d .«held_count» ≤ 32) × (length (withSetting interface alternate (heldOf d)) ≤ 32) ⌝ }
-    ensures { λ r. ⌜ r ≡ withHeld (withSetting interface alternate (heldOf d)) (withCells (claimedCells interface pending c) d) ⌝ }
-{
-    let interfaces = d.interfaces;
-    let alternates = d.alternates;
-    let s = settings::with_setting(interfaces, alternates, d.held_count, interface, alternate);
-    let claimed = endpoint::claimed_cells(interface, pending, c);
-    d = update::with_cells(d, claimed);
-    update::with_held(d, s)
-}
-
-// The record of one that did not: after 14 the pending rings are quarantined.
-fn kept_record(
-    mut d: Device,
-    c: Cells,
-    interface: u8,
-    active: usize,
-    a: Answer,
-    q: Queues,
-) -> Device
-    requires { ⌜ (quarantinedOf d ≡ []) × (q .count ≤ 30) ⌝ }
-    ensures { λ r. ⌜ r ≡ quarantines a (take (q .count) (q .rings)) (withCells (withActive (Interface interface) active c) d) ⌝ }
-{
-    let revoked = endpoint::with_active(Owner::Interface(interface), active, c);
-    d = update::with_cells(d, revoked);
+    if e.moved {
+        return d;
+    }
+    let a = e.answer;
     if answer::answer_number(a) == 14 {
-        return with_quarantined(d, q);
+        let rings = q.rings;
+        let quarantined = checks::quarantined_rings(rings, q.count);
+        d.quarantined = quarantined;
+        d.quarantined_count = q.count;
+        return d;
     }
     d
 }
@@ -148,13 +121,14 @@ fn claim_record(
     requires { ⌜ (c ≡ cellsIn d) × (quarantinedOf d ≡ []) × QueuesAs q pending ⌝ }
     ensures { λ r. ⌜ ((ctx routes rings : List ℕ) → pending ≡ pendingOf d interface alternate rings → r ≡ claimRecord d interface alternate rings (arrays.leaves e ctx routes [] .end)) ⌝ }
 {
-    let a = e.answer;
-    if e.moved {
-        d = moved_record(d, c, interface, alternate, pending);
-        return update::marked(d, a);
-    }
-    d = kept_record(d, c, interface, e.active, a, q);
-    update::marked(d, a)
+    let answer = e.answer;
+    let interfaces = d.interfaces;
+    let alternates = d.alternates;
+    let s = settings::with_setting(interfaces, alternates, d.held_count, interface, alternate);
+    let claimed = endpoint::claimed_cells(interface, pending, c);
+    d = update::at_end(d, c, e, Owner::Interface(interface), claimed, s);
+    d = with_quarantined(d, e, q);
+    update::marked(d, answer)
 }
 
 // What is done where the checks have passed.

@@ -12,14 +12,12 @@ ghost use mathlib.Core.Path.{_≡_};
 ghost use mathlib.Core.Bool.{true};
 ghost use mathlib.Core.List.{List, []};
 ghost use Prim.Native.Nat.{ℕ};
-ghost use lib.ListN.{replicate};
-ghost use Rattle.endpoint.specs.Order.{PLACES};
 ghost use Rattle.endpoint.specs.declared.cells.Owner.the-variants.{Interface};
-ghost use Rattle.endpoint.specs.Cells.{ownedRings, claimedCells, QueuesAs};
+ghost use Rattle.endpoint.specs.Cells.{ownedRings, QueuesAs};
 ghost use Rattle.phase.specs.Arrays as arrays;
-ghost use Rattle.settings.specs.Held.{settingWords, withoutSetting};
+ghost use Rattle.settings.specs.Held.{settingWords};
 ghost use Rattle.release.specs.Release.{releaseOf};
-ghost use Rattle.device.specs.Device.{listOf, cellsIn, heldOf, withCells, withHeld};
+ghost use Rattle.device.specs.Device.{listOf, cellsIn};
 ghost use Rattle.device.specs.Left.{leaves};
 ghost use Rattle.device.specs.Sound.{countsFit};
 ghost use Rattle.device.specs.Check.{recordCheck};
@@ -63,32 +61,18 @@ fn release_args(d: Device, c: Cells, interface: u8) -> ReleaseArgs
     }
 }
 
-// The record without the interface's setting and endpoints.
-fn released(mut d: Device, c: Cells, interface: u8) -> Device
-    requires { ⌜ countsFit d ≡ true ⌝ }
-    ensures { λ r. ⌜ r ≡ withHeld (withoutSetting interface (heldOf d)) (withCells (claimedCells interface (replicate PLACES 0) c) d) ⌝ }
-{
-    let interfaces = d.interfaces;
-    let alternates = d.alternates;
-    let held = settings::without_setting(interfaces, alternates, d.held_count, interface);
-    let others = endpoint::claimed_cells(interface, [0u64; 30], c);
-    d = update::with_cells(d, others);
-    update::with_held(d, held)
-}
-
-// The record that the end of the course makes.
+// The record that the end of the course makes: moved, it is without the interface's setting and endpoints.
 fn release_record(mut d: Device, c: Cells, e: Ended, interface: u8) -> Device
     requires { ⌜ countsFit d ≡ true ⌝ }
     requires { ⌜ c ≡ cellsIn d ⌝ }
     ensures { λ r. ⌜ ((ctx routes : List ℕ) → r ≡ releaseRecord d interface (arrays.leaves e ctx routes [] .end)) ⌝ }
 {
     let answer = e.answer;
-    if e.moved {
-        d = released(d, c, interface);
-        return update::marked(d, answer);
-    }
-    let left = endpoint::with_active(Owner::Interface(interface), e.active, c);
-    d = update::with_cells(d, left);
+    let interfaces = d.interfaces;
+    let alternates = d.alternates;
+    let held = settings::without_setting(interfaces, alternates, d.held_count, interface);
+    let others = endpoint::claimed_cells(interface, [0u64; 30], c);
+    d = update::at_end(d, c, e, Owner::Interface(interface), others, held);
     update::marked(d, answer)
 }
 

@@ -1,28 +1,39 @@
 use mathlib.Core.Path.{_∙_}
-use Rattle.device.specs.Claim.{claimRecord}
+use Rattle.device.specs.Device.{heldOf}
+use Rattle.device.proofs.Ends.{quarantined-end}
+use Rattle.device.proofs.Claim.{claim-made}
 use borrow.Author.Needs.{needs}
 use Rattle.device.proofs.claim_interface.claim_record.Statement.{statement}
 use Rattle.device.proofs.claim_interface.claim_record.Tie as tie
 
-moved-record-requires : tie.Need-moved-record-requires
-moved-record-requires c κs = c .before .pre .0
+with-setting-requires : tie.Need-with-setting-requires
+unfolding heldOf
+with-setting-requires c κs = c .before .before .pre .0
+
+claimed-cells-requires : tie.Need-claimed-cells-requires
+claimed-cells-requires c κs = search needs
+
+at-end-requires : tie.Need-at-end-requires
+at-end-requires c κs = search needs
+
+with-quarantined-requires : tie.Need-with-quarantined-requires
+unfolding heldOf
+with-quarantined-requires c κs = (quarantined-end (c .before .before .before .before .before .args .e .moved) (c .before .before .before .before .before .args .d) (c .at-end .result) _ _ _ (c .at-end .ensures _ (c .before .before .with-setting .ensures)) ∙ c .before .before .before .before .before .pre .1 .1, c .before .before .before .before .before .pre .1 .2 .room)
 
 marked-requires : tie.Need-marked-requires
 marked-requires c κs = search needs
 
 returns : tie.Need-returns
-unfolding claimRecord
-returns c = λ ctx routes rings p. c .marked .ensures ∙ rw (c .before .moved-record .ensures, c .before .before .if1 .taken, c .before .before .before .pre .1 .0, p)
-
-kept-record-requires : tie.Need-kept-record-requires
-kept-record-requires c κs = (c .before .pre .1 .1, c .before .pre .1 .2 .room)
-
-marked-requires-2 : tie.Need-marked-requires-2
-marked-requires-2 c κs = search needs
-
-returns-2 : tie.Need-returns-2
-unfolding claimRecord
-returns-2 c = λ ctx routes rings p. c .marked2 .ensures ∙ rw (c .before .kept-record .ensures, c .before .before .if1 .left, c .before .before .before .pre .1 .2 .rings, c .before .before .before .pre .1 .0, p)
+unfolding heldOf
+returns c = λ ctx routes rings h. claim-made (c .before .before .before .before .before .before .before .args .d) (c .before .before .before .before .before .before .before .args .interface) (c .before .before .before .before .before .before .before .args .alternate) rings (c .before .before .at-end .result) (c .before .with-quarantined .result) (c .marked .result) (c .before .before .before .before .before .before .before .args .c) (c .before .before .before .claimed-cells .result) (c .before .before .before .before .before .before .before .args .q) (c .before .before .before .before .before .before .before .args .e) (c .before .before .before .before .before .before .before .args .pending) (c .before .before .before .claimed-cells .ensures) (c .before .before .at-end .ensures _ (c .before .before .before .before .with-setting .ensures)) (c .before .with-quarantined .ensures) (c .marked .ensures) (c .before .before .before .before .before .before .before .pre .1 .0) (c .before .before .before .before .before .before .before .pre .1 .2) h ctx routes
 
 pub claim-record-spec : {M : Type 1} → statement M
-claim-record-spec = tie.close (tie.spec moved-record-requires marked-requires returns kept-record-requires marked-requires-2 returns-2)
+claim-record-spec =
+    tie.close
+    (tie.spec
+    with-setting-requires
+    claimed-cells-requires
+    at-end-requires
+    with-quarantined-requires
+    marked-requires
+    returns)

@@ -1,39 +1,32 @@
-use Rattle.device.specs.Release.{releaseRecord}
+use Rattle.device.specs.Device.{heldOf}
+use Rattle.device.proofs.Facts.{count-facts}
+use Rattle.device.proofs.Release.{release-made}
 use borrow.Author.Needs.{needs}
 use Rattle.device.proofs.release_interface.release_record.Statement.{statement}
 use Rattle.device.proofs.release_interface.release_record.Tie as tie
 
-released-requires : tie.Need-released-requires
-released-requires c κs = search needs
+without-setting-requires : tie.Need-without-setting-requires
+without-setting-requires c κs = count-facts _ (c .before .before .pre .0) .held
+
+claimed-cells-requires : tie.Need-claimed-cells-requires
+claimed-cells-requires c κs = search needs
+
+at-end-requires : tie.Need-at-end-requires
+at-end-requires c κs = search needs
 
 marked-requires : tie.Need-marked-requires
 marked-requires c κs = search needs
 
 returns : tie.Need-returns
-unfolding releaseRecord
-returns c = λ ctx routes. rw (c .marked .ensures, c .before .released .ensures, c .before .before .if1 .taken, c .before .before .before .pre .1)
-
-with-active-requires : tie.Need-with-active-requires
-with-active-requires c κs = search needs
-
-with-cells-requires : tie.Need-with-cells-requires
-with-cells-requires c κs = search needs
-
-marked-requires-2 : tie.Need-marked-requires-2
-marked-requires-2 c κs = search needs
-
-returns-2 : tie.Need-returns-2
-unfolding releaseRecord
-returns-2 c = λ ctx routes. rw (c .marked2 .ensures, c .before .with-cells .ensures, c .before .before .with-active .ensures, c .before .before .before .if1 .left, c .before .before .before .before .pre .1)
+unfolding heldOf
+returns c = λ ctx routes. release-made (c .before .before .before .before .before .before .args .d) (c .before .at-end .result) (c .marked .result) (c .before .before .before .before .before .before .args .interface) (c .before .before .before .before .before .before .args .c) (c .before .before .claimed-cells .result) (c .before .before .before .before .before .before .args .e) (c .before .before .claimed-cells .ensures) (c .before .at-end .ensures _ (c .before .before .before .without-setting .ensures)) (c .marked .ensures) (c .before .before .before .before .before .before .pre .1) ctx routes
 
 pub release-record-spec : {M : Type 1} → statement M
 release-record-spec =
     tie.close
     (tie.spec
-    released-requires
+    without-setting-requires
+    claimed-cells-requires
+    at-end-requires
     marked-requires
-    returns
-    with-active-requires
-    with-cells-requires
-    marked-requires-2
-    returns-2)
+    returns)
