@@ -54,10 +54,10 @@ module _ (d : Device) (i alt : ℕ) (rings : List ℕ) where
   found-if e = let s : (isFound (findEndpoints (listOf d) i alt) ≡ true) × _ = pass-if _ _ _ e in s .0
 
   -- what it says that the checks of a claim passed
-  pub claim-passed : (ctx routes log : ℕ) → recordCheck d ctx routes log (claimCheck d i alt rings) ≡ Pass →
+  pub claim-passed : (ctx routes log : ℕ) (x : Check) → x ≡ recordCheck d ctx routes log (claimCheck d i alt rings) → x ≡ Pass →
       ClaimFacts d i alt ctx log
-  claim-passed ctx routes log e =
-      let p = passed d ctx routes log (claimCheck d i alt rings) e in
+  claim-passed ctx routes log x k e =
+      let p = passed d ctx routes log (claimCheck d i alt rings) (sym k ∙ e) in
       let f = p .0 .facts in
       record {
         counts = sound-counts d (p .0 .is-sound);
@@ -82,38 +82,29 @@ module _ (d : Device) (i alt : ℕ) (rings : List ℕ) where
 
   -- what a claim leaves is what the end of its course makes
   pub claim-left :
-      (a : ClaimArgs) (c : Cells) (by o ctx routes log ctx′ routes′ log′ : List ℕ) (x : Ended) (made : Device) → c ≡ cellsIn d →
+      (x : Check) (a : ClaimArgs) (c : Cells) (by o ctx routes log ctx′ routes′ log′ : List ℕ) (e : Ended) (r : Called) →
+      x ≡ recordCheck d (length ctx) (length routes) (length log) (claimCheck d i alt rings) → x ≡ Pass → c ≡ cellsIn d →
       by ≡ pendingOf d i alt rings → ClaimAs a d c i alt by →
-      arrays.leaves x ctx′ routes′ log′
+      arrays.leaves e ctx′ routes′ log′
       ≡ played o 0
       (claimCourse (claimOf a (cond (a .held) (settingWords (listOf d) (a .interface) (a .«old_alternate»)) [])
       (settingWords (listOf d) (a .interface) (a .alternate))) ctx routes)
       log →
-      made ≡ claimRecord d i alt rings (arrays.leaves x ctx′ routes′ [] .end) →
-      leaves (record { device = made; answer = x .answer; count = x .count }) ctx′ routes′ log′
-      ≡ ended (claimRecord d i alt rings) (played o 0 (claimCourse (claimIn d i alt rings) ctx routes) log)
-  unfolding ended
-  claim-left a c by o ctx routes log ctx′ routes′ log′ x made e p s run m =
-      rw (← claim-of a c by e p s, ← run, m)
-
-  -- and so is what the whole call leaves
-  pub claim-done :
-      (x : Check) (o ctx routes log ctx′ routes′ log′ : List ℕ) (r : Called) →
-      x ≡ recordCheck d (length ctx) (length routes) (length log) (claimCheck d i alt rings) → x ≡ Pass →
-      leaves r ctx′ routes′ log′
-      ≡ ended (claimRecord d i alt rings) (played o 0 (claimCourse (claimIn d i alt rings) ctx routes) log) →
+      leaves r ctx′ routes′ log′ ≡ ended (claimRecord d i alt rings) (arrays.leaves e ctx′ routes′ log′) →
       leaves r ctx′ routes′ log′ ≡ claim d ctx routes log o i alt rings
   unfolding claim onCheck
-  claim-done x o ctx routes log ctx′ routes′ log′ r k p m = m ∙ sym (rw (← k, p))
+  claim-left x a c by o ctx routes log ctx′ routes′ log′ e r k p h q s run m =
+      m ∙ sym (rw (← k, p, ← claim-of a c by h q s, ← run))
 
   -- the record that the end of the course makes, step by step
   pub claim-made :
       (x y r : Device) (c m : Cells) (q : Queues) (e : Ended) (by : List ℕ) → m ≡ claimedCells i by c →
       x ≡ cond (e .moved) (withHeld (withSetting i alt (heldOf d)) (withCells m d)) (withCells (withActive (Interface i) (e .active) c) d) →
       y ≡ cond (e .moved) x (quarantines (e .answer) (take (q .count) (q .rings)) x) → r ≡ marked (e .answer) y → c ≡ cellsIn d →
-      QueuesAs q by → by ≡ pendingOf d i alt rings → (ctx routes : List ℕ) →
-      r ≡ claimRecord d i alt rings (arrays.leaves e ctx routes [] .end)
-  unfolding claimRecord
-  claim-made x y r c m q e by p ex ey er k s h ctx routes =
+      QueuesAs q by → by ≡ pendingOf d i alt rings → (ctx routes log : List ℕ) →
+      leaves (record { device = r; answer = e .answer; count = e .count }) ctx routes log
+      ≡ ended (claimRecord d i alt rings) (arrays.leaves e ctx routes log)
+  unfolding claimRecord ended
+  claim-made x y r c m q e by p ex ey er k s h ctx routes log =
       let z = else-changed (e .moved) _ _ x y (quarantines (e .answer) (take (q .count) (q .rings))) ex ey in
-      er ∙ rw (z, s .rings, p, k, h)
+      rw (er, z, s .rings, p, k, h)

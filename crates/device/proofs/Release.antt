@@ -2,7 +2,7 @@
 use Prim.Native.Nat.{ℕ, _≤_}
 use mathlib.Core.Path.{_≡_, sym, _∙_}
 use mathlib.Core.Bool.{true, cond}
-use mathlib.Core.List.{List, []}
+use mathlib.Core.List.{List}
 use lib.ListN.{length, take, replicate}
 use Rattle.answer.specs.declared.Check.{Check}
 use Rattle.answer.specs.declared.Check.the-variants.{Pass}
@@ -18,6 +18,7 @@ use Rattle.phase.proofs.Laws.{room-as}
 use Rattle.release.specs.declared.ReleaseArgs.{ReleaseArgs}
 use Rattle.release.specs.Release.{releaseOf, releaseCourse}
 use Rattle.device.specs.declared.record.Device.{Device}
+use Rattle.device.specs.declared.record.Called.{Called}
 use Rattle.device.specs.Device.{listOf, cellsIn, heldOf, withCells, withHeld}
 use Rattle.device.specs.Sound.{countsFit}
 use Rattle.device.specs.Left.{leaves, marked, ended}
@@ -44,20 +45,22 @@ module _ (d : Device) (i : ℕ) (x : Check) where
 
     -- what it leaves is what the end of its course makes
     pub release-left :
-        (o ctx routes log ctx′ routes′ log′ : List ℕ) (e : Ended) (made : Device) →
+        (o ctx routes log ctx′ routes′ log′ : List ℕ) (e : Ended) (r : Called) →
         x ≡ recordCheck d (length ctx) (length routes) (length log) (releaseCheck d i) → x ≡ Pass →
         arrays.leaves e ctx′ routes′ log′
         ≡ played o 0 (releaseCourse (releaseOf a (settingWords (take (d .«list_len») (d .list)) (a .interface) (a .alternate))) ctx routes)
         log →
-        made ≡ releaseRecord d i (arrays.leaves e ctx′ routes′ [] .end) →
-        leaves (record { device = made; answer = e .answer; count = e .count }) ctx′ routes′ log′ ≡ release d ctx routes log o i
-    unfolding release onCheck ended listOf
-    release-left o ctx routes log ctx′ routes′ log′ e made k p run m = sym (rw (← k, p, ← s .0, ← run, ← m))
+        leaves r ctx′ routes′ log′ ≡ ended (releaseRecord d i) (arrays.leaves e ctx′ routes′ log′) →
+        leaves r ctx′ routes′ log′ ≡ release d ctx routes log o i
+    unfolding release onCheck listOf
+    release-left o ctx routes log ctx′ routes′ log′ e r k p run m = m ∙ sym (rw (← k, p, ← s .0, ← run))
 
 -- the record that the end of its course makes, step by step
 pub release-made :
     (d x r : Device) (i : ℕ) (c m : Cells) (e : Ended) → m ≡ claimedCells i (replicate PLACES 0) c →
     x ≡ cond (e .moved) (withHeld (withoutSetting i (heldOf d)) (withCells m d)) (withCells (withActive (Interface i) (e .active) c) d) →
-    r ≡ marked (e .answer) x → c ≡ cellsIn d → (ctx routes : List ℕ) → r ≡ releaseRecord d i (arrays.leaves e ctx routes [] .end)
-unfolding releaseRecord
-release-made d x r i c m e p ex er k ctx routes = er ∙ rw (ex, p, k)
+    r ≡ marked (e .answer) x → c ≡ cellsIn d → (ctx routes log : List ℕ) →
+    leaves (record { device = r; answer = e .answer; count = e .count }) ctx routes log
+    ≡ ended (releaseRecord d i) (arrays.leaves e ctx routes log)
+unfolding releaseRecord ended
+release-made d x r i c m e p ex er k ctx routes log = rw (er, ex, p, k)

@@ -14,17 +14,14 @@ ghost use mathlib.Core.Bool.{true, cond};
 ghost use mathlib.Core.List.{List, []};
 ghost use Prim.Native.Nat.{ℕ, _≤_};
 ghost use lib.ListN.{length, take};
-ghost use Rattle.answer.specs.declared.Check.the-variants.{Pass};
-ghost use Rattle.command.specs.Course.{played};
 ghost use Rattle.endpoint.specs.Cells.{QueuesAs};
 ghost use Rattle.settings.specs.Held.{withSetting};
 ghost use Rattle.phase.specs.Arrays as arrays;
-ghost use Rattle.claim.specs.Claim.{claimCourse};
 ghost use Rattle.device.specs.Device.{cellsIn, heldOf, quarantinedOf};
 ghost use Rattle.device.specs.Sound.{countsFit};
 ghost use Rattle.device.specs.Left.{leaves, ended};
 ghost use Rattle.device.specs.Check.{recordCheck};
-ghost use Rattle.device.specs.Claim.{claimCheck, pendingOf, claimIn, ClaimAs, quarantines, claimRecord, claim};
+ghost use Rattle.device.specs.Claim.{claimCheck, pendingOf, ClaimAs, quarantines, claimRecord, claim};
 
 fn own_check(d: Device, interface: u8, alternate: u8, rings: &[u64]) -> Check
     requires { ⌜ countsFit d ≡ true ⌝ }
@@ -107,8 +104,8 @@ fn with_quarantined(mut d: Device, e: Ended, q: Queues) -> Device
     d
 }
 
-// The record that the end of the course makes.
-fn claim_record(
+// The end of the course makes the record, and what the call hands back.
+fn claim_end(
     mut d: Device,
     c: Cells,
     interface: u8,
@@ -116,10 +113,10 @@ fn claim_record(
     pending: [u64; 30],
     q: Queues,
     e: Ended,
-) -> Device
+) -> Called
     requires { ⌜ (d .«held_count» ≤ 32) × (length (withSetting interface alternate (heldOf d)) ≤ 32) ⌝ }
     requires { ⌜ (c ≡ cellsIn d) × (quarantinedOf d ≡ []) × QueuesAs q pending ⌝ }
-    ensures { λ r. ⌜ ((ctx routes rings : List ℕ) → pending ≡ pendingOf d interface alternate rings → r ≡ claimRecord d interface alternate rings (arrays.leaves e ctx routes [] .end)) ⌝ }
+    ensures { λ r. ⌜ ((ctx routes log rings : List ℕ) → pending ≡ pendingOf d interface alternate rings → leaves r ctx routes log ≡ ended (claimRecord d interface alternate rings) (arrays.leaves e ctx routes log)) ⌝ }
 {
     let answer = e.answer;
     let interfaces = d.interfaces;
@@ -128,31 +125,7 @@ fn claim_record(
     let claimed = endpoint::claimed_cells(interface, pending, c);
     d = update::at_end(d, c, e, Owner::Interface(interface), claimed, s);
     d = with_quarantined(d, e, q);
-    update::marked(d, answer)
-}
-
-// What is done where the checks have passed.
-fn claim_run(
-    mut d: Device,
-    ctx: &mut [u8],
-    routes: &mut [u64],
-    log: &mut [u32],
-    outcomes: &[u8],
-    interface: u8,
-    alternate: u8,
-    rings: &[u64],
-) -> Called
-    requires { ⌜ recordCheck d (length (now ctx)) (length (now routes)) (length (now log)) (claimCheck d interface alternate (now rings)) ≡ Pass ⌝ }
-    ensures { λ r. ⌜ leaves r (now (ctx .exit)) (now (routes .exit)) (now (log .exit)) ≡ ended (claimRecord d interface alternate (now (rings .entry))) (played (now (outcomes .entry)) 0 (claimCourse (claimIn d interface alternate (now (rings .entry))) (now (ctx .entry)) (now (routes .entry))) (now (log .entry))) ⌝ }
-{
-    let list = d.list;
-    let c = cells::cells_in(d);
-    let pending = checks::list_rings(list, d.list_len, interface, alternate, rings);
-    let a = claim_args(d, c, interface, alternate, pending);
-    let q = a.pending;
-    let e = claim::claim_interface(ctx, routes, log, outcomes, a, list, d.list_len);
-    let answer = e.answer;
-    d = claim_record(d, c, interface, alternate, pending, q, e);
+    d = update::marked(d, answer);
     Called {
         device: d,
         answer: answer,
@@ -184,21 +157,21 @@ impl Device {
             rings,
         );
         match check {
-            Check::Refuse(a) => Called {
-                device: self,
-                answer: a,
-                count: 0,
-            },
-            Check::Pass => claim_run(
-                self,
-                ctx,
-                routes,
-                log,
-                outcomes,
-                interface,
-                alternate,
-                rings,
-            ),
+            Check::Refuse(a) => {
+                return Called {
+                    device: self,
+                    answer: a,
+                    count: 0,
+                };
+            }
+            Check::Pass => {}
         }
+        let list = self.list;
+        let c = cells::cells_in(self);
+        let pending = checks::list_rings(list, self.list_len, interface, alternate, rings);
+        let args = claim_args(self, c, interface, alternate, pending);
+        let q = args.pending;
+        let e = claim::claim_interface(ctx, routes, log, outcomes, args, list, self.list_len);
+        claim_end(self, c, interface, alternate, pending, q, e)
     }
 }

@@ -10,7 +10,7 @@ use phase::Ended;
 use release::ReleaseArgs;
 ghost use mathlib.Core.Path.{_≡_};
 ghost use mathlib.Core.Bool.{true};
-ghost use mathlib.Core.List.{List, []};
+ghost use mathlib.Core.List.{List};
 ghost use Prim.Native.Nat.{ℕ};
 ghost use Rattle.endpoint.specs.declared.cells.Owner.the-variants.{Interface};
 ghost use Rattle.endpoint.specs.Cells.{ownedRings, QueuesAs};
@@ -18,7 +18,7 @@ ghost use Rattle.phase.specs.Arrays as arrays;
 ghost use Rattle.settings.specs.Held.{settingWords};
 ghost use Rattle.release.specs.Release.{releaseOf};
 ghost use Rattle.device.specs.Device.{listOf, cellsIn};
-ghost use Rattle.device.specs.Left.{leaves};
+ghost use Rattle.device.specs.Left.{leaves, ended};
 ghost use Rattle.device.specs.Sound.{countsFit};
 ghost use Rattle.device.specs.Check.{recordCheck};
 ghost use Rattle.device.specs.Release.{releaseCheck, releaseIn, releaseRecord, release};
@@ -61,11 +61,11 @@ fn release_args(d: Device, c: Cells, interface: u8) -> ReleaseArgs
     }
 }
 
-// The record that the end of the course makes: moved, it is without the interface's setting and endpoints.
-fn release_record(mut d: Device, c: Cells, e: Ended, interface: u8) -> Device
+// The end of the course makes the record, without the interface's setting and endpoints where it moved, and what the call hands back.
+fn release_end(mut d: Device, c: Cells, e: Ended, interface: u8) -> Called
     requires { ⌜ countsFit d ≡ true ⌝ }
     requires { ⌜ c ≡ cellsIn d ⌝ }
-    ensures { λ r. ⌜ ((ctx routes : List ℕ) → r ≡ releaseRecord d interface (arrays.leaves e ctx routes [] .end)) ⌝ }
+    ensures { λ r. ⌜ ((ctx routes log : List ℕ) → leaves r ctx routes log ≡ ended (releaseRecord d interface) (arrays.leaves e ctx routes log)) ⌝ }
 {
     let answer = e.answer;
     let interfaces = d.interfaces;
@@ -73,7 +73,12 @@ fn release_record(mut d: Device, c: Cells, e: Ended, interface: u8) -> Device
     let held = settings::without_setting(interfaces, alternates, d.held_count, interface);
     let others = endpoint::claimed_cells(interface, [0u64; 30], c);
     d = update::at_end(d, c, e, Owner::Interface(interface), others, held);
-    update::marked(d, answer)
+    d = update::marked(d, answer);
+    Called {
+        device: d,
+        answer: answer,
+        count: e.count,
+    }
 }
 
 impl Device {
@@ -103,12 +108,6 @@ impl Device {
         let args = release_args(self, c, interface);
         let list = self.list;
         let e = release::release_interface(ctx, routes, log, outcomes, args, list, self.list_len);
-        let answer = e.answer;
-        self = release_record(self, c, e, interface);
-        Called {
-            device: self,
-            answer: answer,
-            count: e.count,
-        }
+        release_end(self, c, e, interface)
     }
 }

@@ -27,8 +27,8 @@ release-args-requires c κs = (release-counts _ _ _ _ _ _ (c .before .before .be
 release-interface-requires : tie.Need-release-interface-requires
 release-interface-requires c κs = release-room _ _ _ _ (c .before .before .before .before .release-args .ensures) _ _ _ (c .before .before .before .before .before .before .before .before .release-check .ensures) (c .before .before .before .before .before .before .enum-told .given .1)
 
-release-record-requires : tie.Need-release-record-requires
-release-record-requires c κs = (release-counts _ _ _ _ _ _ (c .before .before .before .before .before .before .before .before .before .before .before .before .before .before .before .release-check .ensures) (c .before .before .before .before .before .before .before .before .before .before .before .before .before .enum-told .given .1), c .before .before .before .before .before .before .before .before .before .before .before .before .cells-in .ensures)
+release-end-requires : tie.Need-release-end-requires
+release-end-requires c κs = (release-counts _ _ _ _ _ _ (c .before .before .before .before .before .before .before .before .before .before .before .before .before .before .before .release-check .ensures) (c .before .before .before .before .before .before .before .before .before .before .before .before .before .enum-told .given .1), c .before .before .before .before .before .before .before .before .before .before .before .before .cells-in .ensures)
 
 same-length : tie.Need-same-length
 same-length c = search needs
@@ -40,7 +40,7 @@ same-length-3 : tie.Need-same-length-3
 same-length-3 c = search needs
 
 returns-2 : tie.Need-returns-2
-returns-2 c = release-left (c .before .before .before .before .before .before .before .before .before .before .before .before .before .before .before .before .before .before .before .before .before .args .self) (c .before .before .before .before .before .before .before .before .before .before .before .before .before .before .before .before .before .before .before .before .before .args .interface) _ _ (c .before .before .before .before .before .before .before .before .before .before .before .before .release-args .ensures) (c .before .before .before .before .before .before .before .before .before .before .before .before .before .before .before .before .before .before .before .before .before .args .outcomes .now) (c .before .before .before .before .before .before .before .before .before .before .before .before .before .before .before .before .before .before .before .before .before .args .ctx .now) (c .before .before .before .before .before .before .before .before .before .before .before .before .before .before .before .before .before .before .before .before .before .args .routes .now) (c .before .before .before .before .before .before .before .before .before .before .before .before .before .before .before .before .before .before .before .before .before .args .log .now) _ _ _ (c .before .before .before .before .before .before .before .release-interface .result) (c .release-record .result) (c .before .before .before .before .before .before .before .before .before .before .before .before .before .before .before .before .release-check .ensures) (c .before .before .before .before .before .before .before .before .before .before .before .before .before .before .enum-told .given .1) (c .before .before .before .before .before .before .before .release-interface .ensures) (c .release-record .ensures _ _)
+returns-2 c = release-left (c .before .before .before .before .before .before .before .before .before .before .before .before .before .before .before .before .before .before .before .before .before .args .self) (c .before .before .before .before .before .before .before .before .before .before .before .before .before .before .before .before .before .before .before .before .before .args .interface) _ _ (c .before .before .before .before .before .before .before .before .before .before .before .before .release-args .ensures) (c .before .before .before .before .before .before .before .before .before .before .before .before .before .before .before .before .before .before .before .before .before .args .outcomes .now) (c .before .before .before .before .before .before .before .before .before .before .before .before .before .before .before .before .before .before .before .before .before .args .ctx .now) (c .before .before .before .before .before .before .before .before .before .before .before .before .before .before .before .before .before .before .before .before .before .args .routes .now) (c .before .before .before .before .before .before .before .before .before .before .before .before .before .before .before .before .before .before .before .before .before .args .log .now) _ _ _ (c .before .before .before .before .before .before .before .release-interface .result) (c .release-end .result) (c .before .before .before .before .before .before .before .before .before .before .before .before .before .before .before .before .release-check .ensures) (c .before .before .before .before .before .before .before .before .before .before .before .before .before .before .enum-told .given .1) (c .before .before .before .before .before .before .before .release-interface .ensures) (c .release-end .ensures _ _ _)
 
 pub release-spec : {M : Type 1} → statement M
 release-spec =
@@ -53,7 +53,7 @@ release-spec =
     cells-in-requires
     release-args-requires
     release-interface-requires
-    release-record-requires
+    release-end-requires
     same-length
     same-length-2
     same-length-3
