@@ -18,7 +18,6 @@ use Rattle.context.specs.Steps.{hubWrites}
 use Rattle.checks.specs.Think.{thinkValue}
 use Rattle.phase.specs.End.{answerOf}
 use Rattle.device.specs.declared.record.Device.{Device}
-use Rattle.device.specs.declared.record.Called.{Called}
 use Rattle.device.specs.Left.{Left, leaves, refused, marked}
 use Rattle.device.specs.Check.{recordCheck, hubCheck}
 use Rattle.device.specs.Calls.{onCheck, hubContext, hubCourse, hubLeft, hubUpdate}
@@ -38,13 +37,13 @@ module _ (x k : Check) (e : x ≡ k) where
 
 -- one Evaluate with the hub's context
 pub hub-left :
-    (d : Device) (o ctx routes log : List ℕ) (ports : ℕ) (multi : Bool) (ns think : ℕ) (ctx′ log′ : List ℕ) (s : Sent) (r : Called) →
+    (d : Device) (o ctx routes log : List ℕ) (ports : ℕ) (multi : Bool) (ns think : ℕ) (ctx′ log′ : List ℕ) (s : Sent) (a : Answer) (made : Device) →
     think ≡ thinkValue (thinkTime ns) →
     ctx′ ≡ written (d .spacing) (hubWrites (d .«port_speed») ports multi think) ctx →
     (s ≡ outcomeAt o 0) × (log′ ≡ set log 0 (commandWord command.Evaluate)) →
-    r ≡ record { device = marked (answerOf s) d; answer = answerOf s; count = 1 } →
-    leaves r ctx′ routes log′
+    a ≡ answerOf s → made ≡ marked a d →
+    leaves (record { device = made; answer = a; count = 1 }) ctx′ routes log′
     ≡ hubLeft d (hubContext d ports multi ns ctx) routes (played o 0 (hubCourse (hubContext d ports multi ns ctx)) log)
 unfolding hubLeft hubCourse hubContext
-hub-left d o ctx routes log ports multi ns think ctx′ log′ s r t w sent m =
-    rw (m, played-sends, played-ends, sent .1, sent .0, w, t)
+hub-left d o ctx routes log ports multi ns think ctx′ log′ s a made t w sent ea m =
+    rw (m, ea, played-sends, played-ends, sent .1, sent .0, w, t)

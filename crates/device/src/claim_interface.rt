@@ -23,26 +23,7 @@ ghost use Rattle.device.specs.Left.{leaves, ended};
 ghost use Rattle.device.specs.Check.{recordCheck};
 ghost use Rattle.device.specs.Claim.{claimCheck, pendingOf, ClaimAs, quarantines, claimRecord, claim};
 
-fn own_check(d: Device, interface: u8, alternate: u8, rings: &[u64]) -> Check
-    requires { ⌜ countsFit d ≡ true ⌝ }
-    ensures { λ r. ⌜ r ≡ claimCheck d interface alternate (now (rings .entry)) ⌝ }
-{
-    let list = d.list;
-    let quarantined = d.quarantined;
-    let c = cells::cells_in(d);
-    checks::list_check(
-        list,
-        d.list_len,
-        interface,
-        alternate,
-        c,
-        rings,
-        d.control,
-        quarantined,
-        d.quarantined_count,
-    )
-}
-
+// The checks, the last of them those of the setting and of the rings offered.
 fn claim_check(
     d: Device,
     ctx: usize,
@@ -54,10 +35,25 @@ fn claim_check(
 ) -> Check
     ensures { λ r. ⌜ r ≡ recordCheck d ctx routes log (claimCheck d interface alternate (now (rings .entry))) ⌝ }
 {
+    let list = d.list;
+    let quarantined = d.quarantined;
     let check = d.record_check(ctx, routes, log);
     match check {
         Check::Refuse(a) => Check::Refuse(a),
-        Check::Pass => own_check(d, interface, alternate, rings),
+        Check::Pass => {
+            let c = cells::cells_in(d);
+            checks::list_check(
+                list,
+                d.list_len,
+                interface,
+                alternate,
+                c,
+                rings,
+                d.control,
+                quarantined,
+                d.quarantined_count,
+            )
+        }
     }
 }
 
