@@ -1,20 +1,19 @@
 -- What a claim whose checks have passed may rely on, and what it leaves.
-use Prim.Native.Nat.{ℕ, _-_, _≤_}
-use mathlib.Core.Path.{_≡_, refl, sym, _∙_}
+use Prim.Native.Nat.{ℕ, _≤_}
+use mathlib.Core.Path.{_≡_, sym, _∙_}
 use mathlib.Core.Bool.{true, cond}
 use mathlib.Core.List.{List, []}
-use borrow.Author.Tests.{eq-eqb, ne-eqb}
-use lib.ListN.{length}
-use Rattle.answer.specs.declared.Answer.{Answer}
+use lib.ListN.{length, take}
+use Rattle.answer.specs.declared.Check.{Check}
 use Rattle.answer.specs.declared.Check.the-variants.{Pass}
-use Rattle.answer.specs.Answer.{number}
 use Rattle.configuration.specs.Lookup.{findEndpoints}
 use Rattle.command.specs.Course.{played}
 use Rattle.context.specs.Place.{Spaced}
 use Rattle.endpoint.specs.declared.cells.Cells.{Cells}
-use Rattle.endpoint.specs.declared.cells.Owner.{Owner}
-use Rattle.endpoint.specs.Cells.{claimedCells, withActive}
-use Rattle.settings.specs.Held.{Held, isFound, settingWords, withSetting}
+use Rattle.endpoint.specs.declared.cells.Owner.the-variants.{Interface}
+use Rattle.endpoint.specs.declared.pending.Queues.{Queues}
+use Rattle.endpoint.specs.Cells.{claimedCells, withActive, QueuesAs}
+use Rattle.settings.specs.Held.{isFound, settingWords, withSetting}
 use Rattle.settings.proofs.Laws.{with-fits}
 use Rattle.phase.specs.declared.Ended.{Ended}
 use Rattle.phase.specs.Arrays as arrays
@@ -22,40 +21,17 @@ use Rattle.phase.proofs.Laws.{queues-as, room-as}
 use Rattle.claim.specs.declared.ClaimArgs.{ClaimArgs}
 use Rattle.claim.specs.Claim.{claimOf, claimCourse}
 use Rattle.device.specs.declared.record.Device.{Device}
-use Rattle.device.specs.Device.{listOf, cellsIn, heldOf, quarantinedOf, withCells, withHeld, withQuarantined}
+use Rattle.device.specs.declared.record.Called.{Called}
+use Rattle.device.specs.Device.{listOf, cellsIn, heldOf, quarantinedOf, withCells, withHeld}
 use Rattle.device.specs.Sound.{countsFit}
-use Rattle.device.specs.Left.{leaves, ended}
+use Rattle.device.specs.Left.{leaves, marked, ended}
 use Rattle.device.specs.Check.{recordCheck}
-use Rattle.device.specs.Claim.{claimCheck, pendingOf, claimIn, ClaimAs, quarantines, claimRecord}
+use Rattle.device.specs.Calls.{onCheck}
+use Rattle.device.specs.Claim.{claimCheck, pendingOf, claimIn, ClaimAs, quarantines, claimRecord, claim}
 use Rattle.device.proofs.Counts.{sound-counts}
+use Rattle.device.proofs.Ends.{else-changed}
 use Rattle.device.proofs.Facts.{none-quarantined}
 use Rattle.device.proofs.Laws.{pass-if, passed}
-
--- other endpoints leave the quarantined rings
-pub quarantined-cells : (c : Cells) (d : Device) → quarantinedOf (withCells c d) ≡ quarantinedOf d
-unfolding quarantinedOf withCells
-quarantined-cells c d = refl
-
--- the record of a claim that moved the settings, step by step
-pub moved-made :
-    (d e r : Device) (c x : Cells) (i : ℕ) (by : List ℕ) (hs : List Held) → x ≡ claimedCells i by c → e ≡ withCells x d →
-    r ≡ withHeld hs e → r ≡ withHeld hs (withCells (claimedCells i by c) d)
-moved-made d e r c x i by hs p q h = rw (h, q, p)
-
--- of one that did not, after 14
-pub kept-broken :
-    (d e r : Device) (c x : Cells) (who : Owner) (active n : ℕ) (a : Answer) (rings : List ℕ) → x ≡ withActive who active c →
-    e ≡ withCells x d → n ≡ number a → n ≡ 14 → r ≡ withQuarantined rings e →
-    r ≡ quarantines a rings (withCells (withActive who active c) d)
-unfolding quarantines
-kept-broken d e r c x who active n a rings p q m t h = rw (h, q, p, eq-eqb (number a) 14 (sym m ∙ t))
-
--- and after any other answer
-pub kept-other :
-    (d e : Device) (c x : Cells) (who : Owner) (active n : ℕ) (a : Answer) (rings : List ℕ) → x ≡ withActive who active c →
-    e ≡ withCells x d → n ≡ number a → (n ≡ 14 → ⊥) → e ≡ quarantines a rings (withCells (withActive who active c) d)
-unfolding quarantines
-kept-other d e c x who active n a rings p q m t = rw (q, p, ne-eqb (number a) 14 (λ z. t (m ∙ z)))
 
 pub record ClaimFacts (d : Device) (i alt ctx log : ℕ) : Type 0 where
   pub counts : countsFit d ≡ true
@@ -78,10 +54,10 @@ module _ (d : Device) (i alt : ℕ) (rings : List ℕ) where
   found-if e = let s : (isFound (findEndpoints (listOf d) i alt) ≡ true) × _ = pass-if _ _ _ e in s .0
 
   -- what it says that the checks of a claim passed
-  pub claim-passed : (ctx routes log : ℕ) → recordCheck d ctx routes log (claimCheck d i alt rings) ≡ Pass →
+  pub claim-passed : (ctx routes log : ℕ) (x : Check) → x ≡ recordCheck d ctx routes log (claimCheck d i alt rings) → x ≡ Pass →
       ClaimFacts d i alt ctx log
-  claim-passed ctx routes log e =
-      let p = passed d ctx routes log (claimCheck d i alt rings) e in
+  claim-passed ctx routes log x k e =
+      let p = passed d ctx routes log (claimCheck d i alt rings) (sym k ∙ e) in
       let f = p .0 .facts in
       record {
         counts = sound-counts d (p .0 .is-sound);
@@ -106,16 +82,29 @@ module _ (d : Device) (i alt : ℕ) (rings : List ℕ) where
 
   -- what a claim leaves is what the end of its course makes
   pub claim-left :
-      (a : ClaimArgs) (c : Cells) (by o ctx routes log ctx′ routes′ log′ : List ℕ) (x : Ended) (made : Device) → c ≡ cellsIn d →
+      (x : Check) (a : ClaimArgs) (c : Cells) (by o ctx routes log ctx′ routes′ log′ : List ℕ) (e : Ended) (r : Called) →
+      x ≡ recordCheck d (length ctx) (length routes) (length log) (claimCheck d i alt rings) → x ≡ Pass → c ≡ cellsIn d →
       by ≡ pendingOf d i alt rings → ClaimAs a d c i alt by →
-      arrays.leaves x ctx′ routes′ log′
+      arrays.leaves e ctx′ routes′ log′
       ≡ played o 0
       (claimCourse (claimOf a (cond (a .held) (settingWords (listOf d) (a .interface) (a .«old_alternate»)) [])
       (settingWords (listOf d) (a .interface) (a .alternate))) ctx routes)
       log →
-      made ≡ claimRecord d i alt rings (arrays.leaves x ctx′ routes′ [] .end) →
-      leaves (record { device = made; answer = x .answer; count = x .count }) ctx′ routes′ log′
-      ≡ ended (claimRecord d i alt rings) (played o 0 (claimCourse (claimIn d i alt rings) ctx routes) log)
-  unfolding ended
-  claim-left a c by o ctx routes log ctx′ routes′ log′ x made e p s run m =
-      rw (← claim-of a c by e p s, ← run, m)
+      leaves r ctx′ routes′ log′ ≡ ended (claimRecord d i alt rings) (arrays.leaves e ctx′ routes′ log′) →
+      leaves r ctx′ routes′ log′ ≡ claim d ctx routes log o i alt rings
+  unfolding claim onCheck
+  claim-left x a c by o ctx routes log ctx′ routes′ log′ e r k p h q s run m =
+      m ∙ sym (rw (← k, p, ← claim-of a c by h q s, ← run))
+
+  -- the record that the end of the course makes, step by step
+  pub claim-made :
+      (x y r : Device) (c m : Cells) (q : Queues) (e : Ended) (by : List ℕ) → m ≡ claimedCells i by c →
+      x ≡ cond (e .moved) (withHeld (withSetting i alt (heldOf d)) (withCells m d)) (withCells (withActive (Interface i) (e .active) c) d) →
+      y ≡ cond (e .moved) x (quarantines (e .answer) (take (q .count) (q .rings)) x) → r ≡ marked (e .answer) y → c ≡ cellsIn d →
+      QueuesAs q by → by ≡ pendingOf d i alt rings → (ctx routes log : List ℕ) →
+      leaves (record { device = r; answer = e .answer; count = e .count }) ctx routes log
+      ≡ ended (claimRecord d i alt rings) (arrays.leaves e ctx routes log)
+  unfolding claimRecord ended
+  claim-made x y r c m q e by p ex ey er k s h ctx routes log =
+      let z = else-changed (e .moved) _ _ x y (quarantines (e .answer) (take (q .count) (q .rings))) ex ey in
+      rw (er, z, s .rings, p, k, h)

@@ -1,17 +1,25 @@
--- What a call leaves whose course has ended.
-use Prim.Native.Nat.{ℕ}
-use mathlib.Core.Path.{_≡_}
+-- The record at the end of a course, changed once more where the settings moved, or where they did not.
+use mathlib.Core.Path.{_≡_, refl, ap, _∙_}
+use mathlib.Core.Bool.{Bool, true, false, cond}
 use mathlib.Core.List.{List, []}
-use Rattle.command.specs.Course.{Played}
-use Rattle.phase.specs.declared.Ended.{Ended}
-use Rattle.phase.specs.End.{End}
-use Rattle.phase.specs.Arrays as arrays
+use Rattle.endpoint.specs.declared.cells.Cells.{Cells}
+use Rattle.settings.specs.Held.{Held}
 use Rattle.device.specs.declared.record.Device.{Device}
-use Rattle.device.specs.Left.{ended}
+use Rattle.device.specs.Device.{quarantinedOf, withCells, withHeld}
 
--- the record that its end makes, and what the course left
-pub ended-as : (made : End → Device) (p : Played End) (e : Ended) (ctx routes log : List ℕ) (d : Device) →
-    arrays.leaves e ctx routes log ≡ p → d ≡ made ((arrays.leaves e ctx routes []) .end) →
-    record { device = d; answer = e .answer; count = e .count; ctx = ctx; routes = routes; log = log } ≡ ended made p
-unfolding ended
-ended-as made p e ctx routes log d l m = rw (← l, m)
+pub then-changed : (b : Bool) (moved left x y : Device) (f : Device → Device) → x ≡ cond b moved left → y ≡ cond b (f x) x →
+    y ≡ cond b (f moved) left
+then-changed true moved left x y f p q = q ∙ ap f p
+then-changed false moved left x y f p q = q ∙ p
+
+pub else-changed : (b : Bool) (moved left x y : Device) (f : Device → Device) → x ≡ cond b moved left → y ≡ cond b x (f x) →
+    y ≡ cond b moved (f left)
+else-changed true moved left x y f p q = q ∙ p
+else-changed false moved left x y f p q = q ∙ ap f p
+
+-- it has the quarantined rings of the record before
+pub quarantined-end : (b : Bool) (d x : Device) (hs : List Held) (c l : Cells) →
+    x ≡ cond b (withHeld hs (withCells c d)) (withCells l d) → quarantinedOf x ≡ quarantinedOf d
+unfolding quarantinedOf withHeld withCells
+quarantined-end true d x hs c l p = rw p
+quarantined-end false d x hs c l p = rw p

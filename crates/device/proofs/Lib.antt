@@ -1,10 +1,12 @@
 pub mod Claim
 pub mod Counts
 pub mod Ends
+pub mod Exits
 pub mod Facts
 pub mod Kept
 pub mod Laws
 pub mod Made
 pub mod Marks
+pub mod Release
 pub mod SetConfiguration
 pub mod Updates

@@ -3,7 +3,6 @@ use super::cells;
 use super::record::Called;
 use super::record::Device;
 use super::update;
-use answer::Answer;
 use answer::Check;
 use claim::ClaimArgs;
 use endpoint::Cells;
@@ -11,43 +10,20 @@ use endpoint::Owner;
 use endpoint::Queues;
 use phase::Ended;
 ghost use mathlib.Core.Path.{_≡_};
-ghost use mathlib.Core.Bool.{true};
+ghost use mathlib.Core.Bool.{true, cond};
 ghost use mathlib.Core.List.{List, []};
 ghost use Prim.Native.Nat.{ℕ, _≤_};
 ghost use lib.ListN.{length, take};
-ghost use Rattle.answer.specs.declared.Check.the-variants.{Pass};
-ghost use Rattle.command.specs.Course.{played};
-ghost use Rattle.endpoint.specs.declared.cells.Owner.the-variants.{Interface};
-ghost use Rattle.endpoint.specs.Cells.{claimedCells, withActive, QueuesAs};
+ghost use Rattle.endpoint.specs.Cells.{QueuesAs};
 ghost use Rattle.settings.specs.Held.{withSetting};
 ghost use Rattle.phase.specs.Arrays as arrays;
-ghost use Rattle.claim.specs.Claim.{claimCourse};
-ghost use Rattle.device.specs.Device.{cellsIn, heldOf, quarantinedOf, withCells, withHeld, withQuarantined};
+ghost use Rattle.device.specs.Device.{cellsIn, heldOf, quarantinedOf};
 ghost use Rattle.device.specs.Sound.{countsFit};
 ghost use Rattle.device.specs.Left.{leaves, ended};
 ghost use Rattle.device.specs.Check.{recordCheck};
-ghost use Rattle.device.specs.Claim.{claimCheck, pendingOf, claimIn, ClaimAs, quarantines, claimRecord, claim};
+ghost use Rattle.device.specs.Claim.{claimCheck, pendingOf, ClaimAs, quarantines, claimRecord, claim};
 
-fn own_check(d: Device, interface: u8, alternate: u8, rings: &[u64]) -> Check
-    requires { ⌜ countsFit d ≡ true ⌝ }
-    ensures { λ r. ⌜ r ≡ claimCheck d interface alternate (now (rings .entry)) ⌝ }
-{
-    let list = d.list;
-    let quarantined = d.quarantined;
-    let c = cells::cells_in(d);
-    checks::list_check(
-        list,
-        d.list_len,
-        interface,
-        alternate,
-        c,
-        rings,
-        d.control,
-        quarantined,
-        d.quarantined_count,
-    )
-}
-
+// The checks, the last of them those of the setting and of the rings offered.
 fn claim_check(
     d: Device,
     ctx: usize,
@@ -59,10 +35,25 @@ fn claim_check(
 ) -> Check
     ensures { λ r. ⌜ r ≡ recordCheck d ctx routes log (claimCheck d interface alternate (now (rings .entry))) ⌝ }
 {
+    let list = d.list;
+    let quarantined = d.quarantined;
     let check = d.record_check(ctx, routes, log);
     match check {
         Check::Refuse(a) => Check::Refuse(a),
-        Check::Pass => own_check(d, interface, alternate, rings),
+        Check::Pass => {
+            let c = cells::cells_in(d);
+            checks::list_check(
+                list,
+                d.list_len,
+                interface,
+                alternate,
+                c,
+                rings,
+                d.control,
+                quarantined,
+                d.quarantined_count,
+            )
+        }
     }
 }
 
@@ -90,52 +81,27 @@ fn claim_args(d: Device, c: Cells, interface: u8, alternate: u8, pending: [u64; 
     }
 }
 
-fn with_quarantined(mut d: Device, q: Queues) -> Device
+// Where the settings did not move, 14 puts the pending rings in quarantine.
+fn with_quarantined(mut d: Device, e: Ended, q: Queues) -> Device
     requires { ⌜ (quarantinedOf d ≡ []) × (q .count ≤ 30) ⌝ }
-    ensures { λ r. ⌜ r ≡ withQuarantined (take (q .count) (q .rings)) d ⌝ }
+    ensures { λ r. ⌜ r ≡ cond (e .moved) d (quarantines (e .answer) (take (q .count) (q .rings)) d) ⌝ }
 {
-    let rings = q.rings;
-    let quarantined = checks::quarantined_rings(rings, q.count);
-    d.quarantined = quarantined;
-    d.quarantined_count = q.count;
-    d
-}
-
-// The record of a claim that moved the settings.
-fn moved_record(mut d: Device, c: Cells, interface: u8, alternate: u8, pending: [u64; 30]) -> Device
-    requires { ⌜ (d .«held_count» ≤ 32) × (length (withSetting interface alternate (heldOf d)) ≤ 32) ⌝ }
-    ensures { λ r. ⌜ r ≡ withHeld (withSetting interface alternate (heldOf d)) (withCells (claimedCells interface pending c) d) ⌝ }
-{
-    let interfaces = d.interfaces;
-    let alternates = d.alternates;
-    let s = settings::with_setting(interfaces, alternates, d.held_count, interface, alternate);
-    let claimed = endpoint::claimed_cells(interface, pending, c);
-    d = update::with_cells(d, claimed);
-    update::with_held(d, s)
-}
-
-// The record of one that did not: after 14 the pending rings are quarantined.
-fn kept_record(
-    mut d: Device,
-    c: Cells,
-    interface: u8,
-    active: usize,
-    a: Answer,
-    q: Queues,
-) -> Device
-    requires { ⌜ (quarantinedOf d ≡ []) × (q .count ≤ 30) ⌝ }
-    ensures { λ r. ⌜ r ≡ quarantines a (take (q .count) (q .rings)) (withCells (withActive (Interface interface) active c) d) ⌝ }
-{
-    let revoked = endpoint::with_active(Owner::Interface(interface), active, c);
-    d = update::with_cells(d, revoked);
+    if e.moved {
+        return d;
+    }
+    let a = e.answer;
     if answer::answer_number(a) == 14 {
-        return with_quarantined(d, q);
+        let rings = q.rings;
+        let quarantined = checks::quarantined_rings(rings, q.count);
+        d.quarantined = quarantined;
+        d.quarantined_count = q.count;
+        return d;
     }
     d
 }
 
-// The record that the end of the course makes.
-fn claim_record(
+// The end of the course makes the record, and what the call hands back.
+fn claim_end(
     mut d: Device,
     c: Cells,
     interface: u8,
@@ -143,42 +109,19 @@ fn claim_record(
     pending: [u64; 30],
     q: Queues,
     e: Ended,
-) -> Device
+) -> Called
     requires { ⌜ (d .«held_count» ≤ 32) × (length (withSetting interface alternate (heldOf d)) ≤ 32) ⌝ }
     requires { ⌜ (c ≡ cellsIn d) × (quarantinedOf d ≡ []) × QueuesAs q pending ⌝ }
-    ensures { λ r. ⌜ ((ctx routes rings : List ℕ) → pending ≡ pendingOf d interface alternate rings → r ≡ claimRecord d interface alternate rings (arrays.leaves e ctx routes [] .end)) ⌝ }
+    ensures { λ r. ⌜ ((ctx routes log rings : List ℕ) → pending ≡ pendingOf d interface alternate rings → leaves r ctx routes log ≡ ended (claimRecord d interface alternate rings) (arrays.leaves e ctx routes log)) ⌝ }
 {
-    let a = e.answer;
-    if e.moved {
-        d = moved_record(d, c, interface, alternate, pending);
-        return update::marked(d, a);
-    }
-    d = kept_record(d, c, interface, e.active, a, q);
-    update::marked(d, a)
-}
-
-// What is done where the checks have passed.
-fn claim_run(
-    mut d: Device,
-    ctx: &mut [u8],
-    routes: &mut [u64],
-    log: &mut [u32],
-    outcomes: &[u8],
-    interface: u8,
-    alternate: u8,
-    rings: &[u64],
-) -> Called
-    requires { ⌜ recordCheck d (length (now ctx)) (length (now routes)) (length (now log)) (claimCheck d interface alternate (now rings)) ≡ Pass ⌝ }
-    ensures { λ r. ⌜ leaves r (now (ctx .exit)) (now (routes .exit)) (now (log .exit)) ≡ ended (claimRecord d interface alternate (now (rings .entry))) (played (now (outcomes .entry)) 0 (claimCourse (claimIn d interface alternate (now (rings .entry))) (now (ctx .entry)) (now (routes .entry))) (now (log .entry))) ⌝ }
-{
-    let list = d.list;
-    let c = cells::cells_in(d);
-    let pending = checks::list_rings(list, d.list_len, interface, alternate, rings);
-    let a = claim_args(d, c, interface, alternate, pending);
-    let q = a.pending;
-    let e = claim::claim_interface(ctx, routes, log, outcomes, a, list, d.list_len);
     let answer = e.answer;
-    d = claim_record(d, c, interface, alternate, pending, q, e);
+    let interfaces = d.interfaces;
+    let alternates = d.alternates;
+    let s = settings::with_setting(interfaces, alternates, d.held_count, interface, alternate);
+    let claimed = endpoint::claimed_cells(interface, pending, c);
+    d = update::at_end(d, c, e, Owner::Interface(interface), claimed, s);
+    d = with_quarantined(d, e, q);
+    d = update::marked(d, answer);
     Called {
         device: d,
         answer: answer,
@@ -210,21 +153,21 @@ impl Device {
             rings,
         );
         match check {
-            Check::Refuse(a) => Called {
-                device: self,
-                answer: a,
-                count: 0,
-            },
-            Check::Pass => claim_run(
-                self,
-                ctx,
-                routes,
-                log,
-                outcomes,
-                interface,
-                alternate,
-                rings,
-            ),
+            Check::Refuse(a) => {
+                return Called {
+                    device: self,
+                    answer: a,
+                    count: 0,
+                };
+            }
+            Check::Pass => {}
         }
+        let list = self.list;
+        let c = cells::cells_in(self);
+        let pending = checks::list_rings(list, self.list_len, interface, alternate, rings);
+        let args = claim_args(self, c, interface, alternate, pending);
+        let q = args.pending;
+        let e = claim::claim_interface(ctx, routes, log, outcomes, args, list, self.list_len);
+        claim_end(self, c, interface, alternate, pending, q, e)
     }
 }

@@ -10,18 +10,14 @@ use phase::Ended;
 use release::ReleaseArgs;
 ghost use mathlib.Core.Path.{_≡_};
 ghost use mathlib.Core.Bool.{true};
-ghost use mathlib.Core.List.{List, []};
-ghost use Prim.Native.Nat.{ℕ, _≤_};
-ghost use lib.ListN.{length, replicate};
-ghost use Rattle.command.specs.Course.{played};
-ghost use Rattle.context.specs.Place.{Spaced};
-ghost use Rattle.endpoint.specs.Order.{PLACES};
+ghost use mathlib.Core.List.{List};
+ghost use Prim.Native.Nat.{ℕ};
 ghost use Rattle.endpoint.specs.declared.cells.Owner.the-variants.{Interface};
-ghost use Rattle.endpoint.specs.Cells.{ownedRings, claimedCells, QueuesAs};
+ghost use Rattle.endpoint.specs.Cells.{ownedRings, QueuesAs};
 ghost use Rattle.phase.specs.Arrays as arrays;
-ghost use Rattle.settings.specs.Held.{settingWords, withoutSetting};
-ghost use Rattle.release.specs.Release.{releaseOf, releaseCourse};
-ghost use Rattle.device.specs.Device.{listOf, cellsIn, heldOf, withCells, withHeld};
+ghost use Rattle.settings.specs.Held.{settingWords};
+ghost use Rattle.release.specs.Release.{releaseOf};
+ghost use Rattle.device.specs.Device.{listOf, cellsIn};
 ghost use Rattle.device.specs.Left.{leaves, ended};
 ghost use Rattle.device.specs.Sound.{countsFit};
 ghost use Rattle.device.specs.Check.{recordCheck};
@@ -65,53 +61,19 @@ fn release_args(d: Device, c: Cells, interface: u8) -> ReleaseArgs
     }
 }
 
-// The record without the interface's setting and endpoints.
-fn released(mut d: Device, c: Cells, interface: u8) -> Device
+// The end of the course makes the record, without the interface's setting and endpoints where it moved, and what the call hands back.
+fn release_end(mut d: Device, c: Cells, e: Ended, interface: u8) -> Called
     requires { ⌜ countsFit d ≡ true ⌝ }
-    ensures { λ r. ⌜ r ≡ withHeld (withoutSetting interface (heldOf d)) (withCells (claimedCells interface (replicate PLACES 0) c) d) ⌝ }
+    requires { ⌜ c ≡ cellsIn d ⌝ }
+    ensures { λ r. ⌜ ((ctx routes log : List ℕ) → leaves r ctx routes log ≡ ended (releaseRecord d interface) (arrays.leaves e ctx routes log)) ⌝ }
 {
+    let answer = e.answer;
     let interfaces = d.interfaces;
     let alternates = d.alternates;
     let held = settings::without_setting(interfaces, alternates, d.held_count, interface);
     let others = endpoint::claimed_cells(interface, [0u64; 30], c);
-    d = update::with_cells(d, others);
-    update::with_held(d, held)
-}
-
-// The record that the end of the course makes.
-fn release_record(mut d: Device, c: Cells, e: Ended, interface: u8) -> Device
-    requires { ⌜ countsFit d ≡ true ⌝ }
-    requires { ⌜ c ≡ cellsIn d ⌝ }
-    ensures { λ r. ⌜ ((ctx routes : List ℕ) → r ≡ releaseRecord d interface (arrays.leaves e ctx routes [] .end)) ⌝ }
-{
-    let answer = e.answer;
-    if e.moved {
-        d = released(d, c, interface);
-        return update::marked(d, answer);
-    }
-    let left = endpoint::with_active(Owner::Interface(interface), e.active, c);
-    d = update::with_cells(d, left);
-    update::marked(d, answer)
-}
-
-// What is done where the checks have passed.
-fn release_run(
-    mut d: Device,
-    ctx: &mut [u8],
-    routes: &mut [u64],
-    log: &mut [u32],
-    outcomes: &[u8],
-    interface: u8,
-) -> Called
-    requires { ⌜ (countsFit d ≡ true) × Spaced (d .spacing) (length (now ctx)) × (64 ≤ length (now log)) ⌝ }
-    ensures { λ r. ⌜ leaves r (now (ctx .exit)) (now (routes .exit)) (now (log .exit)) ≡ ended (releaseRecord d interface) (played (now (outcomes .entry)) 0 (releaseCourse (releaseIn d interface) (now (ctx .entry)) (now (routes .entry))) (now (log .entry))) ⌝ }
-{
-    let c = cells::cells_in(d);
-    let a = release_args(d, c, interface);
-    let list = d.list;
-    let e = release::release_interface(ctx, routes, log, outcomes, a, list, d.list_len);
-    let answer = e.answer;
-    d = release_record(d, c, e, interface);
+    d = update::at_end(d, c, e, Owner::Interface(interface), others, held);
+    d = update::marked(d, answer);
     Called {
         device: d,
         answer: answer,
@@ -142,6 +104,10 @@ impl Device {
             }
             Check::Pass => {}
         }
-        release_run(self, ctx, routes, log, outcomes, interface)
+        let c = cells::cells_in(self);
+        let args = release_args(self, c, interface);
+        let list = self.list;
+        let e = release::release_interface(ctx, routes, log, outcomes, args, list, self.list_len);
+        release_end(self, c, e, interface)
     }
 }

@@ -3,7 +3,6 @@ use super::cells;
 use super::record::Called;
 use super::record::Device;
 use super::update;
-use answer::Answer;
 use answer::Check;
 use endpoint::Cells;
 use endpoint::Owner;
@@ -21,7 +20,7 @@ ghost use Rattle.device.specs.Device.{listOf, cellsIn, withConfiguration
 ghost use Rattle.answer.specs.Answer.{isAccepted};
 ghost use Rattle.device.specs.Left.{leaves, ended};
 ghost use Rattle.device.specs.Sound.{countsFit};
-ghost use Rattle.device.specs.SetConfiguration.{settingsIn, bare, setRecord, setConfiguration};
+ghost use Rattle.device.specs.SetConfiguration.{settingsIn, setRecord, setConfiguration};
 
 // What the course works on.
 fn settings_args(d: Device, c: Cells, value: u8) -> SettingsArgs
@@ -46,24 +45,14 @@ fn settings_args(d: Device, c: Cells, value: u8) -> SettingsArgs
     }
 }
 
-// The record without held settings.
-fn bare(mut d: Device) -> Device
-    ensures { λ r. ⌜ r ≡ bare d ⌝ }
+// The value is the record's where the settings moved and the call is accepted.
+fn configured(mut d: Device, e: Ended, value: u8) -> Device
+    ensures { λ r. ⌜ r ≡ cond (e .moved) (cond (isAccepted (e .answer)) (withConfiguration value d) d) d ⌝ }
 {
-    let none = Settings {
-        interfaces: [0u8; 32],
-        alternates: [0u8; 32],
-        count: 0,
-    };
-    let left = endpoint::no_cells();
-    d = update::with_cells(d, left);
-    update::with_held(d, none)
-}
-
-// The value is the record's where the call is accepted.
-fn configured(mut d: Device, a: Answer, value: u8) -> Device
-    ensures { λ r. ⌜ r ≡ cond (isAccepted a) (withConfiguration value d) d ⌝ }
-{
+    let a = e.answer;
+    if !e.moved {
+        return d;
+    }
     if answer::answer_number(a) == 0 {
         d.configured = true;
         d.current_config_value = value;
@@ -78,18 +67,14 @@ fn set_end(mut d: Device, c: Cells, e: Ended, value: u8) -> Called
     ensures { λ r. ⌜ ((ctx routes log : List ℕ) → leaves r ctx routes log ≡ ended (setRecord d value) (arrays.leaves e ctx routes log)) ⌝ }
 {
     let answer = e.answer;
-    if e.moved {
-        d = bare(d);
-        d = configured(d, answer, value);
-        d = update::marked(d, answer);
-        return Called {
-            device: d,
-            answer: answer,
-            count: e.count,
-        };
-    }
-    let left = endpoint::with_active(Owner::Any, e.active, c);
-    d = update::with_cells(d, left);
+    let none = Settings {
+        interfaces: [0u8; 32],
+        alternates: [0u8; 32],
+        count: 0,
+    };
+    let left = endpoint::no_cells();
+    d = update::at_end(d, c, e, Owner::Any, left, none);
+    d = configured(d, e, value);
     d = update::marked(d, answer);
     Called {
         device: d,

@@ -2,9 +2,13 @@
 use super::record::Device;
 use answer::Answer;
 use endpoint::Cells;
+use endpoint::Owner;
+use phase::Ended;
 use settings::Settings;
 ghost use mathlib.Core.Path.{_≡_};
+ghost use mathlib.Core.Bool.{cond};
 ghost use mathlib.Core.List.{List};
+ghost use Rattle.endpoint.specs.Cells.{withActive};
 ghost use Rattle.settings.specs.Held.{Held, SettingsAs};
 ghost use Rattle.device.specs.Device.{withCells, withHeld};
 ghost use Rattle.device.specs.Left.{marked};
@@ -24,7 +28,7 @@ pub fn marked(mut d: Device, a: Answer) -> Device
 }
 
 // Other endpoints.
-pub fn with_cells(mut d: Device, c: Cells) -> Device
+fn with_cells(mut d: Device, c: Cells) -> Device
     ensures { λ r. ⌜ r ≡ withCells c d ⌝ }
 {
     let e = endpoint::endpoints_of(c);
@@ -36,14 +40,19 @@ pub fn with_cells(mut d: Device, c: Cells) -> Device
     d
 }
 
-// Other held settings.
-pub fn with_held(mut d: Device, s: Settings) -> Device
-    ensures { λ r. ⌜ ((hs : List Held) → SettingsAs s hs → r ≡ withHeld hs d) ⌝ }
+// Other endpoints and held settings where the course moved them, else the owner's endpoints as far as they were made active again.
+pub fn at_end(mut d: Device, c: Cells, e: Ended, who: Owner, moved: Cells, held: Settings) -> Device
+    ensures { λ r. ⌜ ((hs : List Held) → SettingsAs held hs → r ≡ cond (e .moved) (withHeld hs (withCells moved d)) (withCells (withActive who (e .active) c) d)) ⌝ }
 {
-    let interfaces = s.interfaces;
-    let alternates = s.alternates;
-    d.interfaces = interfaces;
-    d.alternates = alternates;
-    d.held_count = s.count;
-    d
+    if e.moved {
+        let interfaces = held.interfaces;
+        let alternates = held.alternates;
+        d = with_cells(d, moved);
+        d.interfaces = interfaces;
+        d.alternates = alternates;
+        d.held_count = held.count;
+        return d;
+    }
+    let left = endpoint::with_active(who, e.active, c);
+    with_cells(d, left)
 }

@@ -10,13 +10,13 @@ answer-number-requires c κs = search needs
 
 returns : tie.Need-returns
 unfolding unusable
-returns c = marked-lost _ _ _ (c .before .before .answer-number .ensures) (c .before .if1 .left) (c .if2 .taken)
+returns c = marked-lost (c .before .before .before .args .a) (c .before .before .before .args .d) (c .before .before .answer-number .result) (c .before .before .answer-number .ensures) (c .before .if1 .left) (c .if2 .taken)
 
 returns-2 : tie.Need-returns-2
-returns-2 c = marked-kept _ _ _ (c .before .answer-number .ensures) (inl (c .if1 .taken))
+returns-2 c = marked-kept (c .before .before .args .a) (c .before .before .args .d) (c .before .answer-number .result) (c .before .answer-number .ensures) (inl (c .if1 .taken))
 
 returns-3 : tie.Need-returns-3
-returns-3 c = marked-kept _ _ _ (c .before .before .answer-number .ensures) (inr (c .if2 .left))
+returns-3 c = marked-kept (c .before .before .before .args .a) (c .before .before .before .args .d) (c .before .before .answer-number .result) (c .before .before .answer-number .ensures) (inr (c .if2 .left))
 
 pub marked-spec : {M : Type 1} → statement M
 marked-spec = tie.close (tie.spec answer-number-requires returns returns-2 returns-3)

@@ -1,10 +1,9 @@
 use mathlib.Core.Path.{sym, _∙_}
 use native.Mathlib.Omega.{arith}
 use borrow.Author.Needs.{needs}
-use Rattle.command.proofs.Laws.{played-sends, played-ends}
-use Rattle.device.specs.Left.{refused}
-use Rattle.device.specs.Calls.{onCheck, hubContext, hubCourse, hubLeft, hubUpdate}
 use Rattle.device.proofs.Laws.{passed}
+use Rattle.device.specs.Calls.{hubUpdate}
+use Rattle.device.proofs.Exits.{refused-left, passed-left, hub-left}
 use Rattle.device.proofs.record.Device.hub_update.Statement.{statement}
 use Rattle.device.proofs.record.Device.hub_update.Tie as tie
 
@@ -15,8 +14,8 @@ enum-known-check : tie.Need-enum-known-check
 enum-known-check c = search needs
 
 returns : tie.Need-returns
-unfolding hubUpdate onCheck refused
-returns c = rw (← c .before .before .before .hub-check .ensures, c .before .check .given .1)
+unfolding hubUpdate
+returns c = refused-left _ _ (c .before .before .before .hub-check .ensures) _ (c .before .check .given .1) (c .before .before .before .before .before .before .before .before .args .self) _ (c .before .before .before .before .before .before .before .before .args .ctx .now) (c .before .before .before .before .before .before .before .before .args .routes .now) (c .before .before .before .before .before .before .before .before .args .log .now)
 
 enum-told : tie.Need-enum-told
 enum-told c = search needs
@@ -30,8 +29,11 @@ hub-context-requires c κs = passed _ _ _ _ _ (sym (c .before .before .before .b
 send-requires : tie.Need-send-requires
 send-requires c κs = let p = passed _ _ _ _ _ (sym (c .before .before .before .before .before .before .before .before .hub-check .ensures) ∙ c .before .before .before .before .before .before .enum-told .given .1) .0 in omega (arith, p .room)
 
-hub-end-requires : tie.Need-hub-end-requires
-hub-end-requires c κs = search needs
+answer-of-requires : tie.Need-answer-of-requires
+answer-of-requires c κs = search needs
+
+marked-requires : tie.Need-marked-requires
+marked-requires c κs = search needs
 
 same-length : tie.Need-same-length
 same-length c = search needs
@@ -40,8 +42,8 @@ same-length-2 : tie.Need-same-length-2
 same-length-2 c = search needs
 
 returns-2 : tie.Need-returns-2
-unfolding hubUpdate onCheck hubLeft hubCourse hubContext
-returns-2 c = rw (← c .before .before .before .before .before .before .before .before .before .before .before .before .hub-check .ensures, c .before .before .before .before .before .before .before .before .before .before .enum-told .given .1, c .hub-end .ensures, played-sends, played-ends, c .before .before .before .send .ensures .1, c .before .before .before .send .ensures .0, c .before .before .before .before .before .before .before .hub-context .ensures, c .before .before .before .before .before .before .before .before .before .think-value .ensures)
+unfolding hubUpdate
+returns-2 c = passed-left _ _ (c .before .before .before .before .before .before .before .before .before .before .before .before .before .hub-check .ensures) (c .before .before .before .before .before .before .before .before .before .before .before .enum-told .given .1) _ _ _ (hub-left (c .before .before .before .before .before .before .before .before .before .before .before .before .before .before .before .before .before .before .args .self) (c .before .before .before .before .before .before .before .before .before .before .before .before .before .before .before .before .before .before .args .outcomes .now) (c .before .before .before .before .before .before .before .before .before .before .before .before .before .before .before .before .before .before .args .ctx .now) (c .before .before .before .before .before .before .before .before .before .before .before .before .before .before .before .before .before .before .args .routes .now) (c .before .before .before .before .before .before .before .before .before .before .before .before .before .before .before .before .before .before .args .log .now) (c .before .before .before .before .before .before .before .before .before .before .before .before .before .before .before .before .before .before .args .ports) (c .before .before .before .before .before .before .before .before .before .before .before .before .before .before .before .before .before .before .args .multi) (c .before .before .before .before .before .before .before .before .before .before .before .before .before .before .before .before .before .before .args .ns) _ _ _ _ (c .before .answer-of .result) (c .marked .result) (c .before .before .before .before .before .before .before .before .before .before .think-value .ensures) (c .before .before .before .before .before .before .before .before .hub-context .ensures) (c .before .before .before .before .send .ensures) (c .before .answer-of .ensures) (c .marked .ensures))
 
 pub hub-update-spec : {M : Type 1} → statement M
 hub-update-spec =
@@ -54,7 +56,8 @@ hub-update-spec =
     think-value-requires
     hub-context-requires
     send-requires
-    hub-end-requires
+    answer-of-requires
+    marked-requires
     same-length
     same-length-2
     returns-2)

@@ -1,8 +1,7 @@
 use Rattle.device.specs.SetConfiguration.{setConfiguration}
-use Rattle.device.specs.Calls.{onCheck}
-use Rattle.device.specs.Left.{refused}
 use Rattle.device.proofs.SetConfiguration.{counts-if, set-room, set-left}
 use borrow.Author.Needs.{needs}
+use Rattle.device.proofs.Exits.{refused-left}
 use Rattle.device.proofs.record.Device.set_configuration.Statement.{statement}
 use Rattle.device.proofs.record.Device.set_configuration.Tie as tie
 
@@ -13,8 +12,8 @@ enum-known-check : tie.Need-enum-known-check
 enum-known-check c = search needs
 
 returns : tie.Need-returns
-unfolding setConfiguration onCheck refused
-returns c = rw (← c .before .before .before .record-check .ensures, c .before .check .given .1)
+unfolding setConfiguration
+returns c = refused-left _ _ (c .before .before .before .record-check .ensures) _ (c .before .check .given .1) (c .before .before .before .before .before .before .before .before .args .self) _ (c .before .before .before .before .before .before .before .before .args .ctx .now) (c .before .before .before .before .before .before .before .before .args .routes .now) (c .before .before .before .before .before .before .before .before .args .log .now)
 
 enum-told : tie.Need-enum-told
 enum-told c = search needs
