@@ -22,7 +22,12 @@ same-length c = search needs
 
 returns : tie.Need-returns
 unfolding addressContext addressWrites
-returns c = c .before .before .address-endpoint .ensures ∙ rw (written-append, written-append, written-control, written-slot, written-block, c .before .before .before .before .before .before .address-slot .ensures, c .before .before .before .before .before .before .before .before .before .before .address-control .ensures, c .before .before .before .before .before .before .before .before .before .before .before .before .before .before .clear .ensures)
+returns c =
+    let c6 = c .before .before .before .before .before .before in
+    let c10 = c6 .before .before .before .before in
+    let c14 = c10 .before .before .before .before in
+    c .before .before .address-endpoint .ensures ∙ rw
+    (written-append, written-append, written-control, written-slot, written-block, c6 .address-slot .ensures, c10 .address-control .ensures, c14 .clear .ensures)
 
 pub address-context-spec : {M : Type 1} → statement M
 address-context-spec =

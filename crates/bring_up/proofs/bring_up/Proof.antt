@@ -40,7 +40,14 @@ same-length-4 : tie.Need-same-length-4
 same-length-4 c = search needs
 
 returns-2 : tie.Need-returns-2
-returns-2 c = passed-left _ _ _ _ (c .before .before .before .before .before .before .before .before .before .before .before .before .before .before .before .enter .ensures) _ (c .before .before .before .before .before .before .before .before .before .before .before .enum-told .given .1) (c .before .before .before .before .before .before .before .before .before .before .before .before .before .before .before .before .before .spacing-of .ensures) (c .before .before .before .before .before .before .before .address .ensures) (c .brought .ensures (c .before .before .before .before .before .before .before .before .before .before .before .before .before .before .before .before .before .before .before .before .before .before .before .before .args .hubs .now) (c .before .before .before .before .before .before .before .address .last .0) (c .before .before .before .before .before .before .before .address .last .1 .0) (c .before .before .before .before .before .before .before .address .last .1 .1 .0))
+returns-2 c =
+    let c7 = c .before .before .before .before .before .before .before in
+    let c11 = c7 .before .before .before .before in
+    let c15 = c11 .before .before .before .before in
+    let c17 = c15 .before .before in
+    let c24 = c17 .before .before .before .before .before .before .before in
+    passed-left _ _ _ _ (c15 .enter .ensures) _ (c11 .enum-told .given .1) (c17 .spacing-of .ensures) (c7 .address .ensures)
+    (c .brought .ensures (c24 .args .hubs .now) (c7 .address .last .0) (c7 .address .last .1 .0) (c7 .address .last .1 .1 .0))
 
 pub bring-up-spec : {M : Type 1} → statement M
 bring-up-spec =

@@ -53,7 +53,11 @@ listed :
 listed a list words old new o ctx routes log x p q e w = e ∙ rw (p, q, w)
 
 returns : tie.Need-returns
-returns c = listed _ _ _ _ _ _ _ _ _ _ (c .before .before .before .before .before .before .before .before .before .before .before .held-words .ensures) (c .before .before .before .before .before .before .before .before .before .before .setting-words .ensures) (c .before .before .before .before .before .before .run-claim .ensures) (rw sub-zero)
+returns c =
+    let c6 = c .before .before .before .before .before .before in
+    let c10 = c6 .before .before .before .before in
+    let c11 = c10 .before in
+    listed _ _ _ _ _ _ _ _ _ _ (c11 .held-words .ensures) (c10 .setting-words .ensures) (c6 .run-claim .ensures) (rw sub-zero)
 
 pub claim-interface-spec : {M : Type 1} → statement M
 claim-interface-spec =

@@ -37,7 +37,11 @@ same-length-2 c = search needs
 
 returns : tie.Need-returns
 unfolding claimSwitch onSent
-returns c = rw (played-sends, ← c .before .before .before .before .before .before .before .before .send .ensures .1, ← c .before .before .before .before .before .before .before .before .send .ensures .0, c .before .before .before .before .enum-told .given .1) (c .before .before .publish .ensures _ _ _ _ _)
+returns c =
+    let c4 = c .before .before .before .before in
+    let c8 = c4 .before .before .before .before in
+    rw (played-sends, ← c8 .send .ensures .1, ← c8 .send .ensures .0, c4 .enum-told .given .1)
+    (c .before .before .publish .ensures _ _ _ _ _)
 
 same-length-3 : tie.Need-same-length-3
 same-length-3 c = search needs
@@ -47,7 +51,11 @@ same-length-4 c = search needs
 
 returns-2 : tie.Need-returns-2
 unfolding claimSwitch onSent
-returns-2 c = rw (played-sends, ← c .before .before .before .before .before .before .before .before .before .before .before .before .send .ensures .1, ← c .before .before .before .before .before .before .before .before .before .before .before .before .send .ensures .0, c .before .before .before .before .before .before .before .before .s .given .1) (c .before .before .before .before .undo .ensures _)
+returns-2 c =
+    let c4 = c .before .before .before .before in
+    let c8 = c4 .before .before .before .before in
+    let c12 = c8 .before .before .before .before in
+    rw (played-sends, ← c12 .send .ensures .1, ← c12 .send .ensures .0, c8 .s .given .1) (c4 .undo .ensures _)
 
 same-length-5 : tie.Need-same-length-5
 same-length-5 c = search needs

@@ -34,7 +34,11 @@ same-length c = search needs
 
 returns : tie.Need-returns
 unfolding claimSwitchBack onSent
-returns c = λ old new ctx routes. rw (played-sends, ← c .before .before .before .before .before .send .ensures .1, ← c .before .before .before .before .before .send .ensures .0, c .before .enum-told .given .1, played-ends, c .before .before .before .before .before .before .before .before .before .pre .0, c .stays .ensures)
+returns c =
+    let c5 = c .before .before .before .before .before in
+    let c9 = c5 .before .before .before .before in
+    λ old new ctx routes. rw
+    (played-sends, ← c5 .send .ensures .1, ← c5 .send .ensures .0, c .before .enum-told .given .1, played-ends, c9 .pre .0, c .stays .ensures)
 
 same-length-2 : tie.Need-same-length-2
 same-length-2 c = search needs

@@ -40,7 +40,12 @@ same-length-2 c = search needs
 
 returns : tie.Need-returns
 unfolding claimUndo onSent
-returns c = λ routes. rw (played-sends, ← c .before .before .before .before .before .before .before .before .send .ensures .1, ← c .before .before .before .before .before .before .before .before .send .ensures .0, c .before .before .before .before .enum-told .given .1, ← c .before .before .before .before .before .before .before .before .before .before .before .before .prepare-undo .ensures) (c .before .before .undone .ensures _ _ _ _)
+returns c =
+    let c4 = c .before .before .before .before in
+    let c8 = c4 .before .before .before .before in
+    let c12 = c8 .before .before .before .before in
+    λ routes. rw (played-sends, ← c8 .send .ensures .1, ← c8 .send .ensures .0, c4 .enum-told .given .1, ← c12 .prepare-undo .ensures)
+    (c .before .before .undone .ensures _ _ _ _)
 
 same-length-3 : tie.Need-same-length-3
 same-length-3 c = search needs
@@ -50,7 +55,11 @@ same-length-4 c = search needs
 
 returns-2 : tie.Need-returns-2
 unfolding claimUndo onSent
-returns-2 c = λ routes. rw (played-sends, ← c .before .before .before .before .before .send .ensures .1, ← c .before .before .before .before .before .send .ensures .0, c .before .enum-told2 .given .1, ← c .before .before .before .before .before .before .before .before .before .prepare-undo .ensures, played-ends, c .stays .ensures)
+returns-2 c =
+    let c5 = c .before .before .before .before .before in
+    let c9 = c5 .before .before .before .before in
+    λ routes. rw
+    (played-sends, ← c5 .send .ensures .1, ← c5 .send .ensures .0, c .before .enum-told2 .given .1, ← c9 .prepare-undo .ensures, played-ends, c .stays .ensures)
 
 same-length-5 : tie.Need-same-length-5
 same-length-5 c = search needs
@@ -60,7 +69,11 @@ same-length-6 c = search needs
 
 returns-3 : tie.Need-returns-3
 unfolding claimUndo onSent
-returns-3 c = λ routes. rw (played-sends, ← c .before .before .before .before .before .send .ensures .1, ← c .before .before .before .before .before .send .ensures .0, c .before .enum-told3 .given .1, ← c .before .before .before .before .before .before .before .before .before .prepare-undo .ensures, played-ends, c .stays2 .ensures)
+returns-3 c =
+    let c5 = c .before .before .before .before .before in
+    let c9 = c5 .before .before .before .before in
+    λ routes. rw
+    (played-sends, ← c5 .send .ensures .1, ← c5 .send .ensures .0, c .before .enum-told3 .given .1, ← c9 .prepare-undo .ensures, played-ends, c .stays2 .ensures)
 
 pub undo-spec : {M : Type 1} → statement M
 undo-spec =

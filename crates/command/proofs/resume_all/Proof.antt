@@ -40,7 +40,11 @@ loop-less c = search needs
 
 loop-again : tie.Need-loop-again Inv-loop μ-loop
 unfolding onSent
-loop-again c = (search needs, search needs, search needs, λ ctx. c .before .before .before .before .before .before .before .before .loop .inv .3 ctx ∙ resume-next _ _ _ _ _ _ _ (c .before .before .before .before .before .before .before .loop-test .taken) (c .before .before .before .before .send .ensures .0) (c .before .before .before .before .send .ensures .1) ctx ∙ rw (c .enum-told .given .1))
+loop-again c =
+    let c4 = c .before .before .before .before in
+    let c7 = c4 .before .before .before in
+    let c8 = c7 .before in
+    (search needs, search needs, search needs, λ ctx. c8 .loop .inv .3 ctx ∙ resume-next _ _ _ _ _ _ _ (c7 .loop-test .taken) (c4 .send .ensures .0) (c4 .send .ensures .1) ctx ∙ rw (c .enum-told .given .1))
 
 enum-known-s : tie.Need-enum-known-s Inv-loop μ-loop
 enum-known-s c = search needs
@@ -53,7 +57,13 @@ same-length c = search needs
 
 returns : tie.Need-returns Inv-loop μ-loop
 unfolding resumeAll onSent
-returns c = λ ctx. rw (c .ended .ensures, c .before .before .before .before .before .before .before .before .before .before .loop .inv .3 ctx ∙ resume-next _ _ _ _ _ _ _ (c .before .before .before .before .before .before .before .before .before .loop-test .taken) (c .before .before .before .before .before .before .send .ensures .0) (c .before .before .before .before .before .before .send .ensures .1) ctx, c .before .before .s .given .1, played-ends) (record { sent = refl; active = refl; count = refl; log = refl })
+returns c =
+    let c6 = c .before .before .before .before .before .before in
+    let c9 = c6 .before .before .before in
+    let c10 = c9 .before in
+    λ ctx. rw
+    (c .ended .ensures, c10 .loop .inv .3 ctx ∙ resume-next _ _ _ _ _ _ _ (c9 .loop-test .taken) (c6 .send .ensures .0) (c6 .send .ensures .1) ctx, c .before .before .s .given .1, played-ends)
+    (record { sent = refl; active = refl; count = refl; log = refl })
 
 enum-told-2 : tie.Need-enum-told-2 Inv-loop μ-loop
 enum-told-2 c = search needs
@@ -66,7 +76,13 @@ same-length-2 c = search needs
 
 returns-2 : tie.Need-returns-2 Inv-loop μ-loop
 unfolding resumeAll onSent
-returns-2 c = λ ctx. rw (c .ended2 .ensures, c .before .before .before .before .before .before .before .before .before .loop .inv .3 ctx ∙ resume-next _ _ _ _ _ _ _ (c .before .before .before .before .before .before .before .before .loop-test .taken) (c .before .before .before .before .before .send .ensures .0) (c .before .before .before .before .before .send .ensures .1) ctx, c .before .enum-told2 .given .1, played-ends) (record { sent = refl; active = refl; count = refl; log = refl })
+returns-2 c =
+    let c5 = c .before .before .before .before .before in
+    let c8 = c5 .before .before .before in
+    let c9 = c8 .before in
+    λ ctx. rw
+    (c .ended2 .ensures, c9 .loop .inv .3 ctx ∙ resume-next _ _ _ _ _ _ _ (c8 .loop-test .taken) (c5 .send .ensures .0) (c5 .send .ensures .1) ctx, c .before .enum-told2 .given .1, played-ends)
+    (record { sent = refl; active = refl; count = refl; log = refl })
 
 ended-requires-3 : tie.Need-ended-requires-3 Inv-loop μ-loop
 ended-requires-3 c κs = search needs

@@ -41,7 +41,11 @@ loop-less c = search needs
 
 loop-again : tie.Need-loop-again Inv-loop μ-loop
 unfolding onSent
-loop-again c = (search needs, search needs, search needs, λ ctx. c .before .before .before .before .before .before .before .before .loop .inv .3 ctx ∙ stop-next _ _ _ _ _ _ _ (c .before .before .before .before .before .before .before .loop-test .taken) (c .before .before .before .before .send .ensures .0) (c .before .before .before .before .send .ensures .1) ctx ∙ rw (c .enum-told .given .1))
+loop-again c =
+    let c4 = c .before .before .before .before in
+    let c7 = c4 .before .before .before in
+    let c8 = c7 .before in
+    (search needs, search needs, search needs, λ ctx. c8 .loop .inv .3 ctx ∙ stop-next _ _ _ _ _ _ _ (c7 .loop-test .taken) (c4 .send .ensures .0) (c4 .send .ensures .1) ctx ∙ rw (c .enum-told .given .1))
 
 enum-known-s : tie.Need-enum-known-s Inv-loop μ-loop
 enum-known-s c = search needs
@@ -57,7 +61,14 @@ same-length c = search needs
 
 returns : tie.Need-returns Inv-loop μ-loop
 unfolding stopAll onSent
-returns c = λ ctx. rw (c .before .before .before .before .before .before .before .before .before .before .before .before .before .before .loop .inv .3 ctx ∙ stop-next _ _ _ _ _ _ _ (c .before .before .before .before .before .before .before .before .before .before .before .before .before .loop-test .taken) (c .before .before .before .before .before .before .before .before .before .before .send .ensures .0) (c .before .before .before .before .before .before .before .before .before .before .send .ensures .1) ctx, c .before .before .before .before .before .before .s .given .1) (c .before .before .undo-stops .ensures ctx)
+returns c =
+    let c6 = c .before .before .before .before .before .before in
+    let c10 = c6 .before .before .before .before in
+    let c13 = c10 .before .before .before in
+    let c14 = c13 .before in
+    λ ctx. rw
+    (c14 .loop .inv .3 ctx ∙ stop-next _ _ _ _ _ _ _ (c13 .loop-test .taken) (c10 .send .ensures .0) (c10 .send .ensures .1) ctx, c6 .s .given .1)
+    (c .before .before .undo-stops .ensures ctx)
 
 enum-told-2 : tie.Need-enum-told-2 Inv-loop μ-loop
 enum-told-2 c = search needs
@@ -70,7 +81,13 @@ same-length-2 c = search needs
 
 returns-2 : tie.Need-returns-2 Inv-loop μ-loop
 unfolding stopAll onSent
-returns-2 c = λ ctx. rw (c .ended .ensures, c .before .before .before .before .before .before .before .before .before .loop .inv .3 ctx ∙ stop-next _ _ _ _ _ _ _ (c .before .before .before .before .before .before .before .before .loop-test .taken) (c .before .before .before .before .before .send .ensures .0) (c .before .before .before .before .before .send .ensures .1) ctx, c .before .enum-told2 .given .1, played-ends) (record { sent = refl; active = refl; count = refl; log = refl })
+returns-2 c =
+    let c5 = c .before .before .before .before .before in
+    let c8 = c5 .before .before .before in
+    let c9 = c8 .before in
+    λ ctx. rw
+    (c .ended .ensures, c9 .loop .inv .3 ctx ∙ stop-next _ _ _ _ _ _ _ (c8 .loop-test .taken) (c5 .send .ensures .0) (c5 .send .ensures .1) ctx, c .before .enum-told2 .given .1, played-ends)
+    (record { sent = refl; active = refl; count = refl; log = refl })
 
 ended-requires-2 : tie.Need-ended-requires-2 Inv-loop μ-loop
 ended-requires-2 c κs = search needs

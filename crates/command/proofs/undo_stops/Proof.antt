@@ -19,7 +19,10 @@ same-length c = search needs
 
 returns : tie.Need-returns
 unfolding undoStops
-returns c = λ ctx. rw (c .ended .ensures, played-then, played-ends) (record { sent = c .before .or-code .ensures ∙ ap (orCode _) (c .before .before .before .before .resume-all .ensures ctx .sent); active = c .before .before .before .before .resume-all .ensures ctx .active; count = c .before .before .before .before .resume-all .ensures ctx .count; log = c .before .before .before .before .resume-all .ensures ctx .log })
+returns c =
+    let c4 = c .before .before .before .before in
+    λ ctx. rw (c .ended .ensures, played-then, played-ends)
+    (record { sent = c .before .or-code .ensures ∙ ap (orCode _) (c4 .resume-all .ensures ctx .sent); active = c4 .resume-all .ensures ctx .active; count = c4 .resume-all .ensures ctx .count; log = c4 .resume-all .ensures ctx .log })
 
 pub undo-stops-spec : {M : Type 1} → statement M
 undo-stops-spec =

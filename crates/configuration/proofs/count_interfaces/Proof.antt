@@ -49,19 +49,33 @@ loop-less : tie.Need-loop-less Inv-loop μ-loop
 loop-less c = search needs
 
 loop-again : tie.Need-loop-again Inv-loop μ-loop
-loop-again c = (search needs, search needs, simp length-set (c .before .before .before .before .before .before .loop .inv .2), rw (drop-back (c .before .before .before .before .before .before .before .before .args .list .now) (c .before .before .before .before .before .before .loop .i) (c .before .before .before .before .before .loop-test .taken) (c .before .before .before .before .before .before .loop .inv .0)) (new-word _ _ _ _ (c .before .before .before .before .before .before .loop .inv .3) _ (c .before .before .before .word-kind .ensures) _ (c .before .interface-number .ensures) (c .before .before .if1 .taken) (search needs) (c .before .before .before .before .before .before .loop .inv .2) (not-true _ (c .if2 .taken))))
+loop-again c =
+    let c3 = c .before .before .before in
+    let c5 = c3 .before .before in
+    let c6 = c5 .before in
+    let c8 = c6 .before .before in
+    (search needs, search needs, simp length-set (c6 .loop .inv .2), rw (drop-back (c8 .args .list .now) (c6 .loop .i) (c5 .loop-test .taken) (c6 .loop .inv .0)) (new-word _ _ _ _ (c6 .loop .inv .3) _ (c3 .word-kind .ensures) _ (c .before .interface-number .ensures) (c .before .before .if1 .taken) (search needs) (c6 .loop .inv .2) (not-true _ (c .if2 .taken))))
 
 loop-less-2 : tie.Need-loop-less-2 Inv-loop μ-loop
 loop-less-2 c = search needs
 
 loop-again-2 : tie.Need-loop-again-2 Inv-loop μ-loop
-loop-again-2 c = (search needs, search needs, search needs, rw (drop-back (c .before .before .before .before .before .before .before .before .args .list .now) (c .before .before .before .before .before .before .loop .i) (c .before .before .before .before .before .loop-test .taken) (c .before .before .before .before .before .before .loop .inv .0)) (marked-word _ _ _ _ (c .before .before .before .before .before .before .loop .inv .3) _ (c .before .before .before .word-kind .ensures) _ (c .before .interface-number .ensures) (c .before .before .if1 .taken) (search needs) (not-false _ (c .if2 .left))))
+loop-again-2 c =
+    let c3 = c .before .before .before in
+    let c5 = c3 .before .before in
+    let c6 = c5 .before in
+    let c8 = c6 .before .before in
+    (search needs, search needs, search needs, rw (drop-back (c8 .args .list .now) (c6 .loop .i) (c5 .loop-test .taken) (c6 .loop .inv .0)) (marked-word _ _ _ _ (c6 .loop .inv .3) _ (c3 .word-kind .ensures) _ (c .before .interface-number .ensures) (c .before .before .if1 .taken) (search needs) (not-false _ (c .if2 .left))))
 
 loop-less-3 : tie.Need-loop-less-3 Inv-loop μ-loop
 loop-less-3 c = search needs
 
 loop-again-3 : tie.Need-loop-again-3 Inv-loop μ-loop
-loop-again-3 c = (search needs, search needs, search needs, rw (drop-back (c .before .before .before .before .before .before .args .list .now) (c .before .before .before .before .loop .i) (c .before .before .before .loop-test .taken) (c .before .before .before .before .loop .inv .0)) (other-word _ _ _ _ (c .before .before .before .before .loop .inv .3) _ (c .before .word-kind .ensures) (c .if1 .left)))
+loop-again-3 c =
+    let c3 = c .before .before .before in
+    let c4 = c3 .before in
+    let c6 = c4 .before .before in
+    (search needs, search needs, search needs, rw (drop-back (c6 .args .list .now) (c4 .loop .i) (c3 .loop-test .taken) (c4 .loop .inv .0)) (other-word _ _ _ _ (c4 .loop .inv .3) _ (c .before .word-kind .ensures) (c .if1 .left)))
 
 returns : tie.Need-returns Inv-loop μ-loop
 returns c = counted-all _ _ _ _ (c .loop-test .left) (c .before .loop .inv .3)

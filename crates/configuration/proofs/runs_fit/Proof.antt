@@ -38,14 +38,23 @@ run-fits-requires c κs = search needs
 
 returns : tie.Need-returns Inv-loop μ-loop
 unfolding runsFit
-returns c = sym (c .before .before .before .before .before .before .before .loop .inv .1 ∙ ap runsFit (drop-next _ _ (c .before .before .before .before .before .before .loop-test .taken)) ∙ rw (← c .before .before .before .before .word-kind .ensures, ← c .before .before .endpoint-run .ensures, ← c .before .run-fits .ensures, not-true (c .before .run-fits .result) (c .if2 .taken)))
+returns c =
+    let c4 = c .before .before .before .before in
+    let c6 = c4 .before .before in
+    let c7 = c6 .before in
+    sym
+    (c7 .loop .inv .1 ∙ ap runsFit (drop-next _ _ (c6 .loop-test .taken)) ∙ rw (← c4 .word-kind .ensures, ← c .before .before .endpoint-run .ensures, ← c .before .run-fits .ensures, not-true (c .before .run-fits .result) (c .if2 .taken)))
 
 loop-less : tie.Need-loop-less Inv-loop μ-loop
 loop-less c = search needs
 
 loop-again : tie.Need-loop-again Inv-loop μ-loop
 unfolding runsFit
-loop-again c = (search needs, c .before .before .before .before .before .before .before .loop .inv .1 ∙ ap runsFit (drop-next _ _ (c .before .before .before .before .before .before .loop-test .taken)) ∙ rw (← c .before .before .before .before .word-kind .ensures, ← c .before .before .endpoint-run .ensures, ← c .before .run-fits .ensures, not-false (c .before .run-fits .result) (c .if2 .left)))
+loop-again c =
+    let c4 = c .before .before .before .before in
+    let c6 = c4 .before .before in
+    let c7 = c6 .before in
+    (search needs, c7 .loop .inv .1 ∙ ap runsFit (drop-next _ _ (c6 .loop-test .taken)) ∙ rw (← c4 .word-kind .ensures, ← c .before .before .endpoint-run .ensures, ← c .before .run-fits .ensures, not-false (c .before .run-fits .result) (c .if2 .left)))
 
 loop-less-2 : tie.Need-loop-less-2 Inv-loop μ-loop
 loop-less-2 c = search needs

@@ -55,14 +55,25 @@ count-configurations-requires c κs = search needs
 
 returns-5 : tie.Need-returns-5
 unfolding validList
-returns-5 c = rw (short (c .before .before .before .before .before .before .before .before), begun (c .before .before .before .before .before .before), worded (c .before .before .before .before), fitted (c .before .before), lt-leb (configurations (c .before .before .before .before .before .before .before .before .before .before .args .list .now)) 8 (omega (arith, c .before .count-configurations .ensures)))
+returns-5 c =
+    let c4 = c .before .before .before .before in
+    let c6 = c4 .before .before in
+    let c8 = c6 .before .before in
+    let c10 = c8 .before .before in
+    rw
+    (short (c8), begun (c6), worded (c4), fitted (c .before .before), lt-leb (configurations (c10 .args .list .now)) 8 (omega (arith, c .before .count-configurations .ensures)))
 
 count-interfaces-requires : tie.Need-count-interfaces-requires
 count-interfaces-requires c κs = search needs
 
 returns-6 : tie.Need-returns-6
 unfolding validList
-returns-6 c = rw (short (c .before .before .before .before .before .before .before .before .before), begun (c .before .before .before .before .before .before .before), worded (c .before .before .before .before .before), fitted (c .before .before .before), few (c .before), c .count-interfaces .ensures)
+returns-6 c =
+    let c3 = c .before .before .before in
+    let c5 = c3 .before .before in
+    let c7 = c5 .before .before in
+    let c9 = c7 .before .before in
+    rw (short (c9), begun (c7), worded (c5), fitted (c3), few (c .before), c .count-interfaces .ensures)
 
 pub valid-list-spec : {M : Type 1} → statement M
 valid-list-spec =

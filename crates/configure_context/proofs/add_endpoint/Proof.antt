@@ -22,7 +22,12 @@ same-length c = search needs
 
 returns : tie.Need-returns
 unfolding addWrites
-returns c = c .before .before .put-endpoint .ensures ∙ rw (written-append, written-control, written-block, c .before .before .before .before .before .before .add-flag .ensures, c .before .before .before .before .before .before .before .before .ring-of .ensures, c .before .before .before .before .before .before .before .before .before .word-dci .ensures .0)
+returns c =
+    let c6 = c .before .before .before .before .before .before in
+    let c8 = c6 .before .before in
+    let c9 = c8 .before in
+    c .before .before .put-endpoint .ensures ∙ rw
+    (written-append, written-control, written-block, c6 .add-flag .ensures, c8 .ring-of .ensures, c9 .word-dci .ensures .0)
 
 pub add-endpoint-spec : {M : Type 1} → statement M
 add-endpoint-spec =

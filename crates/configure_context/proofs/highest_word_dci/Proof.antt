@@ -39,7 +39,11 @@ loop-less : tie.Need-loop-less Inv-loop μ-loop
 loop-less c = search needs
 
 loop-again : tie.Need-loop-again Inv-loop μ-loop
-loop-again c = (search needs, omega arith, omega arith, c .before .before .before .before .loop .inv .3 ∙ highest-next (wordDcis (c .before .before .before .before .before .before .args .words .now)) (c .before .before .before .before .loop .i) (c .before .before .before .before .loop .highest) (c .greater .result) (omega (arith, word-dcis-length (c .before .before .before .before .before .before .args .words .now))) (c .greater .ensures ∙ rw (c .before .word-dci .ensures .0, word-dcis-at (c .before .before .before .before .before .before .args .words .now) (c .before .before .before .before .loop .i) (c .before .before .before .loop-test .taken))))
+loop-again c =
+    let c3 = c .before .before .before in
+    let c4 = c3 .before in
+    let c6 = c4 .before .before in
+    (search needs, omega arith, omega arith, c4 .loop .inv .3 ∙ highest-next (wordDcis (c6 .args .words .now)) (c4 .loop .i) (c4 .loop .highest) (c .greater .result) (omega (arith, word-dcis-length (c6 .args .words .now))) (c .greater .ensures ∙ rw (c .before .word-dci .ensures .0, word-dcis-at (c6 .args .words .now) (c4 .loop .i) (c3 .loop-test .taken))))
 
 returns : tie.Need-returns Inv-loop μ-loop
 returns c = (sym (c .before .loop .inv .3 ∙ highest-done (wordDcis (c .before .before .before .args .words .now)) (c .before .loop .i) (c .before .loop .highest) (omega (arith, word-dcis-length (c .before .before .before .args .words .now))) (c .before .loop .inv .1)), search needs)

@@ -23,7 +23,14 @@ same-length : tie.Need-same-length
 same-length c = search needs
 
 returns : tie.Need-returns
-returns c = c .before .before .finish-configure .ensures ∙ rw (configure-steps, c .before .before .before .before .context-entries .ensures, c .before .before .before .before .before .before .before .add-endpoints .ensures, c .before .before .before .before .before .before .before .before .before .before .before .drop-endpoints .ensures (c .before .before .before .before .before .before .before .before .before .before .before .before .before .before .before .before .before .before .before .before .before .before .before .args .spacing), c .before .before .before .before .before .before .before .before .before .before .before .before .before .before .before .begin-configure .ensures (c .before .before .before .before .before .before .before .before .before .before .before .before .before .before .before .before .before .before .before .before .before .before .before .args .spacing))
+returns c =
+    let c4 = c .before .before .before .before in
+    let c7 = c4 .before .before .before in
+    let c11 = c7 .before .before .before .before in
+    let c15 = c11 .before .before .before .before in
+    let c23 = c15 .before .before .before .before .before .before .before .before in
+    c .before .before .finish-configure .ensures ∙ rw
+    (configure-steps, c4 .context-entries .ensures, c7 .add-endpoints .ensures, c11 .drop-endpoints .ensures (c23 .args .spacing), c15 .begin-configure .ensures (c23 .args .spacing))
 
 pub prepare-configure-context-spec : {M : Type 1} → statement M
 prepare-configure-context-spec =

@@ -38,7 +38,11 @@ loop-less : tie.Need-loop-less Inv-loop μ-loop
 loop-less c = search needs
 
 loop-again : tie.Need-loop-again Inv-loop μ-loop
-loop-again c = (search needs, search needs, c .before .before .before .before .before .before .before .loop .inv .2 ∙ drop-flags-next _ _ _ _ (c .before .before .before .before .before .before .loop-test .taken) (c .before .before .drop-context-flag .ensures ∙ rw (c .before .before .before .before .word-dci .ensures .0)))
+loop-again c =
+    let c4 = c .before .before .before .before in
+    let c6 = c4 .before .before in
+    let c7 = c6 .before in
+    (search needs, search needs, c7 .loop .inv .2 ∙ drop-flags-next _ _ _ _ (c6 .loop-test .taken) (c .before .before .drop-context-flag .ensures ∙ rw (c4 .word-dci .ensures .0)))
 
 same-length : tie.Need-same-length Inv-loop μ-loop
 same-length c = search needs

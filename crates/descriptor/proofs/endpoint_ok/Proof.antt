@@ -23,11 +23,21 @@ direction-in-requires c κs = search needs
 
 returns-3 : tie.Need-returns-3
 unfolding endpointOk
-returns-3 c = rw (← c .before .before .before .before .before .endpoint-number .ensures .0, ne-eqb _ _ (c .before .before .before .before .if1 .left), ← c .before .before .before .type-number .ensures, ne-eqb _ _ (c .before .before .if2 .left), ← c .before .direction-in .ensures .0, eq-eqb _ _ (c .if3 .taken))
+returns-3 c =
+    let c3 = c .before .before .before in
+    let c4 = c3 .before in
+    let c5 = c4 .before in
+    rw
+    (← c5 .endpoint-number .ensures .0, ne-eqb _ _ (c4 .if1 .left), ← c3 .type-number .ensures, ne-eqb _ _ (c .before .before .if2 .left), ← c .before .direction-in .ensures .0, eq-eqb _ _ (c .if3 .taken))
 
 returns-4 : tie.Need-returns-4
 unfolding endpointOk
-returns-4 c = rw (← c .before .before .before .before .before .endpoint-number .ensures .0, ne-eqb _ _ (c .before .before .before .before .if1 .left), ← c .before .before .before .type-number .ensures, ne-eqb _ _ (c .before .before .if2 .left), ← c .before .direction-in .ensures .0, ne-eqb _ _ (c .if3 .left))
+returns-4 c =
+    let c3 = c .before .before .before in
+    let c4 = c3 .before in
+    let c5 = c4 .before in
+    rw
+    (← c5 .endpoint-number .ensures .0, ne-eqb _ _ (c4 .if1 .left), ← c3 .type-number .ensures, ne-eqb _ _ (c .before .before .if2 .left), ← c .before .direction-in .ensures .0, ne-eqb _ _ (c .if3 .left))
 
 pub endpoint-ok-spec : {M : Type 1} → statement M
 endpoint-ok-spec =

@@ -31,7 +31,14 @@ same-length c = search needs
 
 returns : tie.Need-returns
 unfolding settled addressEndpoint
-returns c = rw (c .before .before .put-ring .ensures, c .before .before .before .before .before .before .put-field4 .ensures, c .before .before .before .before .before .before .before .before .before .before .put-field3 .ensures, c .before .before .before .before .before .before .before .before .before .before .before .before .before .before .put-field2 .ensures, c .before .before .before .before .before .before .before .before .before .before .before .before .before .before .before .before .before .before .put-field .ensures, c .before .before .before .before .before .before .before .before .before .before .before .before .before .before .before .before .before .before .before .before .parse-default-max-packet-size-from-port-speed .ensures)
+returns c =
+    let c6 = c .before .before .before .before .before .before in
+    let c10 = c6 .before .before .before .before in
+    let c14 = c10 .before .before .before .before in
+    let c18 = c14 .before .before .before .before in
+    let c20 = c18 .before .before in
+    rw
+    (c .before .before .put-ring .ensures, c6 .put-field4 .ensures, c10 .put-field3 .ensures, c14 .put-field2 .ensures, c18 .put-field .ensures, c20 .parse-default-max-packet-size-from-port-speed .ensures)
 
 pub address-endpoint-spec : {M : Type 1} → statement M
 address-endpoint-spec =

@@ -39,7 +39,15 @@ same-length c = search needs
 
 returns : tie.Need-returns
 unfolding settled basicSettings
-returns c = rw (c .before .before .put-field4 .ensures, c .before .before .before .before .before .before .before .put-field3 .ensures, c .before .before .before .before .before .before .before .before .before .before .before .put-field2 .ensures, c .before .before .before .before .before .before .before .before .before .before .before .before .before .before .before .put-field .ensures, c .before .before .before .before .before .before .before .before .before .before .before .before .before .before .before .before .before .error-count .ensures, c .before .before .before .before .before .before .before .before .before .before .before .before .before .before .before .before .before .before .endpoint-type .ensures, c .before .before .before .before .before .before .before .before .before .before .before .before .before .before .before .before .before .before .before .calculate-xhci-interval .ensures)
+returns c =
+    let c7 = c .before .before .before .before .before .before .before in
+    let c11 = c7 .before .before .before .before in
+    let c15 = c11 .before .before .before .before in
+    let c17 = c15 .before .before in
+    let c18 = c17 .before in
+    let c19 = c18 .before in
+    rw
+    (c .before .before .put-field4 .ensures, c7 .put-field3 .ensures, c11 .put-field2 .ensures, c15 .put-field .ensures, c17 .error-count .ensures, c18 .endpoint-type .ensures, c19 .calculate-xhci-interval .ensures)
 
 pub put-basic-spec : {M : Type 1} → statement M
 put-basic-spec =

@@ -28,7 +28,15 @@ same-length c = search needs
 
 returns : tie.Need-returns
 unfolding endpointSettings burstOf
-returns c = rw (settled-append, settled-append, ← c .before .before .before .before .before .before .before .is-periodic .ensures, c .before .before .before .before .before .before .if1 .taken, c .before .before .put-periodic .ensures, c .before .before .before .before .before .before .before .before .before .before .put-ring .ensures, c .before .before .before .before .before .before .before .before .before .before .before .before .before .before .put-basic .ensures, c .before .before .before .before .max-esit-payload .ensures, c .before .before .before .before .before .periodic-burst-size .ensures)
+returns c =
+    let c4 = c .before .before .before .before in
+    let c5 = c4 .before in
+    let c6 = c5 .before in
+    let c7 = c6 .before in
+    let c10 = c7 .before .before .before in
+    let c14 = c10 .before .before .before .before in
+    rw
+    (settled-append, settled-append, ← c7 .is-periodic .ensures, c6 .if1 .taken, c .before .before .put-periodic .ensures, c10 .put-ring .ensures, c14 .put-basic .ensures, c4 .max-esit-payload .ensures, c5 .periodic-burst-size .ensures)
 
 same-length-2 : tie.Need-same-length-2
 same-length-2 c = search needs

@@ -21,7 +21,11 @@ same-length c = search needs
 
 returns : tie.Need-returns
 unfolding settled periodicSettings
-returns c = rw (c .before .before .put-field4 .ensures, c .before .before .before .before .before .before .put-field3 .ensures, c .before .before .before .before .before .before .before .before .before .before .put-field2 .ensures, c .before .before .before .before .before .before .before .before .before .before .before .before .before .before .put-field .ensures)
+returns c =
+    let c6 = c .before .before .before .before .before .before in
+    let c10 = c6 .before .before .before .before in
+    let c14 = c10 .before .before .before .before in
+    rw (c .before .before .put-field4 .ensures, c6 .put-field3 .ensures, c10 .put-field2 .ensures, c14 .put-field .ensures)
 
 pub put-periodic-spec : {M : Type 1} → statement M
 put-periodic-spec =

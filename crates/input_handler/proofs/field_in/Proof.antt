@@ -28,7 +28,11 @@ field-at-requires c κs =
 
 returns-3 : tie.Need-returns-3
 unfolding fieldIn
-returns-3 c = rw (← c .before .before .before .before .is-context .ensures, not-false (c .before .before .before .before .is-context .result) (c .before .before .before .if1 .left), ← c .before .before .is-field .ensures, not-false (c .before .before .is-field .result) (c .before .if2 .left), c .field-at .ensures)
+returns-3 c =
+    let c3 = c .before .before .before in
+    let c4 = c3 .before in
+    rw
+    (← c4 .is-context .ensures, not-false (c4 .is-context .result) (c3 .if1 .left), ← c .before .before .is-field .ensures, not-false (c .before .before .is-field .result) (c .before .if2 .left), c .field-at .ensures)
 
 pub field-in-spec : {M : Type 1} → statement M
 field-in-spec =

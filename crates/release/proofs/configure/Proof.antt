@@ -34,7 +34,11 @@ add-resume : tie.Need-add-resume
 add-resume c = omega (arith, c .before .before .before .before .before .before .before .before .before .before .before .before .before .before .before .before .before .before .before .before .before)
 
 resume-requires : tie.Need-resume-requires
-resume-requires c κs = (rw (c .before .before .before .before .before .before .before .before .before .before .before .before .prepare-configure .kept .0) (c .before .before .before .before .before .before .before .before .before .before .before .before .before .before .before .before .before .before .before .before .before .pre .0), omega (arith, c .before .before .before .before .before .before .before .before .send .kept .0, c .before .before .before .before .before .before .before .before .before .before .before .before .before .before .before .before .before .before .before .before .before .pre .1))
+resume-requires c κs =
+    let c8 = c .before .before .before .before .before .before .before .before in
+    let c12 = c8 .before .before .before .before in
+    let c21 = c12 .before .before .before .before .before .before .before .before .before in
+    (rw (c12 .prepare-configure .kept .0) (c21 .pre .0), omega (arith, c8 .send .kept .0, c21 .pre .1))
 
 enum-told-2 : tie.Need-enum-told-2
 enum-told-2 c = search needs
@@ -56,7 +60,14 @@ same-length-3 c = search needs
 
 returns : tie.Need-returns
 unfolding releaseConfigure releaseContext onSent
-returns c = let p = rw (c .before .before .before .before .before .before .before .before .before .before .before .before .before .before .before .before .before .before .before .before .before .no-queues .ensures .0) at (c .before .before .before .before .before .before .before .before .before .before .before .before .before .before .before .before .before .before .prepare-configure .ensures) in rw (played-sends, ← c .before .before .before .before .before .before .before .before .before .before .before .before .before .before .send .ensures .1, ← c .before .before .before .before .before .before .before .before .before .before .before .before .before .before .send .ensures .0, c .before .before .before .before .before .before .before .before .before .before .enum-told .given .1, ← p) (c .before .before .before .before .before .before .publish .ensures)
+returns c =
+    let c6 = c .before .before .before .before .before .before in
+    let c10 = c6 .before .before .before .before in
+    let c14 = c10 .before .before .before .before in
+    let c18 = c14 .before .before .before .before in
+    let c21 = c18 .before .before .before in
+    let p = rw (c21 .no-queues .ensures .0) at (c18 .prepare-configure .ensures) in rw
+    (played-sends, ← c14 .send .ensures .1, ← c14 .send .ensures .0, c10 .enum-told .given .1, ← p) (c6 .publish .ensures)
 
 same-length-4 : tie.Need-same-length-4
 same-length-4 c = search needs
@@ -69,7 +80,14 @@ same-length-6 c = search needs
 
 returns-2 : tie.Need-returns-2
 unfolding releaseConfigure releaseContext onSent
-returns-2 c = let p = rw (c .before .before .before .before .before .before .before .before .before .before .before .before .before .before .before .before .before .before .before .before .before .before .no-queues .ensures .0) at (c .before .before .before .before .before .before .before .before .before .before .before .before .before .before .before .before .before .before .before .prepare-configure .ensures) in rw (played-sends, ← c .before .before .before .before .before .before .before .before .before .before .before .before .before .before .before .send .ensures .1, ← c .before .before .before .before .before .before .before .before .before .before .before .before .before .before .before .send .ensures .0, c .before .before .before .before .before .before .before .before .before .before .before .s .given .1, ← p) (c .before .before .before .before .before .before .resume .ensures)
+returns-2 c =
+    let c6 = c .before .before .before .before .before .before in
+    let c11 = c6 .before .before .before .before .before in
+    let c15 = c11 .before .before .before .before in
+    let c19 = c15 .before .before .before .before in
+    let c22 = c19 .before .before .before in
+    let p = rw (c22 .no-queues .ensures .0) at (c19 .prepare-configure .ensures) in rw
+    (played-sends, ← c15 .send .ensures .1, ← c15 .send .ensures .0, c11 .s .given .1, ← p) (c6 .resume .ensures)
 
 same-length-7 : tie.Need-same-length-7
 same-length-7 c = search needs
@@ -79,7 +97,12 @@ same-length-8 c = search needs
 
 returns-3 : tie.Need-returns-3
 unfolding releaseConfigure releaseContext onSent
-returns-3 c = let p = rw (c .before .before .before .before .before .before .before .before .before .before .before .before .no-queues .ensures .0) at (c .before .before .before .before .before .before .before .before .before .prepare-configure .ensures) in rw (played-sends, ← c .before .before .before .before .before .send .ensures .1, ← c .before .before .before .before .before .send .ensures .0, c .before .enum-told2 .given .1, ← p, played-ends, c .stays .ensures)
+returns-3 c =
+    let c5 = c .before .before .before .before .before in
+    let c9 = c5 .before .before .before .before in
+    let c12 = c9 .before .before .before in
+    let p = rw (c12 .no-queues .ensures .0) at (c9 .prepare-configure .ensures) in rw
+    (played-sends, ← c5 .send .ensures .1, ← c5 .send .ensures .0, c .before .enum-told2 .given .1, ← p, played-ends, c .stays .ensures)
 
 pub configure-spec : {M : Type 1} → statement M
 configure-spec =

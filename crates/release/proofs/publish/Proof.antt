@@ -35,21 +35,35 @@ same-length c = search needs
 
 returns : tie.Need-returns
 unfolding releasePublish releasePublished
-returns c = let e = c .before .before .before .before .before .publish-endpoint-routes .ensures in let r = rw (c .before .before .before .before .before .before .before .no-queues .ensures .0) at (e .0) in let t = rw (c .before .before .before .before .before .before .before .no-queues .ensures .0) at (e .1) in rw (played-ends, c .moves .ensures, t, ← r, c .before .enum-told .given .1)
+returns c =
+    let c5 = c .before .before .before .before .before in
+    let c7 = c5 .before .before in
+    let e = c5 .publish-endpoint-routes .ensures in let r = rw (c7 .no-queues .ensures .0) at (e .0) in let t = rw
+    (c7 .no-queues .ensures .0) at (e .1) in rw (played-ends, c .moves .ensures, t, ← r, c .before .enum-told .given .1)
 
 same-length-2 : tie.Need-same-length-2
 same-length-2 c = search needs
 
 returns-2 : tie.Need-returns-2
 unfolding releasePublish releasePublished
-returns-2 c = let e = c .before .before .before .before .before .publish-endpoint-routes .ensures in let r = rw (c .before .before .before .before .before .before .before .no-queues .ensures .0) at (e .0) in let t = rw (c .before .before .before .before .before .before .before .no-queues .ensures .0) at (e .1) in rw (played-ends, c .stays .ensures, t ∙ invalid-kept _ _ _ _ (sym r ∙ c .before .enum-told2 .given .1), ← r, c .before .enum-told2 .given .1)
+returns-2 c =
+    let c5 = c .before .before .before .before .before in
+    let c7 = c5 .before .before in
+    let e = c5 .publish-endpoint-routes .ensures in let r = rw (c7 .no-queues .ensures .0) at (e .0) in let t = rw
+    (c7 .no-queues .ensures .0) at (e .1) in rw
+    (played-ends, c .stays .ensures, t ∙ invalid-kept _ _ _ _ (sym r ∙ c .before .enum-told2 .given .1), ← r, c .before .enum-told2 .given .1)
 
 same-length-3 : tie.Need-same-length-3
 same-length-3 c = search needs
 
 returns-3 : tie.Need-returns-3
 unfolding releasePublish releasePublished
-returns-3 c = let e = c .before .before .before .before .before .publish-endpoint-routes .ensures in let r = rw (c .before .before .before .before .before .before .before .no-queues .ensures .0) at (e .0) in let t = rw (c .before .before .before .before .before .before .before .no-queues .ensures .0) at (e .1) in rw (played-ends, c .stays2 .ensures, t ∙ full-kept _ _ _ _ (sym r ∙ c .before .enum-told3 .given .1), ← r, c .before .enum-told3 .given .1)
+returns-3 c =
+    let c5 = c .before .before .before .before .before in
+    let c7 = c5 .before .before in
+    let e = c5 .publish-endpoint-routes .ensures in let r = rw (c7 .no-queues .ensures .0) at (e .0) in let t = rw
+    (c7 .no-queues .ensures .0) at (e .1) in rw
+    (played-ends, c .stays2 .ensures, t ∙ full-kept _ _ _ _ (sym r ∙ c .before .enum-told3 .given .1), ← r, c .before .enum-told3 .given .1)
 
 pub publish-spec : {M : Type 1} → statement M
 publish-spec =

@@ -46,7 +46,16 @@ same-length c = search needs
 
 returns : tie.Need-returns
 unfolding settled addressSlot
-returns c = rw (c .before .before .put-field7 .ensures, c .before .before .before .before .before .before .before .put-field6 .ensures, c .before .before .before .before .before .before .before .before .before .before .before .before .put-field5 .ensures, c .before .before .before .before .before .before .before .before .before .before .before .before .before .before .before .before .put-field4 .ensures, c .before .before .before .before .before .before .before .before .before .before .before .before .before .before .before .before .before .before .before .before .put-field3 .ensures, c .before .before .before .before .before .before .before .before .before .before .before .before .before .before .before .before .before .before .before .before .before .before .before .before .before .put-field2 .ensures, c .before .before .before .before .before .before .before .before .before .before .before .before .before .before .before .before .before .before .before .before .before .before .before .before .before .before .before .before .before .put-field .ensures, cast-bool (c .before .before .before .before .before .before .before .before .before .before .before .before .before .before .before .before .before .before .before .before .before .before .before .before .before .before .before .before .before .before .before .before .args .translator .multi))
+returns c =
+    let c7 = c .before .before .before .before .before .before .before in
+    let c12 = c7 .before .before .before .before .before in
+    let c16 = c12 .before .before .before .before in
+    let c20 = c16 .before .before .before .before in
+    let c25 = c20 .before .before .before .before .before in
+    let c29 = c25 .before .before .before .before in
+    let c32 = c29 .before .before .before in
+    rw
+    (c .before .before .put-field7 .ensures, c7 .put-field6 .ensures, c12 .put-field5 .ensures, c16 .put-field4 .ensures, c20 .put-field3 .ensures, c25 .put-field2 .ensures, c29 .put-field .ensures, cast-bool (c32 .args .translator .multi))
 
 pub address-slot-spec : {M : Type 1} → statement M
 address-slot-spec =

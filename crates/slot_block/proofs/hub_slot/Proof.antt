@@ -23,7 +23,12 @@ same-length c = search needs
 
 returns : tie.Need-returns
 unfolding settled hubSettings
-returns c = c .before .before .put-think-time .ensures ∙ rw (c .before .before .before .before .before .before .put-field2 .ensures, c .before .before .before .before .before .before .before .before .before .before .put-multi .ensures, c .before .before .before .before .before .before .before .before .before .before .before .before .before .before .put-field .ensures, settled-append)
+returns c =
+    let c6 = c .before .before .before .before .before .before in
+    let c10 = c6 .before .before .before .before in
+    let c14 = c10 .before .before .before .before in
+    c .before .before .put-think-time .ensures ∙ rw
+    (c6 .put-field2 .ensures, c10 .put-multi .ensures, c14 .put-field .ensures, settled-append)
 
 pub hub-slot-spec : {M : Type 1} → statement M
 hub-slot-spec =

@@ -33,7 +33,11 @@ loop-less : tie.Need-loop-less Inv-loop μ-loop
 loop-less c = search needs
 
 loop-again : tie.Need-loop-again Inv-loop μ-loop
-loop-again c = (search needs, search needs, c .before .before .before .before .before .before .before .loop .inv .2 ∙ publish-next _ _ _ _ _ (c .before .before .before .before .before .before .loop-test .taken) ∙ rw (c .before .before .put-route .ensures, c .before .before .before .before .word-at .ensures))
+loop-again c =
+    let c4 = c .before .before .before .before in
+    let c6 = c4 .before .before in
+    let c7 = c6 .before in
+    (search needs, search needs, c7 .loop .inv .2 ∙ publish-next _ _ _ _ _ (c6 .loop-test .taken) ∙ rw (c .before .before .put-route .ensures, c4 .word-at .ensures))
 
 same-length : tie.Need-same-length Inv-loop μ-loop
 same-length c = search needs

@@ -25,7 +25,11 @@ same-length-2 c = search needs
 
 returns-2 : tie.Need-returns-2
 unfolding registered withRegistered
-returns-2 c = let t : eqb (c .before .before .before .before .before .route .result) 0 ≡ true = eq-eqb _ _ (c .before .before .before .before .if1 .left) in (rw (← c .before .before .before .before .before .route .ensures, t), c .before .before .put-route .ensures ∙ rw (← c .before .before .before .before .before .route .ensures, t))
+returns-2 c =
+    let c4 = c .before .before .before .before in
+    let c5 = c4 .before in
+    let t : eqb (c5 .route .result) 0 ≡ true = eq-eqb _ _ (c4 .if1 .left) in
+    (rw (← c5 .route .ensures, t), c .before .before .put-route .ensures ∙ rw (← c5 .route .ensures, t))
 
 pub register-queue-spec : {M : Type 1} → statement M
 register-queue-spec =

@@ -32,7 +32,14 @@ same-length-3 : tie.Need-same-length-3
 same-length-3 c = search needs
 
 returns-3 : tie.Need-returns-3
-returns-3 c = at-done _ _ _ _ _ _ (c .before .before .publish-routes .ensures ∙ rw (c .before .before .before .before .before .before .clear-routes .ensures)) (rw (← c .before .before .before .before .before .before .before .before .before .new-free .ensures) (c .before .before .before .before .before .before .before .before .if2 .left)) (rw (← c .before .before .before .before .before .before .before .before .before .before .before .before .old-match .ensures) (c .before .before .before .before .before .before .before .before .before .before .before .if1 .left))
+returns-3 c =
+    let c6 = c .before .before .before .before .before .before in
+    let c8 = c6 .before .before in
+    let c9 = c8 .before in
+    let c11 = c9 .before .before in
+    let c12 = c11 .before in
+    at-done _ _ _ _ _ _ (c .before .before .publish-routes .ensures ∙ rw (c6 .clear-routes .ensures))
+    (rw (← c9 .new-free .ensures) (c8 .if2 .left)) (rw (← c12 .old-match .ensures) (c11 .if1 .left))
 
 pub replace-queues-spec : {M : Type 1} → statement M
 replace-queues-spec =

@@ -37,7 +37,9 @@ loop-less : tie.Need-loop-less Inv-loop μ-loop
 loop-less c = search needs
 
 loop-again : tie.Need-loop-again Inv-loop μ-loop
-loop-again c = (search needs, rw (c .before .before .loop .inv .1) (padded-next 256 0 (c .before .before .before .args .list .now) (c .before .before .loop .i) (omega (arith, c .before .before .before .pre, c .before .loop-test .taken)) (omega (arith, c .before .before .before .pre, c .before .loop-test .taken))))
+loop-again c =
+    let c3 = c .before .before .before in
+    (search needs, rw (c .before .before .loop .inv .1) (padded-next 256 0 (c3 .args .list .now) (c .before .before .loop .i) (omega (arith, c3 .pre, c .before .loop-test .taken)) (omega (arith, c3 .pre, c .before .loop-test .taken))))
 
 returns : tie.Need-returns Inv-loop μ-loop
 returns c = let e : c .before .loop .i ≡ c .before .before .args .n = omega (arith, c .before .loop .inv .0, c .loop-test .left) in rw (← e) (c .before .loop .inv .1)

@@ -54,7 +54,11 @@ loop-again : tie.Need-loop-again Inv-loop μ-loop
 loop-again c = (search needs, all-next (c .before .loop .inv .1) (c .before .before .before .pre .0) (omega (arith, c .before .before .before .pre)))
 
 returns : tie.Need-returns Inv-loop μ-loop
-returns c = all-done _ (c .before .loop .inv .1) (omega arith) (c .before .before .before .pre .1) (take-set (c .before .before .before .args .n) (c .before .before .live-rings .result) (c .before .before .before .args .control) ∙ c .before .before .live-rings .ensures .2) (c .before .before .live-rings .ensures .1)
+returns c =
+    let c3 = c .before .before .before in
+    all-done _ (c .before .loop .inv .1) (omega arith) (c3 .pre .1)
+    (take-set (c3 .args .n) (c .before .before .live-rings .result) (c3 .args .control) ∙ c .before .before .live-rings .ensures .2)
+    (c .before .before .live-rings .ensures .1)
 
 pub all-rings-spec : {M : Type 1} → statement M
 all-rings-spec =

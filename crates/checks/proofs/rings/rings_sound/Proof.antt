@@ -23,10 +23,20 @@ returns-2 : tie.Need-returns-2
 returns-2 c = rw (fit-tested _ _ _ _ (c .before .before .before .all-rings .ensures .1) (c .before .before .before .all-rings .ensures .2) (c .before .before .if1 .left) (c .before .rings-fit .ensures), not-true (c .before .rings-fit .result) (c .if2 .taken))
 
 returns-3 : tie.Need-returns-3
-returns-3 c = rw (fit-tested _ _ _ _ (c .before .before .before .before .all-rings .ensures .1) (c .before .before .before .before .all-rings .ensures .2) (c .before .before .before .if1 .left) (c .before .before .rings-fit .ensures), not-false (c .before .before .rings-fit .result) (c .before .if2 .left), not-true (c .before .before .before .before .before .args .usable) (c .if3 .taken))
+returns-3 c =
+    let c3 = c .before .before .before in
+    let c4 = c3 .before in
+    let c5 = c4 .before in
+    rw
+    (fit-tested _ _ _ _ (c4 .all-rings .ensures .1) (c4 .all-rings .ensures .2) (c3 .if1 .left) (c .before .before .rings-fit .ensures), not-false (c .before .before .rings-fit .result) (c .before .if2 .left), not-true (c5 .args .usable) (c .if3 .taken))
 
 returns-4 : tie.Need-returns-4
-returns-4 c = rw (fit-tested _ _ _ _ (c .before .before .before .before .all-rings .ensures .1) (c .before .before .before .before .all-rings .ensures .2) (c .before .before .before .if1 .left) (c .before .before .rings-fit .ensures), not-false (c .before .before .rings-fit .result) (c .before .if2 .left), not-false (c .before .before .before .before .before .args .usable) (c .if3 .left))
+returns-4 c =
+    let c3 = c .before .before .before in
+    let c4 = c3 .before in
+    let c5 = c4 .before in
+    rw
+    (fit-tested _ _ _ _ (c4 .all-rings .ensures .1) (c4 .all-rings .ensures .2) (c3 .if1 .left) (c .before .before .rings-fit .ensures), not-false (c .before .before .rings-fit .result) (c .before .if2 .left), not-false (c5 .args .usable) (c .if3 .left))
 
 pub rings-sound-spec : {M : Type 1} → statement M
 rings-sound-spec =

@@ -20,7 +20,12 @@ speed-known-requires : tie.Need-speed-known-requires
 speed-known-requires c κs = search needs
 
 returns-4 : tie.Need-returns-4
-returns-4 c = rw (le-leb _ _ (c .before .before .before .before .if1 .left), le-leb _ _ (c .before .before .before .if2 .left), le-leb (c .before .before .before .before .before .args .n) 255 (omega arith), ← c .before .before .spacing-known .ensures, not-false (c .before .before .spacing-known .result) (c .before .if3 .left), c .speed-known .ensures)
+returns-4 c =
+    let c3 = c .before .before .before in
+    let c4 = c3 .before in
+    let c5 = c4 .before in
+    rw
+    (le-leb _ _ (c4 .if1 .left), le-leb _ _ (c3 .if2 .left), le-leb (c5 .args .n) 255 (omega arith), ← c .before .before .spacing-known .ensures, not-false (c .before .before .spacing-known .result) (c .before .if3 .left), c .speed-known .ensures)
 
 pub place-sound-spec : {M : Type 1} → statement M
 place-sound-spec =

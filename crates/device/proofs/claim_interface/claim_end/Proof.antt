@@ -18,14 +18,23 @@ at-end-requires c κs = search needs
 
 with-quarantined-requires : tie.Need-with-quarantined-requires
 unfolding heldOf
-with-quarantined-requires c κs = (quarantined-end (c .before .before .before .before .before .args .e .moved) (c .before .before .before .before .before .args .d) (c .at-end .result) _ _ _ (c .at-end .ensures _ (c .before .before .with-setting .ensures)) ∙ c .before .before .before .before .before .pre .1 .1, c .before .before .before .before .before .pre .1 .2 .room)
+with-quarantined-requires c κs =
+    let c5 = c .before .before .before .before .before in
+    (quarantined-end (c5 .args .e .moved) (c5 .args .d) (c .at-end .result) _ _ _ (c .at-end .ensures _ (c .before .before .with-setting .ensures)) ∙ c5 .pre .1 .1, c5 .pre .1 .2 .room)
 
 marked-requires : tie.Need-marked-requires
 marked-requires c κs = search needs
 
 returns : tie.Need-returns
 unfolding heldOf
-returns c = λ ctx routes log rings h. claim-made (c .before .before .before .before .before .before .before .args .d) (c .before .before .before .before .before .before .before .args .interface) (c .before .before .before .before .before .before .before .args .alternate) rings (c .before .before .at-end .result) (c .before .with-quarantined .result) (c .marked .result) (c .before .before .before .before .before .before .before .args .c) (c .before .before .before .claimed-cells .result) (c .before .before .before .before .before .before .before .args .q) (c .before .before .before .before .before .before .before .args .e) (c .before .before .before .before .before .before .before .args .pending) (c .before .before .before .claimed-cells .ensures) (c .before .before .at-end .ensures _ (c .before .before .before .before .with-setting .ensures)) (c .before .with-quarantined .ensures) (c .marked .ensures) (c .before .before .before .before .before .before .before .pre .1 .0) (c .before .before .before .before .before .before .before .pre .1 .2) h ctx routes log
+returns c =
+    let c3 = c .before .before .before in
+    let c4 = c3 .before in
+    let c7 = c4 .before .before .before in
+    λ ctx routes log rings h. claim-made (c7 .args .d) (c7 .args .interface) (c7 .args .alternate) rings (c .before .before .at-end .result)
+    (c .before .with-quarantined .result) (c .marked .result) (c7 .args .c) (c3 .claimed-cells .result) (c7 .args .q) (c7 .args .e)
+    (c7 .args .pending) (c3 .claimed-cells .ensures) (c .before .before .at-end .ensures _ (c4 .with-setting .ensures))
+    (c .before .with-quarantined .ensures) (c .marked .ensures) (c7 .pre .1 .0) (c7 .pre .1 .2) h ctx routes log
 
 pub claim-end-spec : {M : Type 1} → statement M
 claim-end-spec =

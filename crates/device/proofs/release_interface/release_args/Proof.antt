@@ -22,7 +22,13 @@ queues-of-requires-2 c κs = search needs
 
 returns : tie.Need-returns
 unfolding releaseIn heldOf dcisIn
-returns c = let q = queues-as _ _ (c .before .before .before .queues-of .ensures) in (rw (← c .before .before .before .before .before .before .before .before .pre .1, ← c .before .before .before .before .before .alternate-of .ensures, ← c .before .before .before .before .owned-rings .ensures, q, c .before .queues-of2 .ensures .dcis), refl, rw (← c .before .before .before .before .before .before .before .before .pre .1, ← c .before .before .before .before .owned-rings .ensures) (c .before .before .before .queues-of .ensures), rw (← c .before .before .before .before .before .before .before .before .pre .1) (c .before .queues-of2 .ensures))
+returns c =
+    let c3 = c .before .before .before in
+    let c4 = c3 .before in
+    let c5 = c4 .before in
+    let c8 = c5 .before .before .before in
+    let q = queues-as _ _ (c3 .queues-of .ensures) in
+    (rw (← c8 .pre .1, ← c5 .alternate-of .ensures, ← c4 .owned-rings .ensures, q, c .before .queues-of2 .ensures .dcis), refl, rw (← c8 .pre .1, ← c4 .owned-rings .ensures) (c3 .queues-of .ensures), rw (← c8 .pre .1) (c .before .queues-of2 .ensures))
 
 pub release-args-spec : {M : Type 1} → statement M
 release-args-spec =

@@ -19,7 +19,12 @@ marked-requires c κs = search needs
 
 returns : tie.Need-returns
 unfolding heldOf
-returns c = λ ctx routes log. release-made (c .before .before .before .before .before .before .args .d) (c .before .at-end .result) (c .marked .result) (c .before .before .before .before .before .before .args .interface) (c .before .before .before .before .before .before .args .c) (c .before .before .claimed-cells .result) (c .before .before .before .before .before .before .args .e) (c .before .before .claimed-cells .ensures) (c .before .at-end .ensures _ (c .before .before .before .without-setting .ensures)) (c .marked .ensures) (c .before .before .before .before .before .before .pre .1) ctx routes log
+returns c =
+    let c3 = c .before .before .before in
+    let c6 = c3 .before .before .before in
+    λ ctx routes log. release-made (c6 .args .d) (c .before .at-end .result) (c .marked .result) (c6 .args .interface) (c6 .args .c)
+    (c .before .before .claimed-cells .result) (c6 .args .e) (c .before .before .claimed-cells .ensures)
+    (c .before .at-end .ensures _ (c3 .without-setting .ensures)) (c .marked .ensures) (c6 .pre .1) ctx routes log
 
 pub release-end-spec : {M : Type 1} → statement M
 release-end-spec =

@@ -22,7 +22,13 @@ marked-requires c κs = search needs
 
 returns : tie.Need-returns
 unfolding padded interfacesOf alternatesOf
-returns c = λ ctx routes log. set-made (c .before .before .before .before .args .d) (c .before .before .at-end .result) (c .before .configured .result) (c .marked .result) (c .before .before .before .before .args .value) (c .before .before .before .before .args .c) (c .before .before .before .no-cells .result) (c .before .before .before .before .args .e) (c .before .before .before .no-cells .ensures) (c .before .before .at-end .ensures [] (record { interfaces = refl; alternates = refl; count = refl; room = omega arith })) (c .before .configured .ensures) (c .marked .ensures) (c .before .before .before .before .pre) ctx routes log
+returns c =
+    let c3 = c .before .before .before in
+    let c4 = c3 .before in
+    λ ctx routes log. set-made (c4 .args .d) (c .before .before .at-end .result) (c .before .configured .result) (c .marked .result)
+    (c4 .args .value) (c4 .args .c) (c3 .no-cells .result) (c4 .args .e) (c3 .no-cells .ensures)
+    (c .before .before .at-end .ensures [] (record { interfaces = refl; alternates = refl; count = refl; room = omega arith }))
+    (c .before .configured .ensures) (c .marked .ensures) (c4 .pre) ctx routes log
 
 pub set-end-spec : {M : Type 1} → statement M
 set-end-spec =

@@ -34,7 +34,11 @@ sub-result : tie.Need-sub-result Inv-loop μ-loop
 sub-result c = search needs
 
 returns : tie.Need-returns Inv-loop μ-loop
-returns c = let i = c .before .before .before .before .before .loop .i in let e : i + 1 - 1 ≡ i = omega arith in rw e (c .before .before .before .before .before .loop .inv .inside, counted-enough _ _ _ _ (c .before .before .before .before .before .loop .inv) (c .before .before .before .before .loop-test .taken) (rw (← c .before .before .word-kind .ensures) (eq-eqb _ _ (c .before .if1 .taken))) (c .if2 .taken))
+returns c =
+    let c4 = c .before .before .before .before in
+    let c5 = c4 .before in
+    let i = c5 .loop .i in let e : i + 1 - 1 ≡ i = omega arith in rw e
+    (c5 .loop .inv .inside, counted-enough _ _ _ _ (c5 .loop .inv) (c4 .loop-test .taken) (rw (← c .before .before .word-kind .ensures) (eq-eqb _ _ (c .before .if1 .taken))) (c .if2 .taken))
 
 sub-left : tie.Need-sub-left Inv-loop μ-loop
 sub-left c = search needs

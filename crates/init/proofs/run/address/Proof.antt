@@ -21,7 +21,11 @@ enum-told : tie.Need-enum-told
 enum-told c = search needs
 
 read-header-requires : tie.Need-read-header-requires
-read-header-requires c κs = (spaced-same (c .before .before .before .before .before .before .before .before .before .before .before .before .before .before .before .before .before .before .before .before .before .pre .0) (c .before .before .before .before .before .before .before .before .before .before .before .address-context .kept .0), (omega (arith, c .before .before .before .before .before .before .before .send .kept .0, c .before .before .before .before .before .before .before .before .before .before .before .before .before .before .before .before .before .before .before .before .before .pre .1 .0), c .before .before .before .before .before .before .before .before .before .before .before .before .before .before .before .before .before .before .before .before .before .pre .1 .1))
+read-header-requires c κs =
+    let c7 = c .before .before .before .before .before .before .before in
+    let c11 = c7 .before .before .before .before in
+    let c21 = c11 .before .before .before .before .before .before .before .before .before .before in
+    (spaced-same (c21 .pre .0) (c11 .address-context .kept .0), (omega (arith, c7 .send .kept .0, c21 .pre .1 .0), c21 .pre .1 .1))
 
 enum-known-s : tie.Need-enum-known-s
 enum-known-s c = search needs
@@ -46,7 +50,16 @@ same-length-3 c = search needs
 
 returns : tie.Need-returns
 unfolding bringUpAddress
-returns c = rw (← c .before .before .before .before .before .before .before .before .before .before .before .before .before .before .before .before .before .before .before .before .before .route-string .ensures, ← c .before .before .before .before .before .before .before .before .before .before .before .before .before .before .before .before .before .before .before .before .transaction-translator .ensures, ← c .before .before .before .before .before .before .before .before .before .before .before .before .before .before .before .before .before .before .address-context .ensures) (done _ _ _ _ (c .before .before .before .before .before .before .before .before .before .before .before .before .before .before .send .ensures) _ _ _ _ (c .before .before .before .before .before .before .before .before .before .before .enum-told .given .1) (c .before .before .before .before .before .before .read-header .ensures (c .before .before .before .before .before .before .before .before .before .before .before .before .before .before .before .before .before .before .before .before .before .before .before .before .before .before .before .before .args .hubs .now)))
+returns c =
+    let c6 = c .before .before .before .before .before .before in
+    let c10 = c6 .before .before .before .before in
+    let c14 = c10 .before .before .before .before in
+    let c18 = c14 .before .before .before .before in
+    let c20 = c18 .before .before in
+    let c21 = c20 .before in
+    let c28 = c21 .before .before .before .before .before .before .before in
+    rw (← c21 .route-string .ensures, ← c20 .transaction-translator .ensures, ← c18 .address-context .ensures)
+    (done _ _ _ _ (c14 .send .ensures) _ _ _ _ (c10 .enum-told .given .1) (c6 .read-header .ensures (c28 .args .hubs .now)))
 
 same-length-4 : tie.Need-same-length-4
 same-length-4 c = search needs
@@ -56,7 +69,14 @@ same-length-5 c = search needs
 
 returns-2 : tie.Need-returns-2
 unfolding bringUpAddress
-returns-2 c = rw (← c .before .before .before .before .before .before .before .before .before .before .before .before .before .route-string .ensures, ← c .before .before .before .before .before .before .before .before .before .before .before .before .transaction-translator .ensures, ← c .before .before .before .before .before .before .before .before .before .before .address-context .ensures) (failed-before _ _ _ _ (c .before .before .before .before .before .before .send .ensures) _ _ (c .before .before .before .before .before .before .before .before .before .before .before .before .before .before .before .before .before .before .before .before .pre .1 .1) (c .before .before .s .given .1) (c .before-reading .ensures))
+returns-2 c =
+    let c6 = c .before .before .before .before .before .before in
+    let c10 = c6 .before .before .before .before in
+    let c12 = c10 .before .before in
+    let c13 = c12 .before in
+    let c20 = c13 .before .before .before .before .before .before .before in
+    rw (← c13 .route-string .ensures, ← c12 .transaction-translator .ensures, ← c10 .address-context .ensures)
+    (failed-before _ _ _ _ (c6 .send .ensures) _ _ (c20 .pre .1 .1) (c .before .before .s .given .1) (c .before-reading .ensures))
 
 same-length-6 : tie.Need-same-length-6
 same-length-6 c = search needs
@@ -66,7 +86,14 @@ same-length-7 c = search needs
 
 returns-3 : tie.Need-returns-3
 unfolding bringUpAddress
-returns-3 c = rw (← c .before .before .before .before .before .before .before .before .before .before .before .before .route-string .ensures, ← c .before .before .before .before .before .before .before .before .before .before .before .transaction-translator .ensures, ← c .before .before .before .before .before .before .before .before .before .address-context .ensures) (cut-before _ _ _ _ (c .before .before .before .before .before .send .ensures) _ _ (c .before .before .before .before .before .before .before .before .before .before .before .before .before .before .before .before .before .before .before .pre .1 .1) (c .before .enum-told2 .given .1) (c .before-reading2 .ensures))
+returns-3 c =
+    let c5 = c .before .before .before .before .before in
+    let c9 = c5 .before .before .before .before in
+    let c11 = c9 .before .before in
+    let c12 = c11 .before in
+    let c19 = c12 .before .before .before .before .before .before .before in
+    rw (← c12 .route-string .ensures, ← c11 .transaction-translator .ensures, ← c9 .address-context .ensures)
+    (cut-before _ _ _ _ (c5 .send .ensures) _ _ (c19 .pre .1 .1) (c .before .enum-told2 .given .1) (c .before-reading2 .ensures))
 
 pub address-spec : {M : Type 1} → statement M
 address-spec =

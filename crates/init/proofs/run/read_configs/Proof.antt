@@ -46,7 +46,11 @@ loop-less c = search needs
 
 loop-again : tie.Need-loop-again Inv-loop μ-loop
 unfolding onSent
-loop-again c = (search needs, search needs, search needs, λ hubs. c .before .before .before .before .before .before .before .loop .inv .3 hubs ∙ configs-next _ _ _ _ _ _ _ _ _ _ (c .before .before .before .before .before .before .loop-test .taken) (c .before .before .before .before .send .ensures .0) (c .before .before .before .before .send .ensures .1) ∙ rw (c .enum-told .given .1))
+loop-again c =
+    let c4 = c .before .before .before .before in
+    let c6 = c4 .before .before in
+    let c7 = c6 .before in
+    (search needs, search needs, search needs, λ hubs. c7 .loop .inv .3 hubs ∙ configs-next _ _ _ _ _ _ _ _ _ _ (c6 .loop-test .taken) (c4 .send .ensures .0) (c4 .send .ensures .1) ∙ rw (c .enum-told .given .1))
 
 enum-known-s : tie.Need-enum-known-s Inv-loop μ-loop
 enum-known-s c = search needs
@@ -62,7 +66,13 @@ same-length c = search needs
 
 returns : tie.Need-returns Inv-loop μ-loop
 unfolding onSent readUpTo
-returns c = λ hubs. sym (rw (← c .before .before .before .before .before .before .before .before .before .before .count-configurations .ensures) (c .before .before .before .before .before .before .before .before .before .loop .inv .3 hubs ∙ configs-next _ _ _ _ _ _ _ _ _ _ (c .before .before .before .before .before .before .before .before .loop-test .taken) (c .before .before .before .before .before .before .send .ensures .0) (c .before .before .before .before .before .before .send .ensures .1) ∙ rw (c .before .before .s .given .1, played-ends, c .after-reading .ensures)))
+returns c =
+    let c6 = c .before .before .before .before .before .before in
+    let c8 = c6 .before .before in
+    let c9 = c8 .before in
+    let c10 = c9 .before in
+    λ hubs. sym
+    (rw (← c10 .count-configurations .ensures) (c9 .loop .inv .3 hubs ∙ configs-next _ _ _ _ _ _ _ _ _ _ (c8 .loop-test .taken) (c6 .send .ensures .0) (c6 .send .ensures .1) ∙ rw (c .before .before .s .given .1, played-ends, c .after-reading .ensures)))
 
 enum-told-2 : tie.Need-enum-told-2 Inv-loop μ-loop
 enum-told-2 c = search needs
@@ -78,13 +88,22 @@ same-length-2 c = search needs
 
 returns-2 : tie.Need-returns-2 Inv-loop μ-loop
 unfolding onSent readUpTo
-returns-2 c = λ hubs. sym (rw (← c .before .before .before .before .before .before .before .before .before .count-configurations .ensures) (c .before .before .before .before .before .before .before .before .loop .inv .3 hubs ∙ configs-next _ _ _ _ _ _ _ _ _ _ (c .before .before .before .before .before .before .before .loop-test .taken) (c .before .before .before .before .before .send .ensures .0) (c .before .before .before .before .before .send .ensures .1) ∙ rw (c .before .enum-told2 .given .1, played-ends, c .after-reading2 .ensures)))
+returns-2 c =
+    let c5 = c .before .before .before .before .before in
+    let c7 = c5 .before .before in
+    let c8 = c7 .before in
+    let c9 = c8 .before in
+    λ hubs. sym
+    (rw (← c9 .count-configurations .ensures) (c8 .loop .inv .3 hubs ∙ configs-next _ _ _ _ _ _ _ _ _ _ (c7 .loop-test .taken) (c5 .send .ensures .0) (c5 .send .ensures .1) ∙ rw (c .before .enum-told2 .given .1, played-ends, c .after-reading2 .ensures)))
 
 add-set-first : tie.Need-add-set-first Inv-loop μ-loop
 add-set-first c = search needs
 
 set-first-requires : tie.Need-set-first-requires Inv-loop μ-loop
-set-first-requires c κs = (c .before .before .before .before .before .before .before .before .before .before .before .pre .0, omega (arith, c .before .before .before .before .loop .inv .0, c .before .before .before .before .loop .inv .1, c .before .before .before .before .loop .inv .2, c .before .before .before .before .before .before .before .before .before .before .before .pre .1 .0))
+set-first-requires c κs =
+    let c4 = c .before .before .before .before in
+    let c11 = c4 .before .before .before .before .before .before .before in
+    (c11 .pre .0, omega (arith, c4 .loop .inv .0, c4 .loop .inv .1, c4 .loop .inv .2, c11 .pre .1 .0))
 
 same-length-3 : tie.Need-same-length-3 Inv-loop μ-loop
 same-length-3 c = search needs
@@ -96,7 +115,13 @@ same-length-5 : tie.Need-same-length-5 Inv-loop μ-loop
 same-length-5 c = search needs
 
 returns-3 : tie.Need-returns-3 Inv-loop μ-loop
-returns-3 c = λ hubs. c .before .before .before .before .before .before .set-first .ensures hubs ∙ sym (rw (← c .before .before .before .before .before .before .before .before .before .before .before .before .count-configurations .ensures) (c .before .before .before .before .before .before .before .before .before .before .before .loop .inv .3 hubs ∙ configs-end _ _ _ _ _ _ _ _ (c .before .before .before .before .before .before .before .before .before .before .loop-test .left)))
+returns-3 c =
+    let c6 = c .before .before .before .before .before .before in
+    let c10 = c6 .before .before .before .before in
+    let c11 = c10 .before in
+    let c12 = c11 .before in
+    λ hubs. c6 .set-first .ensures hubs ∙ sym
+    (rw (← c12 .count-configurations .ensures) (c11 .loop .inv .3 hubs ∙ configs-end _ _ _ _ _ _ _ _ (c10 .loop-test .left)))
 
 pub read-configs-spec : {M : Type 1} → statement M
 read-configs-spec =

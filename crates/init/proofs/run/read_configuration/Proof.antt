@@ -12,7 +12,10 @@ enum-told : tie.Need-enum-told
 enum-told c = search needs
 
 read-device-requires : tie.Need-read-device-requires
-read-device-requires c κs = (c .before .before .before .before .before .before .before .before .before .before .before .before .before .before .pre .0, (omega (arith, c .before .before .before .before .before .before .before .send .kept .0, c .before .before .before .before .before .before .before .before .before .before .before .before .before .before .pre .1 .0), c .before .before .before .before .before .before .before .before .before .before .before .before .before .before .pre .1 .1))
+read-device-requires c κs =
+    let c7 = c .before .before .before .before .before .before .before in
+    let c14 = c7 .before .before .before .before .before .before .before in
+    (c14 .pre .0, (omega (arith, c7 .send .kept .0, c14 .pre .1 .0), c14 .pre .1 .1))
 
 enum-known-s : tie.Need-enum-known-s
 enum-known-s c = search needs
@@ -37,7 +40,11 @@ same-length-3 c = search needs
 
 returns : tie.Need-returns
 unfolding bringUpConfiguration
-returns c = λ hubs. done _ _ _ _ (c .before .before .before .before .before .before .before .before .before .before .before .before .before .before .send .ensures) _ _ _ _ (c .before .before .before .before .before .before .before .before .before .before .enum-told .given .1) (c .before .before .before .before .before .before .read-device .ensures hubs)
+returns c =
+    let c6 = c .before .before .before .before .before .before in
+    let c10 = c6 .before .before .before .before in
+    let c14 = c10 .before .before .before .before in
+    λ hubs. done _ _ _ _ (c14 .send .ensures) _ _ _ _ (c10 .enum-told .given .1) (c6 .read-device .ensures hubs)
 
 same-length-4 : tie.Need-same-length-4
 same-length-4 c = search needs

@@ -23,7 +23,10 @@ unfolding bringUpDevice
 returns c = λ hubs. done-where _ _ _ _ (c .before .before .before .before .before .before .send .ensures) _ _ _ _ _ _ (c .before .before .enum-told .given .1) (eq-eqb _ _ (c .before .if1 .taken)) (ended-after _ _ (c .after-reading .ensures))
 
 read-configs-requires : tie.Need-read-configs-requires
-read-configs-requires c κs = (c .before .before .before .before .before .before .before .before .before .before .before .before .before .before .before .pre .0, (omega (arith, c .before .before .before .before .before .before .before .before .send .kept .0, c .before .before .before .before .before .before .before .before .before .before .before .before .before .before .before .pre .1 .0), c .before .before .before .before .before .before .before .before .before .before .before .before .before .before .before .pre .1 .1))
+read-configs-requires c κs =
+    let c8 = c .before .before .before .before .before .before .before .before in
+    let c15 = c8 .before .before .before .before .before .before .before in
+    (c15 .pre .0, (omega (arith, c8 .send .kept .0, c15 .pre .1 .0), c15 .pre .1 .1))
 
 enum-known-s : tie.Need-enum-known-s
 enum-known-s c = search needs
@@ -48,7 +51,13 @@ same-length-4 c = search needs
 
 returns-2 : tie.Need-returns-2
 unfolding bringUpDevice
-returns-2 c = λ hubs. done-else _ _ _ _ (c .before .before .before .before .before .before .before .before .before .before .before .before .before .before .before .send .ensures) _ _ _ _ _ _ (c .before .before .before .before .before .before .before .before .before .before .before .enum-told .given .1) (ne-eqb _ _ (c .before .before .before .before .before .before .before .before .before .before .if1 .left)) (c .before .before .before .before .before .before .read-configs .ensures hubs)
+returns-2 c =
+    let c6 = c .before .before .before .before .before .before in
+    let c10 = c6 .before .before .before .before in
+    let c11 = c10 .before in
+    let c15 = c11 .before .before .before .before in
+    λ hubs. done-else _ _ _ _ (c15 .send .ensures) _ _ _ _ _ _ (c11 .enum-told .given .1) (ne-eqb _ _ (c10 .if1 .left))
+    (c6 .read-configs .ensures hubs)
 
 same-length-5 : tie.Need-same-length-5
 same-length-5 c = search needs

@@ -20,10 +20,19 @@ same-length c = search needs
 
 returns : tie.Need-returns
 unfolding bringUpHeader
-returns c = λ hubs. done-else _ _ _ _ (c .before .before .before .before .before .before .before .send .ensures) _ _ _ _ _ _ (c .before .before .before .enum-told .given .1) (ne-eqb (c .before .before .before .before .before .before .before .before .before .before .before .before .before .before .args .a .header) 8 (λ e. omega (arith, e, c .before .if1 .taken))) (ended-before _ _ (c .before .before .before .before .before .before .before .before .before .before .before .before .before .before .pre .1 .1) (c .before-reading .ensures))
+returns c =
+    let c3 = c .before .before .before in
+    let c7 = c3 .before .before .before .before in
+    let c14 = c7 .before .before .before .before .before .before .before in
+    λ hubs. done-else _ _ _ _ (c7 .send .ensures) _ _ _ _ _ _ (c3 .enum-told .given .1)
+    (ne-eqb (c14 .args .a .header) 8 (λ e. omega (arith, e, c .before .if1 .taken)))
+    (ended-before _ _ (c14 .pre .1 .1) (c .before-reading .ensures))
 
 max-packet-requires : tie.Need-max-packet-requires
-max-packet-requires c κs = (c .before .before .before .before .before .before .before .before .before .before .before .before .before .before .before .before .pre .0, (omega (arith, c .before .before .before .before .before .before .before .before .before .send .kept .0, c .before .before .before .before .before .before .before .before .before .before .before .before .before .before .before .before .pre .1 .0), c .before .before .before .before .before .before .before .before .before .before .before .before .before .before .before .before .pre .1 .1))
+max-packet-requires c κs =
+    let c9 = c .before .before .before .before .before .before .before .before .before in
+    let c16 = c9 .before .before .before .before .before .before .before in
+    (c16 .pre .0, (omega (arith, c9 .send .kept .0, c16 .pre .1 .0), c16 .pre .1 .1))
 
 enum-known-s : tie.Need-enum-known-s
 enum-known-s c = search needs
@@ -48,7 +57,14 @@ same-length-4 c = search needs
 
 returns-2 : tie.Need-returns-2
 unfolding bringUpHeader
-returns-2 c = λ hubs. done-where _ _ _ _ (c .before .before .before .before .before .before .before .before .before .before .before .before .before .before .before .before .send .ensures) _ _ _ _ _ _ (c .before .before .before .before .before .before .before .before .before .before .before .before .enum-told .given .1) (eq-eqb (c .before .before .before .before .before .before .before .before .before .before .before .before .before .before .before .before .before .before .before .before .before .before .before .args .a .header) 8 (omega (arith, c .before .before .before .before .before .before .before .before .before .before .if1 .left))) (c .before .before .before .before .before .before .max-packet .ensures hubs)
+returns-2 c =
+    let c6 = c .before .before .before .before .before .before in
+    let c10 = c6 .before .before .before .before in
+    let c12 = c10 .before .before in
+    let c16 = c12 .before .before .before .before in
+    let c23 = c16 .before .before .before .before .before .before .before in
+    λ hubs. done-where _ _ _ _ (c16 .send .ensures) _ _ _ _ _ _ (c12 .enum-told .given .1)
+    (eq-eqb (c23 .args .a .header) 8 (omega (arith, c10 .if1 .left))) (c6 .max-packet .ensures hubs)
 
 same-length-5 : tie.Need-same-length-5
 same-length-5 c = search needs

@@ -16,7 +16,11 @@ first-settings-requires : tie.Need-first-settings-requires
 first-settings-requires c κs = search needs
 
 run-set-configuration-requires : tie.Need-run-set-configuration-requires
-run-set-configuration-requires c κs = let e = c .before .before .before .first-settings .ensures in (first-room _ _ (c .before .before .before .first-settings .result) (c .before .before .before .before .before .before .before .before .before .before .pre .0) (e .1) (e .3) (e .4), (rw (e .2) (omega arith), rw (e .3) (omega (arith, c .before .before .before .before .before .before .before .before .before .before .pre .1))))
+run-set-configuration-requires c κs =
+    let c3 = c .before .before .before in
+    let c10 = c3 .before .before .before .before .before .before .before in
+    let e = c3 .first-settings .ensures in
+    (first-room _ _ (c3 .first-settings .result) (c10 .pre .0) (e .1) (e .3) (e .4), (rw (e .2) (omega arith), rw (e .3) (omega (arith, c10 .pre .1))))
 
 value-after-requires : tie.Need-value-after-requires
 value-after-requires c κs = search needs
@@ -38,7 +42,14 @@ same-length-3 c = search needs
 
 returns : tie.Need-returns
 unfolding bringUpSettings
-returns c = λ hubs. let a = c .before .before .before .before .before .before .before .before .before .before .before .before .before .before .before .before .before .before .before .before .args .a in let list = c .before .before .before .before .before .before .before .before .before .before .before .before .before .before .before .before .before .before .before .before .args .list .now in let p = leaves (c .before .before .before .before .before .before .before .before .before .run-set-configuration .result) (c .before .before .before .before .before .before .before .before .before .run-set-configuration .last .0) (c .before .before .before .before .before .before .before .before .before .run-set-configuration .last .1 .0) (c .before .before .before .before .before .before .before .before .before .run-set-configuration .last .1 .1 .0) in sym (set-end (bringUpOf a hubs list) (c .before .before .before .before .before .before .before .before .before .before .before .before .before .before .before .before .before .before .before .before .args .spacing) (c .before .before .before .before .before .before .before .before .before .before .before .before .before .before .before .before .before .before .before .before .args .ctx .now) (c .before .before .before .before .before .before .before .before .before .before .before .before .before .before .before .before .before .before .before .before .args .routes .now) (c .before .before .before .before .before .before .before .before .before .before .before .before .before .before .before .before .before .before .before .before .args .outcomes .now) (c .before .before .before .before .before .before .before .before .before .before .before .before .before .before .before .before .before .before .before .before .args .n) (c .before .before .before .before .before .before .before .before .before .before .before .before .before .before .before .before .before .before .before .before .args .log .now) p (rw (← c .before .before .before .before .before .before .before .before .before .before .before .before .before .before .first-value .ensures, ← c .before .before .before .before .before .before .before .before .before .before .before .before .before .first-settings .ensures .0 list) (sym (c .before .before .before .before .before .before .before .before .before .run-set-configuration .ensures))) ∙ rw (c .after-reading .ensures, c .before .before .value-after .ensures, c .before .before .before .before .before .before .before .before .before .before .before .before .before .before .first-value .ensures, c .before .count-configurations .ensures, first-all list))
+returns c =
+    let c9 = c .before .before .before .before .before .before .before .before .before in
+    let c13 = c9 .before .before .before .before in
+    let c14 = c13 .before in
+    let c20 = c14 .before .before .before .before .before .before in
+    λ hubs. let a = c20 .args .a in let list = c20 .args .list .now in let p = leaves (c9 .run-set-configuration .result)
+    (c9 .run-set-configuration .last .0) (c9 .run-set-configuration .last .1 .0) (c9 .run-set-configuration .last .1 .1 .0) in sym
+    (set-end (bringUpOf a hubs list) (c20 .args .spacing) (c20 .args .ctx .now) (c20 .args .routes .now) (c20 .args .outcomes .now) (c20 .args .n) (c20 .args .log .now) p (rw (← c14 .first-value .ensures, ← c13 .first-settings .ensures .0 list) (sym (c9 .run-set-configuration .ensures))) ∙ rw (c .after-reading .ensures, c .before .before .value-after .ensures, c14 .first-value .ensures, c .before .count-configurations .ensures, first-all list))
 
 pub set-first-spec : {M : Type 1} → statement M
 set-first-spec =

@@ -40,7 +40,11 @@ loop-less : tie.Need-loop-less Inv-loop μ-loop
 loop-less c = search needs
 
 loop-again : tie.Need-loop-again Inv-loop μ-loop
-loop-again c = (search needs, search needs, c .before .before .before .before .before .before .loop .inv .2 ∙ add-next _ _ _ _ _ _ (c .before .before .before .before .before .loop-test .taken) (c .before .before .before .before .setting-words .ensures) _ _ _ _ _ (c .before .before .add-endpoints .ensures))
+loop-again c =
+    let c4 = c .before .before .before .before in
+    let c5 = c4 .before in
+    let c6 = c5 .before in
+    (search needs, search needs, c6 .loop .inv .2 ∙ add-next _ _ _ _ _ _ (c5 .loop-test .taken) (c4 .setting-words .ensures) _ _ _ _ _ (c .before .before .add-endpoints .ensures))
 
 same-length : tie.Need-same-length Inv-loop μ-loop
 same-length c = search needs

@@ -39,7 +39,11 @@ loop-less : tie.Need-loop-less Inv-loop μ-loop
 loop-less c = search needs
 
 loop-again : tie.Need-loop-again Inv-loop μ-loop
-loop-again c = (search needs, search needs, λ s. c .before .before .before .before .before .before .loop .inv .2 s ∙ drop-next _ _ _ _ _ _ (c .before .before .before .before .before .loop-test .taken) (c .before .before .before .before .setting-words .ensures) s _ _ (c .before .before .drop-endpoints .ensures s))
+loop-again c =
+    let c4 = c .before .before .before .before in
+    let c5 = c4 .before in
+    let c6 = c5 .before in
+    (search needs, search needs, λ s. c6 .loop .inv .2 s ∙ drop-next _ _ _ _ _ _ (c5 .loop-test .taken) (c4 .setting-words .ensures) s _ _ (c .before .before .drop-endpoints .ensures s))
 
 same-length : tie.Need-same-length Inv-loop μ-loop
 same-length c = search needs

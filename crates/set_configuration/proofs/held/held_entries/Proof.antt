@@ -47,7 +47,10 @@ loop-less : tie.Need-loop-less Inv-loop μ-loop
 loop-less c = search needs
 
 loop-again : tie.Need-loop-again Inv-loop μ-loop
-loop-again c = (search needs, omega (arith, c .greater .ensures, c .before .before .before .before .loop .inv .1), c .before .before .before .before .loop .inv .2 ∙ entries-next _ _ _ _ _ _ (c .before .before .before .loop-test .taken) (c .before .before .setting-words .ensures) _ _ _ (c .greater .ensures ∙ rw (c .before .context-entries2 .ensures)))
+loop-again c =
+    let c3 = c .before .before .before in
+    let c4 = c3 .before in
+    (search needs, omega (arith, c .greater .ensures, c4 .loop .inv .1), c4 .loop .inv .2 ∙ entries-next _ _ _ _ _ _ (c3 .loop-test .taken) (c .before .before .setting-words .ensures) _ _ _ (c .greater .ensures ∙ rw (c .before .context-entries2 .ensures)))
 
 returns : tie.Need-returns Inv-loop μ-loop
 returns c = sym (c .before .loop .inv .2 ∙ entries-end _ _ _ _ _ (c .loop-test .left) _ _ (c .before .loop .inv .1))

@@ -14,14 +14,23 @@ drop-held-requires c κs = search needs
 
 finish-drop-requires : tie.Need-finish-drop-requires
 unfolding dcisIn
-finish-drop-requires c κs = let p = c .before .before .before .before .before .before .before .before .before .before .before .before .before .before .pre .0 in (rw (c .before .before .before .drop-held .kept .0, c .before .before .before .before .before .before .before .begin-configure .kept .0) (p .spaced), (p .few-all, p .low))
+finish-drop-requires c κs =
+    let c3 = c .before .before .before in
+    let c7 = c3 .before .before .before .before in
+    let c14 = c7 .before .before .before .before .before .before .before in
+    let p = c14 .pre .0 in (rw (c3 .drop-held .kept .0, c7 .begin-configure .kept .0) (p .spaced), (p .few-all, p .low))
 
 same-length : tie.Need-same-length
 same-length c = search needs
 
 returns : tie.Need-returns
 unfolding dropContext dcisIn
-returns c = let s = c .before .before .before .before .before .before .before .before .before .before .before .before .before .before .before .before .before .args .a .spacing in rw (drop-steps, dcis-in, ← c .before .before .before .before .before .before .before .before .before .before .begin-configure .ensures s, ← c .before .before .before .before .before .before .drop-held .ensures s) (c .before .before .finish-drop .ensures)
+returns c =
+    let c6 = c .before .before .before .before .before .before in
+    let c10 = c6 .before .before .before .before in
+    let c17 = c10 .before .before .before .before .before .before .before in
+    let s = c17 .args .a .spacing in rw (drop-steps, dcis-in, ← c10 .begin-configure .ensures s, ← c6 .drop-held .ensures s)
+    (c .before .before .finish-drop .ensures)
 
 pub prepare-drop-spec : {M : Type 1} → statement M
 prepare-drop-spec =

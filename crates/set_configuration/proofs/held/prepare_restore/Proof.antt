@@ -11,14 +11,21 @@ begin-configure-requires c κs = search needs
 
 restore-held-requires : tie.Need-restore-held-requires
 unfolding dcisIn
-restore-held-requires c κs = let p = c .before .before .before .before .before .before .before .before .before .before .before .pre .0 in (rw (c .before .before .before .begin-configure .kept .0) (p .spaced), (c .before .before .before .before .before .before .before .before .before .before .before .pre .1, (p .few, p .low)))
+restore-held-requires c κs =
+    let c3 = c .before .before .before in
+    let c11 = c3 .before .before .before .before .before .before .before .before in
+    let p = c11 .pre .0 in (rw (c3 .begin-configure .kept .0) (p .spaced), (c11 .pre .1, (p .few, p .low)))
 
 same-length : tie.Need-same-length
 same-length c = search needs
 
 returns : tie.Need-returns
 unfolding restoreContext dcisIn ringsIn queuesIn
-returns c = let s = c .before .before .before .before .before .before .before .before .before .before .before .before .before .before .args .a .spacing in rw (restore-steps, dcis-in, ← c .before .before .before .before .before .before .begin-configure .ensures s) (c .before .before .restore-held .ensures)
+returns c =
+    let c6 = c .before .before .before .before .before .before in
+    let c14 = c6 .before .before .before .before .before .before .before .before in
+    let s = c14 .args .a .spacing in rw (restore-steps, dcis-in, ← c6 .begin-configure .ensures s)
+    (c .before .before .restore-held .ensures)
 
 pub prepare-restore-spec : {M : Type 1} → statement M
 prepare-restore-spec =

@@ -46,7 +46,12 @@ same-length-2 c = search needs
 
 returns : tie.Need-returns
 unfolding setEvaluate valueContext onSent
-returns c = λ list routes. rw (played-sends, ← c .before .before .before .before .before .send .ensures .1, ← c .before .before .before .before .before .send .ensures .0, c .before .enum-told .given .1, ← c .before .before .before .before .before .before .before .before .before .configuration-context .ensures (c .before .before .before .before .before .before .before .before .before .before .before .before .before .before .args .a .spacing), played-ends, c .moves .ensures)
+returns c =
+    let c5 = c .before .before .before .before .before in
+    let c9 = c5 .before .before .before .before in
+    let c14 = c9 .before .before .before .before .before in
+    λ list routes. rw
+    (played-sends, ← c5 .send .ensures .1, ← c5 .send .ensures .0, c .before .enum-told .given .1, ← c9 .configuration-context .ensures (c14 .args .a .spacing), played-ends, c .moves .ensures)
 
 same-length-3 : tie.Need-same-length-3
 same-length-3 c = search needs
@@ -56,7 +61,12 @@ same-length-4 c = search needs
 
 returns-2 : tie.Need-returns-2
 unfolding setEvaluate valueContext onSent
-returns-2 c = λ list routes. rw (played-sends, ← c .before .before .before .before .before .send .ensures .1, ← c .before .before .before .before .before .send .ensures .0, c .before .enum-told2 .given .1, ← c .before .before .before .before .before .before .before .before .before .configuration-context .ensures (c .before .before .before .before .before .before .before .before .before .before .before .before .before .before .args .a .spacing), played-ends, c .moves2 .ensures)
+returns-2 c =
+    let c5 = c .before .before .before .before .before in
+    let c9 = c5 .before .before .before .before in
+    let c14 = c9 .before .before .before .before .before in
+    λ list routes. rw
+    (played-sends, ← c5 .send .ensures .1, ← c5 .send .ensures .0, c .before .enum-told2 .given .1, ← c9 .configuration-context .ensures (c14 .args .a .spacing), played-ends, c .moves2 .ensures)
 
 same-length-5 : tie.Need-same-length-5
 same-length-5 c = search needs
@@ -66,7 +76,12 @@ same-length-6 c = search needs
 
 returns-3 : tie.Need-returns-3
 unfolding setEvaluate valueContext onSent
-returns-3 c = λ list routes. rw (played-sends, ← c .before .before .before .before .before .send .ensures .1, ← c .before .before .before .before .before .send .ensures .0, c .before .enum-told3 .given .1, ← c .before .before .before .before .before .before .before .before .before .configuration-context .ensures (c .before .before .before .before .before .before .before .before .before .before .before .before .before .before .args .a .spacing), played-ends, c .moves3 .ensures)
+returns-3 c =
+    let c5 = c .before .before .before .before .before in
+    let c9 = c5 .before .before .before .before in
+    let c14 = c9 .before .before .before .before .before in
+    λ list routes. rw
+    (played-sends, ← c5 .send .ensures .1, ← c5 .send .ensures .0, c .before .enum-told3 .given .1, ← c9 .configuration-context .ensures (c14 .args .a .spacing), played-ends, c .moves3 .ensures)
 
 pub evaluate-spec : {M : Type 1} → statement M
 evaluate-spec =

@@ -41,21 +41,38 @@ same-length-3 c = search needs
 
 returns : tie.Need-returns
 unfolding setPublish setPublished
-returns c = λ list. let e = c .before .before .before .before .before .before .before .before .before .before .before .publish-endpoint-routes .ensures in let r = rw (c .before .before .before .before .before .before .before .before .before .before .before .before .before .no-queues .ensures .0) at (e .0) in let t = rw (c .before .before .before .before .before .before .before .before .before .before .before .before .before .no-queues .ensures .0) at (e .1) in rw (← r, c .before .before .before .before .before .before .before .enum-told .given .1, ← t) (c .before .before .before .before .evaluate .ensures list (c .before .before .before .before .before .before .before .before .before .before .before .publish-endpoint-routes .last .0))
+returns c =
+    let c4 = c .before .before .before .before in
+    let c7 = c4 .before .before .before in
+    let c11 = c7 .before .before .before .before in
+    let c13 = c11 .before .before in
+    λ list. let e = c11 .publish-endpoint-routes .ensures in let r = rw (c13 .no-queues .ensures .0) at (e .0) in let t = rw
+    (c13 .no-queues .ensures .0) at (e .1) in rw (← r, c7 .enum-told .given .1, ← t)
+    (c4 .evaluate .ensures list (c11 .publish-endpoint-routes .last .0))
 
 same-length-4 : tie.Need-same-length-4
 same-length-4 c = search needs
 
 returns-2 : tie.Need-returns-2
 unfolding setPublish setPublished
-returns-2 c = λ list. let e = c .before .before .before .before .before .publish-endpoint-routes .ensures in let r = rw (c .before .before .before .before .before .before .before .no-queues .ensures .0) at (e .0) in let t = rw (c .before .before .before .before .before .before .before .no-queues .ensures .0) at (e .1) in rw (← r, c .before .enum-told2 .given .1, played-ends, c .stays .ensures, t ∙ invalid-kept _ _ _ _ (sym r ∙ c .before .enum-told2 .given .1))
+returns-2 c =
+    let c5 = c .before .before .before .before .before in
+    let c7 = c5 .before .before in
+    λ list. let e = c5 .publish-endpoint-routes .ensures in let r = rw (c7 .no-queues .ensures .0) at (e .0) in let t = rw
+    (c7 .no-queues .ensures .0) at (e .1) in rw
+    (← r, c .before .enum-told2 .given .1, played-ends, c .stays .ensures, t ∙ invalid-kept _ _ _ _ (sym r ∙ c .before .enum-told2 .given .1))
 
 same-length-5 : tie.Need-same-length-5
 same-length-5 c = search needs
 
 returns-3 : tie.Need-returns-3
 unfolding setPublish setPublished
-returns-3 c = λ list. let e = c .before .before .before .before .before .publish-endpoint-routes .ensures in let r = rw (c .before .before .before .before .before .before .before .no-queues .ensures .0) at (e .0) in let t = rw (c .before .before .before .before .before .before .before .no-queues .ensures .0) at (e .1) in rw (← r, c .before .enum-told3 .given .1, played-ends, c .stays2 .ensures, t ∙ full-kept _ _ _ _ (sym r ∙ c .before .enum-told3 .given .1))
+returns-3 c =
+    let c5 = c .before .before .before .before .before in
+    let c7 = c5 .before .before in
+    λ list. let e = c5 .publish-endpoint-routes .ensures in let r = rw (c7 .no-queues .ensures .0) at (e .0) in let t = rw
+    (c7 .no-queues .ensures .0) at (e .1) in rw
+    (← r, c .before .enum-told3 .given .1, played-ends, c .stays2 .ensures, t ∙ full-kept _ _ _ _ (sym r ∙ c .before .enum-told3 .given .1))
 
 pub publish-spec : {M : Type 1} → statement M
 publish-spec =

@@ -46,7 +46,13 @@ same-length-2 c = search needs
 
 returns : tie.Need-returns
 unfolding setRestore onSent
-returns c = λ routes. rw (played-sends, ← c .before .before .before .before .before .before .before .before .send .ensures .1, ← c .before .before .before .before .before .before .before .before .send .ensures .0, c .before .before .before .before .enum-told .given .1, ← c .before .before .before .before .before .before .before .before .before .before .before .before .prepare-restore .ensures) (c .before .before .restored .ensures (c .before .before .before .before .before .before .before .before .before .before .before .before .before .before .before .before .before .before .args .list .now) (c .before .before .before .before .before .before .before .before .before .before .before .before .prepare-restore .last .0) routes)
+returns c =
+    let c4 = c .before .before .before .before in
+    let c8 = c4 .before .before .before .before in
+    let c12 = c8 .before .before .before .before in
+    let c18 = c12 .before .before .before .before .before .before in
+    λ routes. rw (played-sends, ← c8 .send .ensures .1, ← c8 .send .ensures .0, c4 .enum-told .given .1, ← c12 .prepare-restore .ensures)
+    (c .before .before .restored .ensures (c18 .args .list .now) (c12 .prepare-restore .last .0) routes)
 
 same-length-3 : tie.Need-same-length-3
 same-length-3 c = search needs
@@ -56,7 +62,11 @@ same-length-4 c = search needs
 
 returns-2 : tie.Need-returns-2
 unfolding setRestore onSent
-returns-2 c = λ routes. rw (played-sends, ← c .before .before .before .before .before .send .ensures .1, ← c .before .before .before .before .before .send .ensures .0, c .before .enum-told2 .given .1, ← c .before .before .before .before .before .before .before .before .before .prepare-restore .ensures, played-ends, c .stays .ensures)
+returns-2 c =
+    let c5 = c .before .before .before .before .before in
+    let c9 = c5 .before .before .before .before in
+    λ routes. rw
+    (played-sends, ← c5 .send .ensures .1, ← c5 .send .ensures .0, c .before .enum-told2 .given .1, ← c9 .prepare-restore .ensures, played-ends, c .stays .ensures)
 
 same-length-5 : tie.Need-same-length-5
 same-length-5 c = search needs
@@ -66,7 +76,11 @@ same-length-6 c = search needs
 
 returns-3 : tie.Need-returns-3
 unfolding setRestore onSent
-returns-3 c = λ routes. rw (played-sends, ← c .before .before .before .before .before .send .ensures .1, ← c .before .before .before .before .before .send .ensures .0, c .before .enum-told3 .given .1, ← c .before .before .before .before .before .before .before .before .before .prepare-restore .ensures, played-ends, c .stays2 .ensures)
+returns-3 c =
+    let c5 = c .before .before .before .before .before in
+    let c9 = c5 .before .before .before .before in
+    λ routes. rw
+    (played-sends, ← c5 .send .ensures .1, ← c5 .send .ensures .0, c .before .enum-told3 .given .1, ← c9 .prepare-restore .ensures, played-ends, c .stays2 .ensures)
 
 pub restore-spec : {M : Type 1} → statement M
 restore-spec =

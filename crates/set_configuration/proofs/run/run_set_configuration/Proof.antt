@@ -15,7 +15,11 @@ enum-told : tie.Need-enum-told
 enum-told c = search needs
 
 configure-requires : tie.Need-configure-requires
-configure-requires c κs = (c .before .before .before .before .before .before .before .before .before .before .before .before .before .before .pre .0, (c .before .before .before .before .before .before .before .before .before .before .before .before .before .before .pre .1 .0, let e = stopped-count _ _ _ _ _ _ _ (c .before .before .before .before .before .before .before .stop-queues .ensures []) (c .before .before .before .enum-told .given .1) in omega (arith, e, c .before .before .before .before .before .before .before .stop-queues .kept .0, c .before .before .before .before .before .before .before .before .before .before .before .before .before .before .pre .1 .1)))
+configure-requires c κs =
+    let c3 = c .before .before .before in
+    let c7 = c3 .before .before .before .before in
+    let c14 = c7 .before .before .before .before .before .before .before in
+    (c14 .pre .0, (c14 .pre .1 .0, let e = stopped-count _ _ _ _ _ _ _ (c7 .stop-queues .ensures []) (c3 .enum-told .given .1) in omega (arith, e, c7 .stop-queues .kept .0, c14 .pre .1 .1)))
 
 enum-told-2 : tie.Need-enum-told-2
 enum-told-2 c = search needs
@@ -40,21 +44,35 @@ same-length-3 c = search needs
 
 returns : tie.Need-returns
 unfolding setCourse onSent
-returns c = let a = c .before .before .before .before .before .before .before .before .before .before .before .before .before .before .stop-queues .ensures (c .before .before .before .before .before .before .before .before .before .before .before .before .before .before .before .before .before .before .before .before .before .args .ctx .now) in rw (dcis-in, played-then, ← a .sent, ← a .count, ← a .log, c .before .before .before .before .before .before .before .before .before .before .enum-told .given .1) (c .before .before .before .before .before .before .configure .ensures)
+returns c =
+    let c6 = c .before .before .before .before .before .before in
+    let c10 = c6 .before .before .before .before in
+    let c14 = c10 .before .before .before .before in
+    let c21 = c14 .before .before .before .before .before .before .before in
+    let a = c14 .stop-queues .ensures (c21 .args .ctx .now) in rw
+    (dcis-in, played-then, ← a .sent, ← a .count, ← a .log, c10 .enum-told .given .1) (c6 .configure .ensures)
 
 same-length-4 : tie.Need-same-length-4
 same-length-4 c = search needs
 
 returns-2 : tie.Need-returns-2
 unfolding setCourse onSent
-returns-2 c = let a = c .before .before .before .before .before .stop-queues .ensures (c .before .before .before .before .before .before .before .before .before .before .before .before .args .ctx .now) in rw (dcis-in, played-then, ← a .sent, ← a .active, ← a .count, ← a .log, c .before .enum-told2 .given .1, played-ends, c .stays .ensures)
+returns-2 c =
+    let c5 = c .before .before .before .before .before in
+    let c12 = c5 .before .before .before .before .before .before .before in
+    let a = c5 .stop-queues .ensures (c12 .args .ctx .now) in rw
+    (dcis-in, played-then, ← a .sent, ← a .active, ← a .count, ← a .log, c .before .enum-told2 .given .1, played-ends, c .stays .ensures)
 
 same-length-5 : tie.Need-same-length-5
 same-length-5 c = search needs
 
 returns-3 : tie.Need-returns-3
 unfolding setCourse onSent
-returns-3 c = let a = c .before .before .before .before .before .stop-queues .ensures (c .before .before .before .before .before .before .before .before .before .before .before .before .args .ctx .now) in rw (dcis-in, played-then, ← a .sent, ← a .active, ← a .count, ← a .log, c .before .enum-told3 .given .1, played-ends, c .stays2 .ensures)
+returns-3 c =
+    let c5 = c .before .before .before .before .before in
+    let c12 = c5 .before .before .before .before .before .before .before in
+    let a = c5 .stop-queues .ensures (c12 .args .ctx .now) in rw
+    (dcis-in, played-then, ← a .sent, ← a .active, ← a .count, ← a .log, c .before .enum-told3 .given .1, played-ends, c .stays2 .ensures)
 
 pub run-set-configuration-spec : {M : Type 1} → statement M
 run-set-configuration-spec =

@@ -46,7 +46,13 @@ same-length-3 c = search needs
 
 returns : tie.Need-returns
 unfolding setSwitch onSent
-returns c = rw (played-sends, ← c .before .before .before .before .before .before .before .before .before .before .before .before .before .before .send .ensures .1, ← c .before .before .before .before .before .before .before .before .before .before .before .before .before .before .send .ensures .0, c .before .before .before .before .before .before .before .before .before .before .enum-told .given .1) (c .before .before .before .before .before .before .publish .ensures (c .before .before .before .before .before .before .before .before .before .before .before .before .before .before .before .before .before .before .before .before .before .args .list .now))
+returns c =
+    let c6 = c .before .before .before .before .before .before in
+    let c10 = c6 .before .before .before .before in
+    let c14 = c10 .before .before .before .before in
+    let c21 = c14 .before .before .before .before .before .before .before in
+    rw (played-sends, ← c14 .send .ensures .1, ← c14 .send .ensures .0, c10 .enum-told .given .1)
+    (c6 .publish .ensures (c21 .args .list .now))
 
 same-length-4 : tie.Need-same-length-4
 same-length-4 c = search needs
@@ -56,7 +62,12 @@ same-length-5 c = search needs
 
 returns-2 : tie.Need-returns-2
 unfolding setSwitch onSent
-returns-2 c = rw (played-sends, ← c .before .before .before .before .before .before .before .before .before .before .before .before .send .ensures .1, ← c .before .before .before .before .before .before .before .before .before .before .before .before .send .ensures .0, c .before .before .before .before .before .before .before .before .s .given .1) (c .before .before .before .before .restore .ensures (c .before .before .before .before .before .before .before .before .before .before .before .before .before .before .before .before .before .before .before .args .routes .now))
+returns-2 c =
+    let c4 = c .before .before .before .before in
+    let c8 = c4 .before .before .before .before in
+    let c12 = c8 .before .before .before .before in
+    let c19 = c12 .before .before .before .before .before .before .before in
+    rw (played-sends, ← c12 .send .ensures .1, ← c12 .send .ensures .0, c8 .s .given .1) (c4 .restore .ensures (c19 .args .routes .now))
 
 same-length-6 : tie.Need-same-length-6
 same-length-6 c = search needs

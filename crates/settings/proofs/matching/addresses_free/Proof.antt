@@ -50,7 +50,10 @@ loop-less : tie.Need-loop-less Inv-loop μ-loop
 loop-less c = search needs
 
 loop-again : tie.Need-loop-again Inv-loop μ-loop
-loop-again c = (search needs, c .before .before .before .before .before .loop .inv .1 ∙ each-next _ 30 (c .before .before .before .before .before .loop .p) (c .before .before .before .before .loop-test .taken) ∙ rw (← c .before .is-free .ensures, not-false (c .before .is-free .result) (c .if1 .left)))
+loop-again c =
+    let c4 = c .before .before .before .before in
+    let c5 = c4 .before in
+    (search needs, c5 .loop .inv .1 ∙ each-next _ 30 (c5 .loop .p) (c4 .loop-test .taken) ∙ rw (← c .before .is-free .ensures, not-false (c .before .is-free .result) (c .if1 .left)))
 
 returns-2 : tie.Need-returns-2 Inv-loop μ-loop
 returns-2 c = sym (c .before .loop .inv .1 ∙ each-none _ 30 (c .before .loop .p) (c .loop-test .left))

@@ -39,13 +39,20 @@ add-p : tie.Need-add-p Inv-loop μ-loop
 add-p c = search needs
 
 returns : tie.Need-returns Inv-loop μ-loop
-returns c = λ ys. sym (c .before .before .before .before .before .loop .inv .1 ys ∙ each-next _ 30 (c .before .before .before .before .before .loop .p) (c .before .before .before .before .loop-test .taken) ∙ rw (← c .before .owner-held .ensures ys, not-true (c .before .owner-held .result) (c .if1 .taken)))
+returns c =
+    let c4 = c .before .before .before .before in
+    let c5 = c4 .before in
+    λ ys. sym
+    (c5 .loop .inv .1 ys ∙ each-next _ 30 (c5 .loop .p) (c4 .loop-test .taken) ∙ rw (← c .before .owner-held .ensures ys, not-true (c .before .owner-held .result) (c .if1 .taken)))
 
 loop-less : tie.Need-loop-less Inv-loop μ-loop
 loop-less c = search needs
 
 loop-again : tie.Need-loop-again Inv-loop μ-loop
-loop-again c = (search needs, λ ys. c .before .before .before .before .before .loop .inv .1 ys ∙ each-next _ 30 (c .before .before .before .before .before .loop .p) (c .before .before .before .before .loop-test .taken) ∙ rw (← c .before .owner-held .ensures ys, not-false (c .before .owner-held .result) (c .if1 .left)))
+loop-again c =
+    let c4 = c .before .before .before .before in
+    let c5 = c4 .before in
+    (search needs, λ ys. c5 .loop .inv .1 ys ∙ each-next _ 30 (c5 .loop .p) (c4 .loop-test .taken) ∙ rw (← c .before .owner-held .ensures ys, not-false (c .before .owner-held .result) (c .if1 .left)))
 
 returns-2 : tie.Need-returns-2 Inv-loop μ-loop
 returns-2 c = λ ys. sym (c .before .loop .inv .1 ys ∙ each-none _ 30 (c .before .loop .p) (c .loop-test .left))

@@ -40,13 +40,21 @@ loop-less : tie.Need-loop-less Inv-loop μ-loop
 loop-less c = search needs
 
 loop-again : tie.Need-loop-again Inv-loop μ-loop
-loop-again c = (simp length-set (c .before .before .before .before .before .loop .inv .0), mark-next (c .before .before .before .before .before .loop .places) (c .before .before .before .before .before .before .before .args .words .now) (c .before .before .before .before .before .loop .i) (c .before .before .before .before .before .loop .inv .1) _ (c .before .before .before .before .loop-test .taken) (c .before .before .before .before .before .loop .inv .0) (c .before .place-of .ensures .0 ∙ rw (c .before .before .endpoint-descriptor .ensures)))
+loop-again c =
+    let c4 = c .before .before .before .before in
+    let c5 = c4 .before in
+    let c7 = c5 .before .before in
+    (simp length-set (c5 .loop .inv .0), mark-next (c5 .loop .places) (c7 .args .words .now) (c5 .loop .i) (c5 .loop .inv .1) _ (c4 .loop-test .taken) (c5 .loop .inv .0) (c .before .place-of .ensures .0 ∙ rw (c .before .before .endpoint-descriptor .ensures)))
 
 loop-less-2 : tie.Need-loop-less-2 Inv-loop μ-loop
 loop-less-2 c = search needs
 
 loop-again-2 : tie.Need-loop-again-2 Inv-loop μ-loop
-loop-again-2 c = (c .before .before .before .before .before .loop .inv .0, mark-skip (c .before .before .before .before .before .loop .places) (c .before .before .before .before .before .before .before .args .words .now) (c .before .before .before .before .before .loop .i) (c .before .before .before .before .before .loop .inv .1) _ (c .before .before .before .before .loop-test .taken) (c .if1 .left) (c .before .place-of .ensures .0 ∙ rw (c .before .before .endpoint-descriptor .ensures)))
+loop-again-2 c =
+    let c4 = c .before .before .before .before in
+    let c5 = c4 .before in
+    let c7 = c5 .before .before in
+    (c5 .loop .inv .0, mark-skip (c5 .loop .places) (c7 .args .words .now) (c5 .loop .i) (c5 .loop .inv .1) _ (c4 .loop-test .taken) (c .if1 .left) (c .before .place-of .ensures .0 ∙ rw (c .before .before .endpoint-descriptor .ensures)))
 
 returns : tie.Need-returns Inv-loop μ-loop
 returns c = marked-all (c .before .loop .places) (c .before .before .before .args .words .now) (c .before .loop .i) (c .before .loop .inv .1) (c .loop-test .left) (c .before .loop .inv .0)

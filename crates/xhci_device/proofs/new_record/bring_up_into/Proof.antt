@@ -29,7 +29,11 @@ same-length-4 : tie.Need-same-length-4
 same-length-4 c = search needs
 
 returns-2 : tie.Need-returns-2
-returns-2 c = cross-done _ _ _ _ _ _ (c .before .before .before .before .before .before .before .before .before .before .bring-up .result) _ _ _ _ _ (eq-eqb _ _ (c .before .before .before .before .before .before .before .before .before .before .before .before .before .before .if1 .left)) (c .before .before .before .before .before .before .before .before .before .before .bring-up .ensures) (c .before .before .finish .ensures .0) (c .before .before .finish .ensures .1) (c .before .before .finish .ensures .2)
+returns-2 c =
+    let c10 = c .before .before .before .before .before .before .before .before .before .before in
+    let c14 = c10 .before .before .before .before in
+    cross-done _ _ _ _ _ _ (c10 .bring-up .result) _ _ _ _ _ (eq-eqb _ _ (c14 .if1 .left)) (c10 .bring-up .ensures)
+    (c .before .before .finish .ensures .0) (c .before .before .finish .ensures .1) (c .before .before .finish .ensures .2)
 
 pub bring-up-into-spec : {M : Type 1} → statement M
 bring-up-into-spec =

@@ -14,7 +14,11 @@ enum-known-check c = search needs
 
 returns : tie.Need-returns
 unfolding claim
-returns c = refused-left _ _ (c .before .before .before .claim-check .ensures) _ (c .before .check .given .1) (c .before .before .before .before .before .before .before .before .before .args .self) _ (c .before .before .before .before .before .before .before .before .before .args .ctx .now) (c .before .before .before .before .before .before .before .before .before .args .routes .now) (c .before .before .before .before .before .before .before .before .before .args .log .now)
+returns c =
+    let c3 = c .before .before .before in
+    let c9 = c3 .before .before .before .before .before .before in
+    refused-left _ _ (c3 .claim-check .ensures) _ (c .before .check .given .1) (c9 .args .self) _ (c9 .args .ctx .now)
+    (c9 .args .routes .now) (c9 .args .log .now)
 
 enum-told : tie.Need-enum-told
 enum-told c = search needs
@@ -29,10 +33,21 @@ claim-args-requires : tie.Need-claim-args-requires
 claim-args-requires c κs = claim-passed _ _ _ _ _ _ _ _ (c .before .before .before .before .before .claim-check .ensures) (c .before .before .before .enum-told .given .1) .counts
 
 claim-interface-requires : tie.Need-claim-interface-requires
-claim-interface-requires c κs = let f = claim-passed _ _ _ _ _ _ _ _ (c .before .before .before .before .before .before .before .before .before .before .claim-check .ensures) (c .before .before .before .before .before .before .before .before .enum-told .given .1) in (claim-room _ _ _ _ _ _ _ (c .before .before .before .before .claim-args .ensures) (f .spaced), (c .before .before .before .before .claim-args .ensures .pending .room, (f .room, f .list)))
+claim-interface-requires c κs =
+    let c4 = c .before .before .before .before in
+    let c8 = c4 .before .before .before .before in
+    let c10 = c8 .before .before in
+    let f = claim-passed _ _ _ _ _ _ _ _ (c10 .claim-check .ensures) (c8 .enum-told .given .1) in
+    (claim-room _ _ _ _ _ _ _ (c4 .claim-args .ensures) (f .spaced), (c4 .claim-args .ensures .pending .room, (f .room, f .list)))
 
 claim-end-requires : tie.Need-claim-end-requires
-claim-end-requires c κs = let f = claim-passed _ _ _ _ _ _ _ _ (c .before .before .before .before .before .before .before .before .before .before .before .before .before .before .before .before .before .claim-check .ensures) (c .before .before .before .before .before .before .before .before .before .before .before .before .before .before .before .enum-told .given .1) in ((f .held, f .fits), (c .before .before .before .before .before .before .before .before .before .before .before .before .before .cells-in .ensures, f .free, c .before .before .before .before .before .before .before .before .before .before .before .claim-args .ensures .pending))
+claim-end-requires c κs =
+    let c11 = c .before .before .before .before .before .before .before .before .before .before .before in
+    let c13 = c11 .before .before in
+    let c15 = c13 .before .before in
+    let c17 = c15 .before .before in
+    let f = claim-passed _ _ _ _ _ _ _ _ (c17 .claim-check .ensures) (c15 .enum-told .given .1) in
+    ((f .held, f .fits), (c13 .cells-in .ensures, f .free, c11 .claim-args .ensures .pending))
 
 same-length : tie.Need-same-length
 same-length c = search needs
@@ -45,7 +60,19 @@ same-length-3 c = search needs
 
 returns-2 : tie.Need-returns-2
 unfolding listOf pendingOf
-returns-2 c = claim-left (c .before .before .before .before .before .before .before .before .before .before .before .before .before .before .before .before .before .before .before .before .before .before .before .before .args .self) (c .before .before .before .before .before .before .before .before .before .before .before .before .before .before .before .before .before .before .before .before .before .before .before .before .args .interface) (c .before .before .before .before .before .before .before .before .before .before .before .before .before .before .before .before .before .before .before .before .before .before .before .before .args .alternate) (c .before .before .before .before .before .before .before .before .before .before .before .before .before .before .before .before .before .before .before .before .before .before .before .before .args .rings .now) (c .before .before .before .before .before .before .before .before .before .before .before .before .before .before .before .before .before .before .claim-check .result) (c .before .before .before .before .before .before .before .before .before .before .before .before .claim-args .result) (c .before .before .before .before .before .before .before .before .before .before .before .before .before .before .cells-in .result) (c .before .before .before .before .before .before .before .before .before .before .before .before .before .list-rings .result) (c .before .before .before .before .before .before .before .before .before .before .before .before .before .before .before .before .before .before .before .before .before .before .before .before .args .outcomes .now) (c .before .before .before .before .before .before .before .before .before .before .before .before .before .before .before .before .before .before .before .before .before .before .before .before .args .ctx .now) (c .before .before .before .before .before .before .before .before .before .before .before .before .before .before .before .before .before .before .before .before .before .before .before .before .args .routes .now) (c .before .before .before .before .before .before .before .before .before .before .before .before .before .before .before .before .before .before .before .before .before .before .before .before .args .log .now) _ _ _ (c .before .before .before .before .before .before .before .claim-interface .result) (c .claim-end .result) (c .before .before .before .before .before .before .before .before .before .before .before .before .before .before .before .before .before .before .claim-check .ensures) (c .before .before .before .before .before .before .before .before .before .before .before .before .before .before .before .before .enum-told .given .1) (c .before .before .before .before .before .before .before .before .before .before .before .before .before .before .cells-in .ensures) (c .before .before .before .before .before .before .before .before .before .before .before .before .before .list-rings .ensures) (c .before .before .before .before .before .before .before .before .before .before .before .before .claim-args .ensures) (c .before .before .before .before .before .before .before .claim-interface .ensures) (c .claim-end .ensures _ _ _ _ (c .before .before .before .before .before .before .before .before .before .before .before .before .before .list-rings .ensures))
+returns-2 c =
+    let c7 = c .before .before .before .before .before .before .before in
+    let c12 = c7 .before .before .before .before .before in
+    let c13 = c12 .before in
+    let c14 = c13 .before in
+    let c16 = c14 .before .before in
+    let c18 = c16 .before .before in
+    let c24 = c18 .before .before .before .before .before .before in
+    claim-left (c24 .args .self) (c24 .args .interface) (c24 .args .alternate) (c24 .args .rings .now) (c18 .claim-check .result)
+    (c12 .claim-args .result) (c14 .cells-in .result) (c13 .list-rings .result) (c24 .args .outcomes .now) (c24 .args .ctx .now)
+    (c24 .args .routes .now) (c24 .args .log .now) _ _ _ (c7 .claim-interface .result) (c .claim-end .result) (c18 .claim-check .ensures)
+    (c16 .enum-told .given .1) (c14 .cells-in .ensures) (c13 .list-rings .ensures) (c12 .claim-args .ensures) (c7 .claim-interface .ensures)
+    (c .claim-end .ensures _ _ _ _ (c13 .list-rings .ensures))
 
 pub claim-spec : {M : Type 1} → statement M
 claim-spec = tie.close (tie.spec claim-check-requires enum-known-check returns enum-told cells-in-requires list-rings-requires claim-args-requires claim-interface-requires claim-end-requires same-length same-length-2 same-length-3 returns-2)

@@ -15,7 +15,11 @@ enum-known-check c = search needs
 
 returns : tie.Need-returns
 unfolding hubUpdate
-returns c = refused-left _ _ (c .before .before .before .hub-check .ensures) _ (c .before .check .given .1) (c .before .before .before .before .before .before .before .before .args .self) _ (c .before .before .before .before .before .before .before .before .args .ctx .now) (c .before .before .before .before .before .before .before .before .args .routes .now) (c .before .before .before .before .before .before .before .before .args .log .now)
+returns c =
+    let c3 = c .before .before .before in
+    let c8 = c3 .before .before .before .before .before in
+    refused-left _ _ (c3 .hub-check .ensures) _ (c .before .check .given .1) (c8 .args .self) _ (c8 .args .ctx .now) (c8 .args .routes .now)
+    (c8 .args .log .now)
 
 enum-told : tie.Need-enum-told
 enum-told c = search needs
@@ -43,7 +47,15 @@ same-length-2 c = search needs
 
 returns-2 : tie.Need-returns-2
 unfolding hubUpdate
-returns-2 c = passed-left _ _ (c .before .before .before .before .before .before .before .before .before .before .before .before .before .hub-check .ensures) (c .before .before .before .before .before .before .before .before .before .before .before .enum-told .given .1) _ _ _ (hub-left (c .before .before .before .before .before .before .before .before .before .before .before .before .before .before .before .before .before .before .args .self) (c .before .before .before .before .before .before .before .before .before .before .before .before .before .before .before .before .before .before .args .outcomes .now) (c .before .before .before .before .before .before .before .before .before .before .before .before .before .before .before .before .before .before .args .ctx .now) (c .before .before .before .before .before .before .before .before .before .before .before .before .before .before .before .before .before .before .args .routes .now) (c .before .before .before .before .before .before .before .before .before .before .before .before .before .before .before .before .before .before .args .log .now) (c .before .before .before .before .before .before .before .before .before .before .before .before .before .before .before .before .before .before .args .ports) (c .before .before .before .before .before .before .before .before .before .before .before .before .before .before .before .before .before .before .args .multi) (c .before .before .before .before .before .before .before .before .before .before .before .before .before .before .before .before .before .before .args .ns) _ _ _ _ (c .before .answer-of .result) (c .marked .result) (c .before .before .before .before .before .before .before .before .before .before .think-value .ensures) (c .before .before .before .before .before .before .before .before .hub-context .ensures) (c .before .before .before .before .send .ensures) (c .before .answer-of .ensures) (c .marked .ensures))
+returns-2 c =
+    let c4 = c .before .before .before .before in
+    let c8 = c4 .before .before .before .before in
+    let c10 = c8 .before .before in
+    let c11 = c10 .before in
+    let c13 = c11 .before .before in
+    let c18 = c13 .before .before .before .before .before in
+    passed-left _ _ (c13 .hub-check .ensures) (c11 .enum-told .given .1) _ _ _
+    (hub-left (c18 .args .self) (c18 .args .outcomes .now) (c18 .args .ctx .now) (c18 .args .routes .now) (c18 .args .log .now) (c18 .args .ports) (c18 .args .multi) (c18 .args .ns) _ _ _ _ (c .before .answer-of .result) (c .marked .result) (c10 .think-value .ensures) (c8 .hub-context .ensures) (c4 .send .ensures) (c .before .answer-of .ensures) (c .marked .ensures))
 
 pub hub-update-spec : {M : Type 1} → statement M
 hub-update-spec =

@@ -13,7 +13,11 @@ enum-known-check c = search needs
 
 returns : tie.Need-returns
 unfolding setConfiguration
-returns c = refused-left _ _ (c .before .before .before .record-check .ensures) _ (c .before .check .given .1) (c .before .before .before .before .before .before .before .before .args .self) _ (c .before .before .before .before .before .before .before .before .args .ctx .now) (c .before .before .before .before .before .before .before .before .args .routes .now) (c .before .before .before .before .before .before .before .before .args .log .now)
+returns c =
+    let c3 = c .before .before .before in
+    let c8 = c3 .before .before .before .before .before in
+    refused-left _ _ (c3 .record-check .ensures) _ (c .before .check .given .1) (c8 .args .self) _ (c8 .args .ctx .now)
+    (c8 .args .routes .now) (c8 .args .log .now)
 
 enum-told : tie.Need-enum-told
 enum-told c = search needs
@@ -40,7 +44,15 @@ same-length-3 : tie.Need-same-length-3
 same-length-3 c = search needs
 
 returns-2 : tie.Need-returns-2
-returns-2 c = set-left (c .before .before .before .before .before .before .before .before .before .before .before .before .before .before .before .before .before .before .before .before .before .args .self) _ (c .before .before .before .before .before .before .before .before .before .before .before .before .before .before .before .before .before .before .before .before .before .args .value) _ (c .before .before .before .before .before .before .before .before .before .before .before .before .settings-args .ensures) (c .before .before .before .before .before .before .before .before .before .before .before .before .before .before .before .before .before .before .before .before .before .args .outcomes .now) (c .before .before .before .before .before .before .before .before .before .before .before .before .before .before .before .before .before .before .before .before .before .args .ctx .now) (c .before .before .before .before .before .before .before .before .before .before .before .before .before .before .before .before .before .before .before .before .before .args .routes .now) (c .before .before .before .before .before .before .before .before .before .before .before .before .before .before .before .before .before .before .before .before .before .args .log .now) _ _ _ (c .before .before .before .before .before .before .before .set-listed .result) (c .set-end .result) (c .before .before .before .before .before .before .before .before .before .before .before .before .before .before .before .before .record-check .ensures) (c .before .before .before .before .before .before .before .before .before .before .before .before .before .before .enum-told .given .1) (c .before .before .before .before .before .before .before .set-listed .ensures) (c .set-end .ensures _ _ _)
+returns-2 c =
+    let c7 = c .before .before .before .before .before .before .before in
+    let c12 = c7 .before .before .before .before .before in
+    let c14 = c12 .before .before in
+    let c16 = c14 .before .before in
+    let c21 = c16 .before .before .before .before .before in
+    set-left (c21 .args .self) _ (c21 .args .value) _ (c12 .settings-args .ensures) (c21 .args .outcomes .now) (c21 .args .ctx .now)
+    (c21 .args .routes .now) (c21 .args .log .now) _ _ _ (c7 .set-listed .result) (c .set-end .result) (c16 .record-check .ensures)
+    (c14 .enum-told .given .1) (c7 .set-listed .ensures) (c .set-end .ensures _ _ _)
 
 pub set-configuration-spec : {M : Type 1} → statement M
 set-configuration-spec =

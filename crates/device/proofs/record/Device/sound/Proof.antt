@@ -25,7 +25,11 @@ arrays-sound-requires c κs = sym (c .before .counts-fit .ensures) ∙ not-false
 
 returns-3 : tie.Need-returns-3
 unfolding sound placeSound countsFit
-returns-3 c = rw (← c .before .before .before .before .place-sound .ensures, not-false (c .before .before .before .before .place-sound .result) (c .before .before .before .if1 .left), ← c .before .before .counts-fit .ensures, not-false (c .before .before .counts-fit .result) (c .before .if2 .left), c .arrays-sound .ensures)
+returns-3 c =
+    let c3 = c .before .before .before in
+    let c4 = c3 .before in
+    rw
+    (← c4 .place-sound .ensures, not-false (c4 .place-sound .result) (c3 .if1 .left), ← c .before .before .counts-fit .ensures, not-false (c .before .before .counts-fit .result) (c .before .if2 .left), c .arrays-sound .ensures)
 
 pub sound-spec : {M : Type 1} → statement M
 sound-spec =
