@@ -1,7 +1,7 @@
 -- The record at the end of a course, changed once more where the settings moved, or where they did not.
-use mathlib.Core.Path.{_≡_, refl, ap, _∙_}
+use mathlib.Core.Path.{_≡_, ap, _∙_}
 use mathlib.Core.Bool.{Bool, true, false, cond}
-use mathlib.Core.List.{List, []}
+use mathlib.Core.List.{List}
 use Rattle.endpoint.specs.declared.cells.Cells.{Cells}
 use Rattle.settings.specs.Held.{Held}
 use Rattle.device.specs.declared.record.Device.{Device}

@@ -3,7 +3,7 @@ use Prim.Native.Nat.{ℕ}
 use mathlib.Core.Path.{_≡_, sym, _∙_}
 use mathlib.Core.Bool.{Bool}
 use mathlib.Core.List.{List}
-use lib.ListN.{length, set}
+use lib.ListN.{set}
 use Rattle.answer.specs.declared.Answer.{Answer}
 use Rattle.answer.specs.declared.Check.{Check}
 use Rattle.answer.specs.declared.Check.the-variants.{Pass, Refuse}
@@ -19,8 +19,7 @@ use Rattle.checks.specs.Think.{thinkValue}
 use Rattle.phase.specs.End.{answerOf}
 use Rattle.device.specs.declared.record.Device.{Device}
 use Rattle.device.specs.Left.{Left, leaves, refused, marked}
-use Rattle.device.specs.Check.{recordCheck, hubCheck}
-use Rattle.device.specs.Calls.{onCheck, hubContext, hubCourse, hubLeft, hubUpdate}
+use Rattle.device.specs.Calls.{onCheck, hubContext, hubCourse, hubLeft}
 
 module _ (x k : Check) (e : x ≡ k) where
   -- refused: nothing but the answer
