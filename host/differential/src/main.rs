@@ -34,7 +34,7 @@ struct Options {
     part: Option<String>,
     /// Print a small scenario for each call and answer instead of the counts.
     sample: bool,
-    /// Write a sample of the reference's answers to stdin and stdout of this folder.
+    /// Write a sample of the reference's answers to original_CALL/stdin and stdout in this folder.
     store: Option<PathBuf>,
 }
 
@@ -111,8 +111,12 @@ fn main() -> ExitCode {
 }
 
 fn write(folder: &Path, store: &Store, pair: &mut Pair) -> std::io::Result<()> {
-    fs::write(folder.join("stdin"), store.stdin())?;
-    fs::write(folder.join("stdout"), store.stdout(pair))
+    for name in store.names() {
+        let folder = folder.join(format!("original_{name}"));
+        fs::write(folder.join("stdin"), store.stdin(name))?;
+        fs::write(folder.join("stdout"), store.stdout(name, pair))?;
+    }
+    Ok(())
 }
 
 #[cfg(test)]
@@ -146,7 +150,7 @@ mod tests {
         library_against("original");
     }
 
-    /// What crates/original_sample replays is what docs/DIFFERENCES.md's command makes.
+    /// What crates/original_bringup and its like replay is what docs/DIFFERENCES.md's command makes.
     #[test]
     fn the_stored_sample_is_the_originals() {
         let Some(reference) = runner::layer("original") else {
@@ -158,7 +162,12 @@ mod tests {
         tally.store = Some(Store::default());
         random::run(&mut pair, &mut tally, 8, 40_000);
         let store = tally.store.take().expect("what was kept");
-        assert!(store.stdin() == include_str!("../../../crates/original_sample/stdin"));
-        assert!(store.stdout(&mut pair) == include_str!("../../../crates/original_sample/stdout"));
+        let crates = Path::new(env!("CARGO_MANIFEST_DIR")).join("../../crates");
+        assert_eq!(store.names().len(), 5);
+        for name in store.names() {
+            let kept = |file| fs::read_to_string(crates.join(format!("original_{name}")).join(file)).expect("a file");
+            assert!(store.stdin(name) == kept("stdin"));
+            assert!(store.stdout(name, &mut pair) == kept("stdout"));
+        }
     }
 }

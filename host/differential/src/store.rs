@@ -1,9 +1,9 @@
-//! A sample of the reference's answers, for crates/original_sample to replay.
+//! A sample of the reference's answers, for crates/original_bringup and its like to replay, one for each call.
 //!
-//! Its `stdin` has the calls as numbers, in the order in which the program there reads them; its `stdout` has what
+//! Their `stdin` has the calls as numbers, in the order in which the program there reads them; their `stdout` has what
 //! the reference left after each.
 
-use std::collections::BTreeMap;
+use std::collections::{BTreeMap, BTreeSet};
 use std::fmt::Write;
 
 use scenario::{Buffers, Call, Record};
@@ -45,20 +45,25 @@ impl Store {
         }
     }
 
-    fn cases(&self) -> impl Iterator<Item = &Case> {
-        self.kept.values().flatten()
+    /// The calls by their names.
+    pub fn names(&self) -> BTreeSet<&'static str> {
+        self.kept.keys().map(|(name, _)| *name).collect()
     }
 
-    pub fn stdin(&self) -> String {
+    fn cases(&self, name: &str) -> impl Iterator<Item = &Case> {
+        self.kept.iter().filter(move |((of, _), _)| *of == name).flat_map(|(_, kept)| kept)
+    }
+
+    pub fn stdin(&self, name: &str) -> String {
         let mut numbers = Numbers(String::new());
-        numbers.put(self.cases().count() as u64);
-        self.cases().for_each(|case| numbers.case(case));
+        numbers.put(self.cases(name).count() as u64);
+        self.cases(name).for_each(|case| numbers.case(case));
         numbers.0
     }
 
-    pub fn stdout(&self, pair: &mut Pair) -> String {
+    pub fn stdout(&self, name: &str, pair: &mut Pair) -> String {
         let mut text = String::new();
-        for case in self.cases() {
+        for case in self.cases(name) {
             let left = pair.ask_reference(case).expect("an answer, as before");
             left_text(&mut text, &left);
         }
@@ -112,45 +117,48 @@ impl Numbers {
         }
     }
 
+    /// The same, and how many words there are.
+    fn counted(&mut self, words: &[u64]) {
+        self.words(words.iter().copied());
+        self.put(words.len() as u64);
+    }
+
     fn case(&mut self, case: &Case) {
         let Buffers { ctx, routes, outcomes, .. } = &case.buffers;
-        self.put(u64::from(ctx.len() == 2112));
-        match case.call {
-            Call::BringUp(_) => self.words([]),
-            _ => self.words(image(&case.record)),
+        self.put(ctx.len() as u64);
+        if !matches!(case.call, Call::BringUp(_)) {
+            self.words(image(&case.record));
         }
         self.words(routes.iter().copied());
-        self.words(outcomes.iter().map(|outcome| u64::from(*outcome)));
-        self.put(outcomes.len() as u64);
+        self.counted(&wide(outcomes));
         self.call(&case.call);
     }
 
     fn call(&mut self, call: &Call) {
         match call {
             Call::BringUp(args) => {
+                self.counted(&args.hubs);
+                self.counted(&wide(&args.list));
                 let parent = if args.has_parent { args.parent } else { 0 };
-                let first = [0, args.slot.into(), args.n.into(), args.speed.into(), args.has_parent.into()];
+                let first = [args.slot.into(), args.n.into(), args.speed.into(), args.has_parent.into()];
                 let second = [parent.into(), args.port.into(), args.root_port.into(), args.ring];
                 let third = [args.header.into(), args.packet.into(), args.config.into()];
                 first.into_iter().chain(second).chain(third).for_each(|number| self.put(number));
-                self.words(args.hubs.iter().copied());
-                self.words(args.list.iter().map(|word| u64::from(*word)));
-                self.put(args.hubs.len() as u64);
-                self.put(args.list.len() as u64);
             }
             Call::Claim(args) => {
-                [1, args.interface.into(), args.alternate.into()].into_iter().for_each(|number| self.put(number));
-                self.words(args.rings.iter().copied());
-                self.put(args.rings.len() as u64);
+                [args.interface, args.alternate].into_iter().for_each(|number| self.put(number.into()));
+                self.counted(&args.rings);
             }
-            Call::Release { interface } => [2, (*interface).into()].into_iter().for_each(|number| self.put(number)),
-            Call::SetConfiguration { value } => {
-                [3, (*value).into()].into_iter().for_each(|number| self.put(number));
-            }
+            Call::Release { interface } => self.put((*interface).into()),
+            Call::SetConfiguration { value } => self.put((*value).into()),
             Call::HubUpdate(args) => {
-                let numbers = [4, args.ports.into(), args.multi.into(), args.think.into()];
+                let numbers = [args.ports.into(), args.multi.into(), args.think.into()];
                 numbers.into_iter().for_each(|number| self.put(number));
             }
         }
     }
+}
+
+fn wide<T: Copy + Into<u64>>(numbers: &[T]) -> Vec<u64> {
+    numbers.iter().map(|number| (*number).into()).collect()
 }
