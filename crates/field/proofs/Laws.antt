@@ -3,15 +3,15 @@ use Prim.Native.Nat.{ℕ, zero, suc, _+_, _-_, _*_, _/_, _%_, _<_, _≤_, _^_}
 use mathlib.Core.Path.{_≡_, refl, sym, _∙_, ap}
 use mathlib.Core.Logic.{_≢_, _⊎_, inl, inr, ⊎-elim, ⊎-map}
 use mathlib.Core.Bool.{Bool, true, false, not, cond, _&&_, _||_}
-use mathlib.Core.List.{List, [], _∷_}
+use mathlib.Core.List.{List, [], _∷_, _++_}
 use native.Mathlib.Omega.{arith}
 use native.Mathlib.Decide.{ℕ-discrete}
 use native.Mathlib.Nat.{mod-lt, mod-eq-of-lt, mul-assoc, add-mul, add-comm, sub-self, div-one, div-add-mod, add-zero}
 use borrow.Author.Tests.{eqb-true, eqb-false, leb-true, leb-false, not-true, not-false, eq-eqb, le-leb}
 use lib.Dec.{eqb, leb, lit<}
-use lib.ListN.{length, getD, set, length-set}
+use lib.ListN.{length, getD, set, length-set, List·getD-append}
 use lib.Pow.{pow-add, pow-pos, high, low, shr-shr, mod-pow-add}
-use lib.Seq.{getD-set-same, getD-set-other, lt-length-set, ext-getD}
+use lib.Seq.{getD-set-same, getD-set-other, lt-length-set, set-append-left, ext-getD}
 use Rattle.laws.proofs.Bits.{cut-above, same-bits}
 use Rattle.laws.proofs.Cases.{or-cases, or-none}
 use Rattle.laws.proofs.Tests.{and-left, and-right, not-both}
@@ -364,3 +364,31 @@ write-swap b f g v u size bytes in-f in-g a =
     bit-two b f g v u size in-f in-g i in-i e
     ∙ after-swap f g i v u (readField b i) (bit-apart f g i a e)
     ∙ sym (bit-two b g f u v size in-g in-f i in-i e))
+
+module _ (a b : List ℕ) (w : ℕ) (h : 4 * w + 4 ≤ length a) where
+  front-word : wordAt (a ++ b) w ≡ wordAt a w
+  unfolding wordAt
+  front-word =
+      rw (
+        List·getD-append a b 0 (4 * w) (omega arith),
+        List·getD-append a b 0 (4 * w + 1) (omega arith),
+        List·getD-append a b 0 (4 * w + 2) (omega arith),
+        List·getD-append a b 0 (4 * w + 3) (omega arith),
+      )
+
+  front-put : (x : ℕ) → putWord (a ++ b) w x ≡ putWord a w x ++ b
+  unfolding putWord
+  front-put x =
+      let h0 : 4 * w < length a = omega arith in
+      let h1 : 4 * w + 1 < length a = omega arith in
+      let h2 : 4 * w + 2 < length a = omega arith in
+      let h3 : 4 * w + 3 < length a = omega arith in
+      simp (set-append-left, lt-length-set)
+
+-- A field of a list's front, written in the whole list.
+pub write-front :
+    (a b : List ℕ) (f : Field) (v : ℕ) → 4 * f .word + 4 ≤ length a → writeField (a ++ b) f v ≡ writeField a f v ++ b
+unfolding writeField
+write-front a b f v h =
+    rw (front-word a b (f .word) h)
+    (front-put a b (f .word) h (withBits (wordAt a (f .word)) (f .low) (f .width) v))
