@@ -3,9 +3,11 @@ use descriptor::EndpointDescriptor;
 use descriptor::TransferType;
 use field::Field;
 ghost use mathlib.Core.Path.{_≡_};
+ghost use mathlib.Core.List.{_∷_};
 ghost use lib.ListN.{length};
-ghost use Rattle.block.specs.Setting.{settled};
-ghost use Rattle.block.specs.Blocks.{errorCount, ringSettings, addressEndpoint, endpointSettings};
+ghost use Rattle.block.specs.Fields.{CERR, EP-TYPE, MAX-PACKET-SIZE};
+ghost use Rattle.block.specs.Setting.{_:=_, settled};
+ghost use Rattle.block.specs.Blocks.{ringSettings, addressEndpoint, endpointSettings};
 
 // Fields by the names of xHCI 1.2, section 6.2: crates/block/specs/Fields.antt.
 const MULT: Field = Field {
@@ -74,21 +76,14 @@ const MAX_ESIT_PAYLOAD_LO: Field = Field {
     width: 16,
 };
 
-fn error_count(t: TransferType) -> u64
-    ensures { λ r. ⌜ r ≡ errorCount t ⌝ }
-{
-    match t {
-        TransferType::Control => 3,
-        TransferType::Isochronous => 0,
-        TransferType::Bulk => 3,
-        TransferType::Interrupt => 3,
-    }
-}
-
-fn put_ring(block: &mut [u8], ring: u64)
+// What every endpoint's block gets: its kind, its packet size, and its ring with the cycle state of a new ring.
+fn put_common(block: &mut [u8], errors: u64, kind: u64, packet: u64, ring: u64)
     requires { ⌜ length (now block) ≡ 32 ⌝ }
-    ensures { λ r. ⌜ now (block .exit) ≡ settled (ringSettings ring) (now (block .entry)) ⌝ }
+    ensures { λ r. ⌜ now (block .exit) ≡ settled ((CERR := errors) ∷ (EP-TYPE := kind) ∷ (MAX-PACKET-SIZE := packet) ∷ ringSettings ring) (now (block .entry)) ⌝ }
 {
+    field::put_field(block, CERR, errors);
+    field::put_field(block, EP_TYPE, kind);
+    field::put_field(block, MAX_PACKET_SIZE, packet);
     field::put_field(block, TR_DEQUEUE_POINTER_LO, ring / 0x10);
     field::put_field(block, TR_DEQUEUE_POINTER_HI, ring / 0x1_0000_0000);
     field::put_field(block, DCS, 1);
@@ -100,11 +95,8 @@ pub fn address_endpoint(block: &mut [u8], speed: u8, ring: u64)
     ensures { λ r. ⌜ now (block .exit) ≡ settled (addressEndpoint speed ring) (now (block .entry)) ⌝ }
 {
     let first_size = def::parse_default_max_packet_size_from_port_speed(speed);
-    field::put_field(block, CERR, 3);
-    field::put_field(block, EP_TYPE, 4);
-    field::put_field(block, MAX_PACKET_SIZE, first_size as u64);
+    put_common(block, 3, 4, first_size as u64, ring);
     field::put_field(block, AVERAGE_TRB_LENGTH, 8);
-    put_ring(block, ring);
 }
 
 // An endpoint's block, from its descriptor and its ring. Other fields keep what they hold.
@@ -115,11 +107,12 @@ pub fn put_endpoint(block: &mut [u8], e: EndpointDescriptor, speed: u8, ring: u6
     let t = e.transfer_type;
     let interval = periodic::calculate_xhci_interval(e.interval, t, speed);
     let kind = periodic::endpoint_type(t, e.address);
+    let errors = match t {
+        TransferType::Isochronous => 0,
+        _ => 3,
+    };
     field::put_field(block, INTERVAL, interval as u64);
-    field::put_field(block, CERR, error_count(t));
-    field::put_field(block, EP_TYPE, kind as u64);
-    field::put_field(block, MAX_PACKET_SIZE, e.max_packet_size as u64);
-    put_ring(block, ring);
+    put_common(block, errors, kind as u64, e.max_packet_size as u64, ring);
     if periodic::is_periodic(t) {
         let burst = periodic::periodic_burst_size(t, e.packets_per_microframe, speed);
         let payload = periodic::max_esit_payload(e.max_packet_size, burst) as u64;
