@@ -1,14 +1,17 @@
 // The contexts of a bring-up: Address, and the Evaluate of the control endpoint's packet size.
+use field::Field;
 use hub::Translator;
 ghost use mathlib.Core.Path.{_≡_};
-ghost use mathlib.Core.List.{[], _∷_, _++_};
-ghost use Prim.Native.Nat.{_+_, _*_, _≤_};
 ghost use lib.ListN.{length, replicate};
-ghost use Rattle.block.specs.Fields.{ADD-FLAGS, ADD-FLAG, MAX-PACKET-SIZE};
-ghost use Rattle.block.specs.Setting.{_:=_, settled};
-ghost use Rattle.block.specs.Blocks.{changed, addressSlot, addressEndpoint};
-ghost use Rattle.context.specs.Place.{onPart, written, Spaced};
+ghost use Rattle.context.specs.Place.{written, Spaced};
 ghost use Rattle.context.specs.Steps.{addressContext, maxPacketWrites};
+
+// The add flag of the control endpoint.
+const CONTROL_ADD_FLAG: Field = Field {
+    word: 1,
+    low: 1,
+    width: 1,
+};
 
 fn clear(ctx: &mut [u8])
     ensures { λ r. ⌜ now (ctx .exit) ≡ replicate (length (now (ctx .entry))) 0 ⌝ }
@@ -19,37 +22,6 @@ fn clear(ctx: &mut [u8])
         ctx[i] = 0;
         i += 1;
     }
-}
-
-fn address_control(ctx: &mut [u8])
-    requires { ⌜ 32 ≤ length (now ctx) ⌝ }
-    ensures { λ r. ⌜ now (ctx .exit) ≡ onPart 0 32 (settled ((ADD-FLAGS := 3) ∷ [])) (now (ctx .entry)) ⌝ }
-{
-    control_block::address_control(&mut ctx[0..32]);
-}
-
-fn address_slot(
-    ctx: &mut [u8],
-    spacing: usize,
-    speed: u8,
-    route: u32,
-    translator: Translator,
-    root_port: u8,
-)
-    requires { ⌜ Spaced spacing (length (now ctx)) ⌝ }
-    ensures { λ r. ⌜ now (ctx .exit) ≡ onPart spacing 32 (settled (addressSlot speed route translator «root_port»)) (now (ctx .entry)) ⌝ }
-{
-    let end = spacing + 32;
-    slot_block::address_slot(&mut ctx[spacing..end], speed, route, translator, root_port);
-}
-
-fn address_endpoint(ctx: &mut [u8], spacing: usize, speed: u8, ring: u64)
-    requires { ⌜ Spaced spacing (length (now ctx)) ⌝ }
-    ensures { λ r. ⌜ now (ctx .exit) ≡ onPart (spacing * 2) 32 (settled (addressEndpoint speed ring)) (now (ctx .entry)) ⌝ }
-{
-    let start = spacing * 2;
-    let end = start + 32;
-    endpoint_block::address_endpoint(&mut ctx[start..end], speed, ring);
 }
 
 // What Address is given, from all zero.
@@ -66,25 +38,18 @@ pub fn address_context(
     ensures { λ r. ⌜ now (ctx .exit) ≡ addressContext spacing speed route translator «root_port» ring (now (ctx .entry)) ⌝ }
 {
     clear(ctx);
-    address_control(ctx);
-    address_slot(ctx, spacing, speed, route, translator, root_port);
-    address_endpoint(ctx, spacing, speed, ring);
-}
-
-fn change_control_packet(ctx: &mut [u8])
-    requires { ⌜ 32 ≤ length (now ctx) ⌝ }
-    ensures { λ r. ⌜ now (ctx .exit) ≡ onPart 0 32 (settled (changed ++ ((ADD-FLAG 1 := 1) ∷ []))) (now (ctx .entry)) ⌝ }
-{
-    control_block::change_control_packet(&mut ctx[0..32]);
-}
-
-fn put_max_packet_size(ctx: &mut [u8], spacing: usize, size: u16)
-    requires { ⌜ Spaced spacing (length (now ctx)) ⌝ }
-    ensures { λ r. ⌜ now (ctx .exit) ≡ onPart (spacing * 2) 32 (settled ((MAX-PACKET-SIZE := size) ∷ [])) (now (ctx .entry)) ⌝ }
-{
+    field::put_field(ctx, control_block::ADD_FLAGS, 3);
+    let slot_end = spacing + 32;
+    slot_block::address_slot(
+        &mut ctx[spacing..slot_end],
+        speed,
+        route,
+        translator,
+        root_port,
+    );
     let start = spacing * 2;
     let end = start + 32;
-    endpoint_block::put_max_packet_size(&mut ctx[start..end], size);
+    endpoint_block::address_endpoint(&mut ctx[start..end], speed, ring);
 }
 
 // What the Evaluate of the control endpoint's packet size is given, from the header's byte.
@@ -92,7 +57,14 @@ pub fn setup_max_packet(ctx: &mut [u8], spacing: usize, byte: u8)
     requires { ⌜ Spaced spacing (length (now ctx)) ⌝ }
     ensures { λ r. ⌜ now (ctx .exit) ≡ written spacing (maxPacketWrites byte) (now (ctx .entry)) ⌝ }
 {
-    change_control_packet(ctx);
+    control_block::perper_change(ctx);
+    field::put_field(ctx, CONTROL_ADD_FLAG, 1);
     let size = def::header_packet_size(byte);
-    put_max_packet_size(ctx, spacing, size);
+    let start = spacing * 2;
+    let end = start + 32;
+    field::put_field(
+        &mut ctx[start..end],
+        endpoint_block::MAX_PACKET_SIZE,
+        size as u64,
+    );
 }

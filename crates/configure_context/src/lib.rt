@@ -1,85 +1,59 @@
 // The context of a Configure: endpoints dropped, endpoints added, and the entries.
 use def::Dci;
+use field::Field;
 ghost use mathlib.Core.Path.{_≡_};
 ghost use mathlib.Core.List.{[], _∷_, _++_};
-ghost use Prim.Native.Nat.{ℕ, _+_, _*_, _<_, _≤_, max};
-ghost use lib.ListN.{length, getD};
-ghost use Rattle.block.specs.Fields.{ADD-FLAG, INTERFACE-NUMBER, ALTERNATE-SETTING, CONTEXT-ENTRIES};
-ghost use Rattle.block.specs.Setting.{_:=_, settled};
-ghost use Rattle.block.specs.Blocks.{changed, dropFlags, endpointSettings};
-ghost use Rattle.descriptor.specs.Word.{endpointDescriptor};
+ghost use Prim.Native.Nat.{ℕ, _<_, _≤_};
+ghost use lib.ListN.{length};
+ghost use Rattle.block.specs.Fields.{INTERFACE-NUMBER, ALTERNATE-SETTING, CONTEXT-ENTRIES};
+ghost use Rattle.block.specs.Setting.{_:=_};
+ghost use Rattle.block.specs.Blocks.{changed, dropFlags};
 ghost use Rattle.transfer.specs.Routes.{queues, ringFor};
-ghost use Rattle.context.specs.Place.{onPart, inBlock, CONTROL, SLOT, written, Spaced};
-ghost use Rattle.context.specs.Steps.{addWrites, addAll, highestDci, wordDcis, contextEntries, configureWrites};
+ghost use Rattle.context.specs.Place.{inBlock, CONTROL, SLOT, written, Spaced};
+ghost use Rattle.context.specs.Steps.{addAll, highestDci, contextEntries, configureWrites};
 
 // The flags cleared, and the interface and alternate setting of the command.
 pub fn begin_configure(ctx: &mut [u8], interface: u8, alternate: u8)
     requires { ⌜ 32 ≤ length (now ctx) ⌝ }
     ensures { λ r. ⌜ ((spacing : ℕ) → now (ctx .exit) ≡ written spacing (inBlock CONTROL (changed ++ ((INTERFACE-NUMBER := interface) ∷ (ALTERNATE-SETTING := alternate) ∷ []))) (now (ctx .entry))) ⌝ }
 {
-    control_block::change_interface(&mut ctx[0..32], interface, alternate);
+    control_block::perper_change(ctx);
+    field::put_field(ctx, control_block::INTERFACE_NUMBER, interface as u64);
+    field::put_field(ctx, control_block::ALTERNATE_SETTING, alternate as u64);
 }
 
+// The drop flags of some endpoint words.
 pub fn drop_endpoints(ctx: &mut [u8], words: &[u32])
     requires { ⌜ 32 ≤ length (now ctx) ⌝ }
     ensures { λ r. ⌜ ((spacing : ℕ) → now (ctx .exit) ≡ written spacing (inBlock CONTROL (dropFlags (now (words .entry)))) (now (ctx .entry))) ⌝ }
 {
-    control_block::drop_flags(&mut ctx[0..32], words);
-}
-
-fn add_flag(ctx: &mut [u8], dci: Dci)
-    requires { ⌜ 32 ≤ length (now ctx) ⌝ }
-    requires { ⌜ dci .0 < 32 ⌝ }
-    ensures { λ r. ⌜ now (ctx .exit) ≡ onPart 0 32 (settled ((ADD-FLAG (dci .0) := 1) ∷ [])) (now (ctx .entry)) ⌝ }
-{
-    control_block::add_context_flag(&mut ctx[0..32], dci);
-}
-
-fn put_endpoint(ctx: &mut [u8], spacing: usize, dci: Dci, speed: u8, w: u32, ring: u64)
-    requires { ⌜ Spaced spacing (length (now ctx)) ⌝ }
-    requires { ⌜ dci .0 < 32 ⌝ }
-    ensures { λ r. ⌜ now (ctx .exit) ≡ onPart (spacing * (dci .0 + 1)) 32 (settled (endpointSettings speed (endpointDescriptor w) ring)) (now (ctx .entry)) ⌝ }
-{
-    let e = descriptor::endpoint_descriptor(w);
-    let d = dci.0 as usize;
-    let start = spacing * (d + 1);
-    let end = start + 32;
-    endpoint_block::put_endpoint(&mut ctx[start..end], e, speed, ring);
+    let mut i = 0;
+    while i < words.len() {
+        let dci = block::word_dci(words[i]);
+        let drop_flag = Field {
+            word: 0,
+            low: dci.0 as usize,
+            width: 1,
+        };
+        field::put_field(ctx, drop_flag, 1);
+        i += 1;
+    }
 }
 
 // The ring of an endpoint, where each ring stands beside its Dci; the last one of a Dci counts, and none is 0.
 fn ring_of(dcis: &[u8], rings: &[u64], dci: Dci) -> u64
     ensures { λ r. ⌜ r ≡ ringFor (dci .0) (queues (now (dcis .entry)) (now (rings .entry))) 0 ⌝ }
 {
-    let d = dci.0;
-    let n = dcis.len();
     let mut ring = 0;
     let mut i = 0;
-    while i < n {
+    while i < dcis.len() {
         let at = i;
         i += 1;
-        if dcis[at] == d {
-            ring = ring_at(rings, at);
+        if dcis[at] == dci.0 {
+            ring = if at < rings.len() { rings[at] } else { 0 };
         }
     }
     ring
-}
-
-// A ring that is missing is 0.
-fn ring_at(rings: &[u64], i: usize) -> u64
-    ensures { λ r. ⌜ r ≡ getD (now (rings .entry)) i 0 ⌝ }
-{
-    if i < rings.len() { rings[i] } else { 0 }
-}
-
-fn add_endpoint(ctx: &mut [u8], spacing: usize, speed: u8, w: u32, dcis: &[u8], rings: &[u64])
-    requires { ⌜ Spaced spacing (length (now ctx)) ⌝ }
-    ensures { λ r. ⌜ now (ctx .exit) ≡ written spacing (addWrites speed (queues (now (dcis .entry)) (now (rings .entry))) w) (now (ctx .entry)) ⌝ }
-{
-    let dci = block::word_dci(w);
-    let ring = ring_of(dcis, rings, dci);
-    add_flag(ctx, dci);
-    put_endpoint(ctx, spacing, dci, speed, w, ring);
 }
 
 // The flags and blocks of added endpoint words, in their order, with the rings that the queues have for them.
@@ -94,43 +68,36 @@ pub fn add_endpoints(
     requires { ⌜ Spaced spacing (length (now ctx)) ⌝ }
     ensures { λ r. ⌜ now (ctx .exit) ≡ written spacing (addAll speed (queues (now (dcis .entry)) (now (rings .entry))) (now (words .entry))) (now (ctx .entry)) ⌝ }
 {
-    let n = words.len();
     let mut i = 0;
-    while i < n {
-        add_endpoint(ctx, spacing, speed, words[i], dcis, rings);
+    while i < words.len() {
+        let e = descriptor::endpoint_descriptor(words[i]);
+        let dci = descriptor::endpoint_address_dci(e.address);
+        let ring = ring_of(dcis, rings, dci);
+        let low = dci.0 as usize;
+        let add_flag = Field {
+            word: 1,
+            low: low,
+            width: 1,
+        };
+        field::put_field(ctx, add_flag, 1);
+        let start = spacing * (low + 1);
+        let end = start + 32;
+        endpoint_block::put_endpoint(&mut ctx[start..end], e, speed, ring);
         i += 1;
     }
-}
-
-fn greater(a: u8, b: u8) -> u8
-    ensures { λ r. ⌜ r ≡ max a b ⌝ }
-{
-    if a < b { b } else { a }
 }
 
 fn highest_dci(dcis: &[u8]) -> u8
     ensures { λ r. ⌜ r ≡ highestDci (now (dcis .entry)) ⌝ }
 {
-    let n = dcis.len();
     let mut highest = 1;
     let mut i = 0;
-    while i < n {
-        highest = greater(highest, dcis[i]);
+    while i < dcis.len() {
+        let dci = dcis[i];
         i += 1;
-    }
-    highest
-}
-
-fn highest_word_dci(words: &[u32]) -> u8
-    ensures { λ r. ⌜ (r ≡ highestDci (wordDcis (now (words .entry)))) × (r < 32) ⌝ }
-{
-    let n = words.len();
-    let mut highest = 1;
-    let mut i = 0;
-    while i < n {
-        let dci = block::word_dci(words[i]);
-        highest = greater(highest, dci.0);
-        i += 1;
+        if highest < dci {
+            highest = dci;
+        }
     }
     highest
 }
@@ -140,9 +107,16 @@ pub fn context_entries(dcis: &[u8], words: &[u32]) -> u8
     requires { ⌜ highestDci (now dcis) < 255 ⌝ }
     ensures { λ r. ⌜ r ≡ contextEntries (now (dcis .entry)) (now (words .entry)) ⌝ }
 {
-    let held = highest_dci(dcis);
-    let added = highest_word_dci(words);
-    greater(held, added) + 1
+    let mut highest = highest_dci(dcis);
+    let mut i = 0;
+    while i < words.len() {
+        let dci = block::word_dci(words[i]);
+        i += 1;
+        if highest < dci.0 {
+            highest = dci.0;
+        }
+    }
+    highest + 1
 }
 
 pub fn finish_configure(ctx: &mut [u8], spacing: usize, entries: u8)
@@ -150,7 +124,11 @@ pub fn finish_configure(ctx: &mut [u8], spacing: usize, entries: u8)
     ensures { λ r. ⌜ now (ctx .exit) ≡ written spacing (inBlock SLOT ((CONTEXT-ENTRIES := entries) ∷ [])) (now (ctx .entry)) ⌝ }
 {
     let end = spacing + 32;
-    slot_block::put_context_entries(&mut ctx[spacing..end], entries);
+    field::put_field(
+        &mut ctx[spacing..end],
+        slot_block::CONTEXT_ENTRIES,
+        entries as u64,
+    );
 }
 
 // What Configure is given: the dropped words' flags, the added words' flags and blocks, and the entries.

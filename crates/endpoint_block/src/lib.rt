@@ -3,11 +3,11 @@ use descriptor::EndpointDescriptor;
 use descriptor::TransferType;
 use field::Field;
 ghost use mathlib.Core.Path.{_≡_};
-ghost use mathlib.Core.List.{[], _∷_};
+ghost use mathlib.Core.List.{_∷_};
 ghost use lib.ListN.{length};
-ghost use Rattle.block.specs.Fields.{MAX-PACKET-SIZE};
+ghost use Rattle.block.specs.Fields.{CERR, EP-TYPE, MAX-PACKET-SIZE};
 ghost use Rattle.block.specs.Setting.{_:=_, settled};
-ghost use Rattle.block.specs.Blocks.{errorCount, ringSettings, addressEndpoint, periodicSettings, basicSettings, endpointSettings};
+ghost use Rattle.block.specs.Blocks.{ringSettings, addressEndpoint, endpointSettings};
 
 // Fields by the names of xHCI 1.2, section 6.2: crates/block/specs/Fields.antt.
 const MULT: Field = Field {
@@ -40,7 +40,7 @@ const MAX_BURST_SIZE: Field = Field {
     width: 8,
 };
 
-const MAX_PACKET_SIZE: Field = Field {
+pub const MAX_PACKET_SIZE: Field = Field {
     word: 1,
     low: 16,
     width: 16,
@@ -76,31 +76,17 @@ const MAX_ESIT_PAYLOAD_LO: Field = Field {
     width: 16,
 };
 
-fn error_count(t: TransferType) -> u64
-    ensures { λ r. ⌜ r ≡ errorCount t ⌝ }
-{
-    match t {
-        TransferType::Control => 3,
-        TransferType::Isochronous => 0,
-        TransferType::Bulk => 3,
-        TransferType::Interrupt => 3,
-    }
-}
-
-fn put_ring(block: &mut [u8], ring: u64)
+// What every endpoint's block gets: its kind, its packet size, and its ring with the cycle state of a new ring.
+fn put_common(block: &mut [u8], errors: u64, kind: u64, packet: u64, ring: u64)
     requires { ⌜ length (now block) ≡ 32 ⌝ }
-    ensures { λ r. ⌜ now (block .exit) ≡ settled (ringSettings ring) (now (block .entry)) ⌝ }
+    ensures { λ r. ⌜ now (block .exit) ≡ settled ((CERR := errors) ∷ (EP-TYPE := kind) ∷ (MAX-PACKET-SIZE := packet) ∷ ringSettings ring) (now (block .entry)) ⌝ }
 {
+    field::put_field(block, CERR, errors);
+    field::put_field(block, EP_TYPE, kind);
+    field::put_field(block, MAX_PACKET_SIZE, packet);
     field::put_field(block, TR_DEQUEUE_POINTER_LO, ring / 0x10);
     field::put_field(block, TR_DEQUEUE_POINTER_HI, ring / 0x1_0000_0000);
     field::put_field(block, DCS, 1);
-}
-
-pub fn put_max_packet_size(block: &mut [u8], size: u16)
-    requires { ⌜ length (now block) ≡ 32 ⌝ }
-    ensures { λ r. ⌜ now (block .exit) ≡ settled ((MAX-PACKET-SIZE := size) ∷ []) (now (block .entry)) ⌝ }
-{
-    field::put_field(block, MAX_PACKET_SIZE, size as u64);
 }
 
 // The control endpoint that Address is given, over a block that is all 0.
@@ -109,35 +95,8 @@ pub fn address_endpoint(block: &mut [u8], speed: u8, ring: u64)
     ensures { λ r. ⌜ now (block .exit) ≡ settled (addressEndpoint speed ring) (now (block .entry)) ⌝ }
 {
     let first_size = def::parse_default_max_packet_size_from_port_speed(speed);
-    field::put_field(block, CERR, 3);
-    field::put_field(block, EP_TYPE, 4);
-    field::put_field(block, MAX_PACKET_SIZE, first_size as u64);
+    put_common(block, 3, 4, first_size as u64, ring);
     field::put_field(block, AVERAGE_TRB_LENGTH, 8);
-    put_ring(block, ring);
-}
-
-fn put_periodic(block: &mut [u8], burst: u8, payload: u16)
-    requires { ⌜ length (now block) ≡ 32 ⌝ }
-    ensures { λ r. ⌜ now (block .exit) ≡ settled (periodicSettings burst payload) (now (block .entry)) ⌝ }
-{
-    field::put_field(block, MAX_BURST_SIZE, burst as u64);
-    field::put_field(block, MULT, 0);
-    field::put_field(block, AVERAGE_TRB_LENGTH, payload as u64);
-    field::put_field(block, MAX_ESIT_PAYLOAD_LO, payload as u64);
-}
-
-fn put_basic(block: &mut [u8], e: EndpointDescriptor, speed: u8)
-    requires { ⌜ length (now block) ≡ 32 ⌝ }
-    ensures { λ r. ⌜ now (block .exit) ≡ settled (basicSettings speed e) (now (block .entry)) ⌝ }
-{
-    let t = e.transfer_type;
-    let interval = periodic::calculate_xhci_interval(e.interval, t, speed);
-    let kind = periodic::endpoint_type(t, e.address);
-    let count = error_count(t);
-    field::put_field(block, INTERVAL, interval as u64);
-    field::put_field(block, CERR, count);
-    field::put_field(block, EP_TYPE, kind as u64);
-    field::put_field(block, MAX_PACKET_SIZE, e.max_packet_size as u64);
 }
 
 // An endpoint's block, from its descriptor and its ring. Other fields keep what they hold.
@@ -146,11 +105,20 @@ pub fn put_endpoint(block: &mut [u8], e: EndpointDescriptor, speed: u8, ring: u6
     ensures { λ r. ⌜ now (block .exit) ≡ settled (endpointSettings speed e ring) (now (block .entry)) ⌝ }
 {
     let t = e.transfer_type;
-    put_basic(block, e, speed);
-    put_ring(block, ring);
+    let interval = periodic::calculate_xhci_interval(e.interval, t, speed);
+    let kind = periodic::endpoint_type(t, e.address);
+    let errors = match t {
+        TransferType::Isochronous => 0,
+        _ => 3,
+    };
+    field::put_field(block, INTERVAL, interval as u64);
+    put_common(block, errors, kind as u64, e.max_packet_size as u64, ring);
     if periodic::is_periodic(t) {
         let burst = periodic::periodic_burst_size(t, e.packets_per_microframe, speed);
-        let payload = periodic::max_esit_payload(e.max_packet_size, burst);
-        put_periodic(block, burst, payload);
+        let payload = periodic::max_esit_payload(e.max_packet_size, burst) as u64;
+        field::put_field(block, MAX_BURST_SIZE, burst as u64);
+        field::put_field(block, MULT, 0);
+        field::put_field(block, AVERAGE_TRB_LENGTH, payload);
+        field::put_field(block, MAX_ESIT_PAYLOAD_LO, payload);
     }
 }

@@ -3,15 +3,15 @@ use Prim.Native.Nat.{ℕ, zero, suc, _+_, _-_, _*_, _/_, _%_, _<_, _≤_, _^_}
 use mathlib.Core.Path.{_≡_, refl, sym, _∙_, ap}
 use mathlib.Core.Logic.{_≢_, _⊎_, inl, inr, ⊎-elim, ⊎-map}
 use mathlib.Core.Bool.{Bool, true, false, not, cond, _&&_, _||_}
-use mathlib.Core.List.{List, [], _∷_}
+use mathlib.Core.List.{List, [], _∷_, _++_}
 use native.Mathlib.Omega.{arith}
 use native.Mathlib.Decide.{ℕ-discrete}
 use native.Mathlib.Nat.{mod-lt, mod-eq-of-lt, mul-assoc, add-mul, add-comm, sub-self, div-one, div-add-mod, add-zero}
 use borrow.Author.Tests.{eqb-true, eqb-false, leb-true, leb-false, not-true, not-false, eq-eqb, le-leb}
 use lib.Dec.{eqb, leb, lit<}
-use lib.ListN.{length, getD, set, length-set}
+use lib.ListN.{length, getD, set, length-set, List·getD-append}
 use lib.Pow.{pow-add, pow-pos, high, low, shr-shr, mod-pow-add}
-use lib.Seq.{getD-set-same, getD-set-other, lt-length-set, ext-getD}
+use lib.Seq.{getD-set-same, getD-set-other, set-comm, lt-length-set, set-append-left, ext-getD}
 use Rattle.laws.proofs.Bits.{cut-above, same-bits}
 use Rattle.laws.proofs.Cases.{or-cases, or-none}
 use Rattle.laws.proofs.Tests.{and-left, and-right, not-both}
@@ -364,3 +364,77 @@ write-swap b f g v u size bytes in-f in-g a =
     bit-two b f g v u size in-f in-g i in-i e
     ∙ after-swap f g i v u (readField b i) (bit-apart f g i a e)
     ∙ sym (bit-two b g f u v size in-g in-f i in-i e))
+
+module _ (a b : List ℕ) (w : ℕ) (h : 4 * w + 4 ≤ length a) where
+  front-word : wordAt (a ++ b) w ≡ wordAt a w
+  unfolding wordAt
+  front-word =
+      rw (
+        List·getD-append a b 0 (4 * w) (omega arith),
+        List·getD-append a b 0 (4 * w + 1) (omega arith),
+        List·getD-append a b 0 (4 * w + 2) (omega arith),
+        List·getD-append a b 0 (4 * w + 3) (omega arith),
+      )
+
+  front-put : (x : ℕ) → putWord (a ++ b) w x ≡ putWord a w x ++ b
+  unfolding putWord
+  front-put x =
+      let h0 : 4 * w < length a = omega arith in
+      let h1 : 4 * w + 1 < length a = omega arith in
+      let h2 : 4 * w + 2 < length a = omega arith in
+      let h3 : 4 * w + 3 < length a = omega arith in
+      simp (set-append-left, lt-length-set)
+
+-- A field of a list's front, written in the whole list.
+pub write-front :
+    (a b : List ℕ) (f : Field) (v : ℕ) → 4 * f .word + 4 ≤ length a → writeField (a ++ b) f v ≡ writeField a f v ++ b
+unfolding writeField
+write-front a b f v h =
+    rw (front-word a b (f .word) h)
+    (front-put a b (f .word) h (withBits (wordAt a (f .word)) (f .low) (f .width) v))
+
+-- a byte stored beside a doubleword
+put-beside :
+    (b : List ℕ) (w x j y : ℕ) →
+    j ≢ 4 * w →
+    j ≢ 4 * w + 1 →
+    j ≢ 4 * w + 2 →
+    j ≢ 4 * w + 3 →
+    putWord (set b j y) w x ≡ set (putWord b w x) j y
+unfolding putWord
+put-beside b w x j y n0 n1 n2 n3 =
+    let b1 = set b (4 * w) (x % 2 ^ 8) in
+    let b2 = set b1 (4 * w + 1) (x / 2 ^ 8 % 2 ^ 8) in
+    let b3 = set b2 (4 * w + 2) (x / 2 ^ 16 % 2 ^ 8) in
+    rw (
+      set-comm b j (4 * w) y (x % 2 ^ 8) n0,
+      set-comm b1 j (4 * w + 1) y (x / 2 ^ 8 % 2 ^ 8) n1,
+      set-comm b2 j (4 * w + 2) y (x / 2 ^ 16 % 2 ^ 8) n2,
+      set-comm b3 j (4 * w + 3) y (x / 2 ^ 24 % 2 ^ 8) n3,
+    )
+
+put-swap : (b : List ℕ) (w x u y : ℕ) → w ≢ u → putWord (putWord b u y) w x ≡ putWord (putWord b w x) u y
+unfolding putWord
+put-swap b w x u y h =
+    let b1 = set b (4 * u) (y % 2 ^ 8) in
+    let b2 = set b1 (4 * u + 1) (y / 2 ^ 8 % 2 ^ 8) in
+    let b3 = set b2 (4 * u + 2) (y / 2 ^ 16 % 2 ^ 8) in
+    put-beside b3 w x (4 * u + 3) (y / 2 ^ 24 % 2 ^ 8) (omega arith) (omega arith) (omega arith) (omega arith)
+    ∙ ap (λ (l : List ℕ). set l (4 * u + 3) (y / 2 ^ 24 % 2 ^ 8))
+    (put-beside b2 w x (4 * u + 2) (y / 2 ^ 16 % 2 ^ 8) (omega arith) (omega arith) (omega arith) (omega arith)
+    ∙ ap (λ (l : List ℕ). set l (4 * u + 2) (y / 2 ^ 16 % 2 ^ 8))
+    (put-beside b1 w x (4 * u + 1) (y / 2 ^ 8 % 2 ^ 8) (omega arith) (omega arith) (omega arith) (omega arith)
+    ∙ ap (λ (l : List ℕ). set l (4 * u + 1) (y / 2 ^ 8 % 2 ^ 8))
+    (put-beside b w x (4 * u) (y % 2 ^ 8) (omega arith) (omega arith) (omega arith) (omega arith))))
+
+-- Writes of fields of different doublewords may change places.
+pub write-words :
+    (b : List ℕ) (f g : Field) (v u : ℕ) →
+    f .word ≢ g .word →
+    writeField (writeField b f v) g u ≡ writeField (writeField b g u) f v
+unfolding writeField
+write-words b f g v u h =
+    let x = withBits (wordAt b (f .word)) (f .low) (f .width) v in
+    let y = withBits (wordAt b (g .word)) (g .low) (g .width) u in
+    rw (word-other b (f .word) x (g .word) (λ e. h (sym e)), word-other b (g .word) y (f .word) h)
+    (put-swap b (g .word) y (f .word) x (λ e. h (sym e)))

@@ -28,35 +28,12 @@ fn word_at(block: &[u8], word: usize) -> u64
         + wide(block[at + 3]) * 16777216
 }
 
-// Stores the low 32 bits of x as the doubleword at an index.
-fn put_word(block: &mut [u8], word: usize, x: u64)
-    requires { ⌜ 4 * word + 4 ≤ length (now block) ⌝ }
-    ensures { λ r. ⌜ now (block .exit) ≡ putWord (now (block .entry)) word x ⌝ }
-{
-    let at = 4 * word;
-    block[at] = (x % 256) as u8;
-    block[at + 1] = (x / 256 % 256) as u8;
-    block[at + 2] = (x / 65536 % 256) as u8;
-    block[at + 3] = (x / 16777216 % 256) as u8;
-}
-
 // 2 to the k.
 fn power(k: usize) -> u64
     requires { ⌜ k ≤ 32 ⌝ }
     ensures { λ r. ⌜ (r ≡ 2 ^ k) × (0 < r) × (r ≤ 2 ^ 32) ⌝ }
 {
     1 << k
-}
-
-// A doubleword with some of its bits made those of a value.
-fn with_bits(d: u64, low: usize, width: usize, value: u64) -> u64
-    requires { ⌜ (d < 2 ^ 32) × (low + width ≤ 32) ⌝ }
-    ensures { λ r. ⌜ r ≡ withBits d low width value ⌝ }
-{
-    let end = power(low + width);
-    let scale = power(low);
-    let span = power(width);
-    d / end * end + value % span * scale + d % scale
 }
 
 // What a field holds.
@@ -72,11 +49,17 @@ pub fn read_field(block: &[u8], f: Field) -> u64
 
 // Makes a field the low bits of a value, as many as it has.
 pub fn put_field(block: &mut [u8], f: Field, value: u64)
-    requires { ⌜ (length (now block) ≡ 32) × InBlock f ⌝ }
+    requires { ⌜ (32 ≤ length (now block)) × InBlock f ⌝ }
     ensures { λ r. ⌜ now (block .exit) ≡ writeField (now (block .entry)) f value ⌝ }
 {
-    let word = f.word;
-    let d = word_at(block, word);
-    let x = with_bits(d, f.low, f.width, value);
-    put_word(block, word, x);
+    let d = word_at(block, f.word);
+    let end = power(f.low + f.width);
+    let scale = power(f.low);
+    let span = power(f.width);
+    let x = d / end * end + value % span * scale + d % scale;
+    let at = 4 * f.word;
+    block[at] = (x % 256) as u8;
+    block[at + 1] = (x / 256 % 256) as u8;
+    block[at + 2] = (x / 65536 % 256) as u8;
+    block[at + 3] = (x / 16777216 % 256) as u8;
 }

@@ -2,11 +2,9 @@
 use field::Field;
 use hub::Translator;
 ghost use mathlib.Core.Path.{_≡_};
-ghost use mathlib.Core.List.{[], _∷_};
 ghost use lib.ListN.{length};
-ghost use Rattle.block.specs.Fields.{CONTEXT-ENTRIES};
-ghost use Rattle.block.specs.Setting.{_:=_, settled};
-ghost use Rattle.block.specs.Blocks.{addressSlot, multiSettings, thinkSettings, hubSettings};
+ghost use Rattle.block.specs.Setting.{settled};
+ghost use Rattle.block.specs.Blocks.{addressSlot, hubSettings};
 
 // Fields by the names of xHCI 1.2, section 6.2: crates/block/specs/Fields.antt.
 const ROUTE_STRING: Field = Field {
@@ -33,7 +31,7 @@ const HUB: Field = Field {
     width: 1,
 };
 
-const CONTEXT_ENTRIES: Field = Field {
+pub const CONTEXT_ENTRIES: Field = Field {
     word: 0,
     low: 27,
     width: 5,
@@ -69,13 +67,6 @@ const TT_THINK_TIME: Field = Field {
     width: 2,
 };
 
-pub fn put_context_entries(block: &mut [u8], entries: u8)
-    requires { ⌜ length (now block) ≡ 32 ⌝ }
-    ensures { λ r. ⌜ now (block .exit) ≡ settled ((CONTEXT-ENTRIES := entries) ∷ []) (now (block .entry)) ⌝ }
-{
-    field::put_field(block, CONTEXT_ENTRIES, entries as u64);
-}
-
 // The slot that Address is given, over a block that is all 0.
 pub fn address_slot(block: &mut [u8], speed: u8, route: u32, translator: Translator, root_port: u8)
     requires { ⌜ length (now block) ≡ 32 ⌝ }
@@ -90,37 +81,17 @@ pub fn address_slot(block: &mut [u8], speed: u8, route: u32, translator: Transla
     field::put_field(block, PARENT_PORT_NUMBER, translator.port as u64);
 }
 
-// Without multi the flag is cleared at Full speed only.
-fn put_multi(block: &mut [u8], speed: u8, multi: bool)
-    requires { ⌜ length (now block) ≡ 32 ⌝ }
-    ensures { λ r. ⌜ now (block .exit) ≡ settled (multiSettings speed multi) (now (block .entry)) ⌝ }
-{
-    if multi {
-        field::put_field(block, MTT, 1);
-        return;
-    }
-    if speed == def::FULL {
-        field::put_field(block, MTT, 0);
-    }
-}
-
-// The think time is written at High speed only.
-fn put_think_time(block: &mut [u8], speed: u8, think: u8)
-    requires { ⌜ length (now block) ≡ 32 ⌝ }
-    ensures { λ r. ⌜ now (block .exit) ≡ settled (thinkSettings speed think) (now (block .entry)) ⌝ }
-{
-    if speed == def::HIGH {
-        field::put_field(block, TT_THINK_TIME, think as u64);
-    }
-}
-
-// The slot of a hub.
+// The slot of a hub. Without multi the flag is cleared at Full speed only; the think time is written at High speed only.
 pub fn hub_slot(block: &mut [u8], speed: u8, ports: u8, multi: bool, think: u8)
     requires { ⌜ length (now block) ≡ 32 ⌝ }
     ensures { λ r. ⌜ now (block .exit) ≡ settled (hubSettings speed ports multi think) (now (block .entry)) ⌝ }
 {
     field::put_field(block, HUB, 1);
-    put_multi(block, speed, multi);
+    if multi || speed == def::FULL {
+        field::put_field(block, MTT, multi as u64);
+    }
     field::put_field(block, NUMBER_OF_PORTS, ports as u64);
-    put_think_time(block, speed, think);
+    if speed == def::HIGH {
+        field::put_field(block, TT_THINK_TIME, think as u64);
+    }
 }

@@ -1,32 +1,66 @@
-use Rattle.context.proofs.Laws.{written-append, written-control, written-block}
+use mathlib.Core.Path.{refl}
+use native.Mathlib.Nat.{add-sub-cancel-left}
+use native.Mathlib.Omega.{arith}
+use Rattle.block.specs.Setting.{settled, inside, allInside}
+use Rattle.block.specs.Blocks.{changed}
+use Rattle.context.specs.Place.{onPart}
 use Rattle.context.specs.Steps.{maxPacketWrites}
-use mathlib.Core.Path.{_∙_}
+use Rattle.context.proofs.Laws.{written-append, written-block}
+use Rattle.control_block.proofs.Laws.{control-written}
 use borrow.Author.Needs.{needs}
 use Rattle.address_context.proofs.setup_max_packet.Statement.{statement}
 use Rattle.address_context.proofs.setup_max_packet.Tie as tie
 
-change-control-packet-requires : tie.Need-change-control-packet-requires
-change-control-packet-requires c κs = search needs
+perper-change-requires : tie.Need-perper-change-requires
+perper-change-requires c κs = search needs
+
+put-field-requires : tie.Need-put-field-requires
+put-field-requires c κs = search needs
 
 header-packet-size-requires : tie.Need-header-packet-size-requires
 header-packet-size-requires c κs = search needs
 
-put-max-packet-size-requires : tie.Need-put-max-packet-size-requires
-put-max-packet-size-requires c κs = search needs
+mul-start : tie.Need-mul-start
+mul-start c = search needs
+
+add-end : tie.Need-add-end
+add-end c = search needs
+
+sub-put-field : tie.Need-sub-put-field
+sub-put-field c = search needs
+
+part-put-field-start : tie.Need-part-put-field-start
+part-put-field-start c = search needs
+
+part-put-field-end : tie.Need-part-put-field-end
+part-put-field-end c = search needs
+
+cast-put-field : tie.Need-cast-put-field
+cast-put-field c = search needs
+
+put-field-requires-2 : tie.Need-put-field-requires-2
+put-field-requires-2 c κs = search needs
 
 same-length : tie.Need-same-length
 same-length c = search needs
 
 returns : tie.Need-returns
-unfolding maxPacketWrites
-returns c = c .before .before .put-max-packet-size .ensures ∙ rw (written-append, written-control, written-block, c .before .before .before .before .before .before .before .change-control-packet .ensures, c .before .before .before .before .header-packet-size .ensures)
+unfolding maxPacketWrites onPart changed settled inside allInside
+returns c = rw (written-append, control-written (c .before .before .before .before .before .before .before .before .before .before .before .before .before .before .args .spacing) _ (c .before .before .before .before .before .before .before .before .before .before .before .before .before .before .args .ctx .now) (omega arith) refl, written-block, c .before .before .put-field2 .ensures, c .before .before .before .before .before .before .before .put-field .ensures, c .before .before .before .before .before .before .before .before .before .before .before .perper-change .ensures, c .before .before .before .before .header-packet-size .ensures, add-sub-cancel-left)
 
 pub setup-max-packet-spec : {M : Type 1} → statement M
 setup-max-packet-spec =
     tie.close
     (tie.spec
-    change-control-packet-requires
+    perper-change-requires
+    put-field-requires
     header-packet-size-requires
-    put-max-packet-size-requires
+    mul-start
+    add-end
+    sub-put-field
+    part-put-field-start
+    part-put-field-end
+    cast-put-field
+    put-field-requires-2
     same-length
     returns)

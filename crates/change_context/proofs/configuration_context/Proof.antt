@@ -1,36 +1,25 @@
+use mathlib.Core.Path.{refl, _∙_}
+use Rattle.block.specs.Setting.{settled, inside, allInside}
+use Rattle.block.specs.Blocks.{changed}
 use Rattle.context.specs.Steps.{configurationWrites}
-use Rattle.context.specs.Place.{onPart}
-use Rattle.context.proofs.Laws.{written-control}
+use Rattle.control_block.proofs.Laws.{control-written}
 use borrow.Author.Needs.{needs}
 use Rattle.change_context.proofs.configuration_context.Statement.{statement}
 use Rattle.change_context.proofs.configuration_context.Tie as tie
 
-sub-change-configuration : tie.Need-sub-change-configuration
-sub-change-configuration c = search needs
+perper-change-requires : tie.Need-perper-change-requires
+perper-change-requires c κs = search needs
 
-part-change-configuration-start : tie.Need-part-change-configuration-start
-part-change-configuration-start c = search needs
-
-part-change-configuration-end : tie.Need-part-change-configuration-end
-part-change-configuration-end c = search needs
-
-change-configuration-requires : tie.Need-change-configuration-requires
-change-configuration-requires c κs = search needs
+put-field-requires : tie.Need-put-field-requires
+put-field-requires c κs = search needs
 
 same-length : tie.Need-same-length
 same-length c = search needs
 
 returns : tie.Need-returns
-unfolding onPart configurationWrites
-returns c = λ spacing. rw (written-control spacing, c .before .before .change-configuration .ensures)
+unfolding configurationWrites changed settled inside allInside
+returns c = λ spacing. rw (control-written spacing _ (c .before .before .before .before .before .before .before .before .before .args .ctx .now) (c .before .before .before .before .before .before .before .before .before .pre) refl, c .before .before .put-field .ensures, c .before .before .before .before .before .before .perper-change .ensures)
 
 pub configuration-context-spec : {M : Type 1} → statement M
 configuration-context-spec =
-    tie.close
-    (tie.spec
-    sub-change-configuration
-    part-change-configuration-start
-    part-change-configuration-end
-    change-configuration-requires
-    same-length
-    returns)
+    tie.close (tie.spec perper-change-requires put-field-requires same-length returns)

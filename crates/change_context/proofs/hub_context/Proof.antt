@@ -1,12 +1,30 @@
-use Rattle.context.proofs.Laws.{written-append, written-control, written-slot}
+use mathlib.Core.Path.{refl}
+use native.Mathlib.Nat.{add-sub-cancel-left}
+use native.Mathlib.Omega.{arith}
+use Rattle.block.specs.Setting.{settled, inside, allInside}
+use Rattle.block.specs.Blocks.{changed}
+use Rattle.context.specs.Place.{onPart}
 use Rattle.context.specs.Steps.{hubWrites}
-use mathlib.Core.Path.{_∙_}
+use Rattle.context.proofs.Laws.{written-append, written-slot}
+use Rattle.control_block.proofs.Laws.{control-written}
 use borrow.Author.Needs.{needs}
 use Rattle.change_context.proofs.hub_context.Statement.{statement}
 use Rattle.change_context.proofs.hub_context.Tie as tie
 
-change-control-requires : tie.Need-change-control-requires
-change-control-requires c κs = search needs
+perper-change-requires : tie.Need-perper-change-requires
+perper-change-requires c κs = search needs
+
+add-end : tie.Need-add-end
+add-end c = search needs
+
+sub-hub-slot : tie.Need-sub-hub-slot
+sub-hub-slot c = search needs
+
+part-hub-slot-start : tie.Need-part-hub-slot-start
+part-hub-slot-start c = search needs
+
+part-hub-slot-end : tie.Need-part-hub-slot-end
+part-hub-slot-end c = search needs
 
 hub-slot-requires : tie.Need-hub-slot-requires
 hub-slot-requires c κs = search needs
@@ -15,9 +33,18 @@ same-length : tie.Need-same-length
 same-length c = search needs
 
 returns : tie.Need-returns
-unfolding hubWrites
-returns c = c .before .before .hub-slot .ensures ∙ rw (written-append, written-control, written-slot, c .before .before .before .before .before .before .change-control .ensures)
+unfolding hubWrites onPart changed inside allInside
+returns c = rw (written-append, control-written (c .before .before .before .before .before .before .before .before .before .args .spacing) changed (c .before .before .before .before .before .before .before .before .before .args .ctx .now) (omega arith) refl, written-slot, c .before .before .hub-slot .ensures, c .before .before .before .before .before .before .perper-change .ensures, add-sub-cancel-left)
 
 pub hub-context-spec : {M : Type 1} → statement M
 hub-context-spec =
-    tie.close (tie.spec change-control-requires hub-slot-requires same-length returns)
+    tie.close
+    (tie.spec
+    perper-change-requires
+    add-end
+    sub-hub-slot
+    part-hub-slot-start
+    part-hub-slot-end
+    hub-slot-requires
+    same-length
+    returns)

@@ -1,33 +1,90 @@
-use borrow.Author.Needs.{needs}
-use native.Mathlib.Omega.{arith}
-use Prim.Native.Nat.{_≤_, _-_}
+use Prim.Native.Nat.{_+_, _*_, _<_, _≤_, _-_}
 use mathlib.Core.Path.{_≡_, sym, _∙_}
-use lib.ListN.{length, drop, drop-of-length-le}
+use native.Mathlib.Nat.{add-sub-cancel-left}
+use native.Mathlib.Omega.{arith}
+use lib.ListN.{length, getD, drop, drop-of-length-le}
+use borrow.Author.Needs.{needs}
+use Rattle.descriptor.proofs.Laws.{dci-small, fields-fit}
+use Rattle.block.specs.Blocks.{wordDci}
 use Rattle.transfer.specs.Routes.{queues}
-use Rattle.context.specs.Place.{written}
+use Rattle.context.specs.Place.{onPart, written}
 use Rattle.context.specs.Steps.{addAll}
+use Rattle.context.proofs.Laws.{block-room}
 use Rattle.context.proofs.Steps.{add-next}
+use Rattle.configure_context.proofs.Laws.{word-added}
 use Rattle.configure_context.proofs.add_endpoints.Statement.{statement}
 use Rattle.configure_context.proofs.add_endpoints.Tie as tie
 
 abbrev Inv-loop : tie.InvT-loop
-Inv-loop ctx₀ spacing speed words dcis rings n i₀ ctx i =
+Inv-loop ctx₀ spacing speed words dcis rings i₀ ctx i =
     (i ≤ length words) × (length ctx ≡ length ctx₀) × (written spacing (addAll speed (queues dcis rings) words) ctx₀ ≡ written spacing (addAll speed (queues dcis rings) (drop i words)) ctx)
 
 abbrev μ-loop : tie.MeasureT-loop
-μ-loop ctx₀ spacing speed words dcis rings n i₀ ctx i = length words - i
+μ-loop ctx₀ spacing speed words dcis rings i₀ ctx i = length words - i
+
+-- The word's Dci.
+dci-is :
+    (c : tie.After-endpoint-address-dci Inv-loop μ-loop) →
+    (c .endpoint-address-dci .result .0 ≡ wordDci (getD (c .before .before .before .before .before .before .before .before .before .args .words .now) (c .before .before .before .before .loop .i) 0))
+    × (c .endpoint-address-dci .result .0 < 32)
+unfolding wordDci
+dci-is c = (
+  c .endpoint-address-dci .ensures ∙ rw (c .before .endpoint-descriptor .ensures),
+  rw (c .endpoint-address-dci .ensures, c .before .endpoint-descriptor .ensures)
+      (dci-small _ (fields-fit (getD (c .before .before .before .before .before .before .before .before .before .args .words .now) (c .before .before .before .before .loop .i) 0) .address)),
+)
+
+-- Its block lies in the context.
+room :
+    (c : tie.After-endpoint-address-dci Inv-loop μ-loop) →
+    c .before .before .before .before .before .before .before .before .before .args .spacing * (c .endpoint-address-dci .result .0 + 1) + 32 ≤ length (c .before .before .before .before .before .before .before .before .before .args .ctx .now)
+room c = block-room (c .before .before .before .before .before .before .before .before .before .args .spacing) (c .endpoint-address-dci .result .0 + 1) (length (c .before .before .before .before .before .before .before .before .before .args .ctx .now)) (c .before .before .before .before .before .before .before .before .before .pre) (omega (arith, dci-is c .1))
 
 loop-holds : tie.Need-loop-holds Inv-loop μ-loop
 loop-holds c = search needs
 
-mul-add-endpoint : tie.Need-mul-add-endpoint Inv-loop μ-loop
-mul-add-endpoint c = search needs
+mul-endpoint-descriptor : tie.Need-mul-endpoint-descriptor Inv-loop μ-loop
+mul-endpoint-descriptor c = search needs
 
-shared-slice-read-add-endpoint : tie.Need-shared-slice-read-add-endpoint Inv-loop μ-loop
-shared-slice-read-add-endpoint c = search needs
+shared-slice-read-endpoint-descriptor :
+    tie.Need-shared-slice-read-endpoint-descriptor Inv-loop μ-loop
+shared-slice-read-endpoint-descriptor c = search needs
 
-add-endpoint-requires : tie.Need-add-endpoint-requires Inv-loop μ-loop
-add-endpoint-requires c κs = search needs
+endpoint-descriptor-requires : tie.Need-endpoint-descriptor-requires Inv-loop μ-loop
+endpoint-descriptor-requires c κs = search needs
+
+endpoint-address-dci-requires : tie.Need-endpoint-address-dci-requires Inv-loop μ-loop
+endpoint-address-dci-requires c κs = search needs
+
+ring-of-requires : tie.Need-ring-of-requires Inv-loop μ-loop
+ring-of-requires c κs = search needs
+
+cast-low : tie.Need-cast-low Inv-loop μ-loop
+cast-low c = search needs
+
+put-field-requires : tie.Need-put-field-requires Inv-loop μ-loop
+put-field-requires c κs = (omega (arith, c .before .before .before .before .before .before .before .loop .inv .1, c .before .before .before .before .before .before .before .before .before .before .before .before .pre), (search needs, omega (arith, dci-is (c .before .before .before) .1)))
+
+add-start : tie.Need-add-start Inv-loop μ-loop
+add-start c = search needs
+
+mul-start : tie.Need-mul-start Inv-loop μ-loop
+mul-start c = omega (arith, room (c .before .before .before .before .before .before), c .before .before .before .before .before .before .before .before .before .before .before .before .before .before .before .good)
+
+add-end : tie.Need-add-end Inv-loop μ-loop
+add-end c = omega (arith, room (c .before .before .before .before .before .before), c .before .before .before .before .before .before .before .before .before .before .before .before .before .before .before .good)
+
+sub-put-endpoint : tie.Need-sub-put-endpoint Inv-loop μ-loop
+sub-put-endpoint c = search needs
+
+part-put-endpoint-start : tie.Need-part-put-endpoint-start Inv-loop μ-loop
+part-put-endpoint-start c = search needs
+
+part-put-endpoint-end : tie.Need-part-put-endpoint-end Inv-loop μ-loop
+part-put-endpoint-end c = omega (arith, room (c .before .before .before .before .before .before), c .before .before .put-field .kept .0, c .before .before .before .before .before .before .before .before .before .before .loop .inv .1)
+
+put-endpoint-requires : tie.Need-put-endpoint-requires Inv-loop μ-loop
+put-endpoint-requires c κs = search needs
 
 add-i : tie.Need-add-i Inv-loop μ-loop
 add-i c = search needs
@@ -36,7 +93,8 @@ loop-less : tie.Need-loop-less Inv-loop μ-loop
 loop-less c = search needs
 
 loop-again : tie.Need-loop-again Inv-loop μ-loop
-loop-again c = (search needs, search needs, c .before .before .before .before .before .before .loop .inv .2 ∙ add-next _ _ _ _ _ _ _ (c .before .before .before .before .before .loop-test .taken) (c .before .before .add-endpoint .ensures))
+unfolding onPart
+loop-again c = (search needs, search needs, c .before .before .before .before .before .before .before .before .before .before .before .before .before .before .loop .inv .2 ∙ add-next _ _ _ _ _ _ _ (c .before .before .before .before .before .before .before .before .before .before .before .before .before .loop-test .taken) (rw (c .before .before .put-endpoint .ensures, c .before .before .before .before .before .before .before .before .before .before .before .endpoint-descriptor .ensures, add-sub-cancel-left) (word-added _ _ _ _ _ _ _ _ (omega (arith, c .before .before .before .before .before .before .before .before .before .before .before .before .before .before .loop .inv .1, c .before .before .before .before .before .before .before .before .before .before .before .before .before .before .before .before .before .before .before .pre)) (dci-is (c .before .before .before .before .before .before .before .before .before .before) .0) (dci-is (c .before .before .before .before .before .before .before .before .before .before) .1) (c .before .before .before .before .before .before .before .before .before .ring-of .ensures) (c .before .before .before .before .before .before .put-field .ensures))))
 
 same-length : tie.Need-same-length Inv-loop μ-loop
 same-length c = search needs
@@ -52,9 +110,20 @@ add-endpoints-spec =
     Inv-loop
     μ-loop
     loop-holds
-    mul-add-endpoint
-    shared-slice-read-add-endpoint
-    add-endpoint-requires
+    mul-endpoint-descriptor
+    shared-slice-read-endpoint-descriptor
+    endpoint-descriptor-requires
+    endpoint-address-dci-requires
+    ring-of-requires
+    cast-low
+    put-field-requires
+    add-start
+    mul-start
+    add-end
+    sub-put-endpoint
+    part-put-endpoint-start
+    part-put-endpoint-end
+    put-endpoint-requires
     add-i
     loop-less
     loop-again

@@ -1,35 +1,28 @@
-use Rattle.context.specs.Place.{onPart}
-use Rattle.context.proofs.Laws.{written-control}
+use mathlib.Core.Path.{refl}
+use Rattle.block.specs.Setting.{settled, inside, allInside}
+use Rattle.block.specs.Blocks.{changed}
+use Rattle.control_block.proofs.Laws.{control-written}
 use borrow.Author.Needs.{needs}
 use Rattle.configure_context.proofs.begin_configure.Statement.{statement}
 use Rattle.configure_context.proofs.begin_configure.Tie as tie
 
-sub-change-interface : tie.Need-sub-change-interface
-sub-change-interface c = search needs
+perper-change-requires : tie.Need-perper-change-requires
+perper-change-requires c κs = search needs
 
-part-change-interface-start : tie.Need-part-change-interface-start
-part-change-interface-start c = search needs
+put-field-requires : tie.Need-put-field-requires
+put-field-requires c κs = search needs
 
-part-change-interface-end : tie.Need-part-change-interface-end
-part-change-interface-end c = search needs
-
-change-interface-requires : tie.Need-change-interface-requires
-change-interface-requires c κs = search needs
+put-field-requires-2 : tie.Need-put-field-requires-2
+put-field-requires-2 c κs = search needs
 
 same-length : tie.Need-same-length
 same-length c = search needs
 
 returns : tie.Need-returns
-unfolding onPart
-returns c = λ spacing. rw (written-control spacing, c .before .before .change-interface .ensures)
+unfolding changed settled inside allInside
+returns c = λ spacing. rw (control-written spacing _ (c .before .before .before .before .before .before .before .before .before .before .before .before .before .args .ctx .now) (c .before .before .before .before .before .before .before .before .before .before .before .before .before .pre) refl, c .before .before .put-field2 .ensures, c .before .before .before .before .before .before .put-field .ensures, c .before .before .before .before .before .before .before .before .before .before .perper-change .ensures)
 
 pub begin-configure-spec : {M : Type 1} → statement M
 begin-configure-spec =
     tie.close
-    (tie.spec
-    sub-change-interface
-    part-change-interface-start
-    part-change-interface-end
-    change-interface-requires
-    same-length
-    returns)
+    (tie.spec perper-change-requires put-field-requires put-field-requires-2 same-length returns)

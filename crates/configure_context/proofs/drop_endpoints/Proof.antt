@@ -1,35 +1,69 @@
-use Rattle.context.specs.Place.{onPart}
-use Rattle.context.proofs.Laws.{written-control}
+use Prim.Native.Nat.{ℕ, _≤_, _-_}
+use mathlib.Core.Path.{_≡_, sym, _∙_}
+use native.Mathlib.Omega.{arith}
+use lib.ListN.{length, drop, drop-of-length-le}
 use borrow.Author.Needs.{needs}
+use Rattle.block.specs.Blocks.{dropFlags}
+use Rattle.context.specs.Place.{CONTROL, inBlock, written}
+use Rattle.configure_context.proofs.Laws.{drop-next}
 use Rattle.configure_context.proofs.drop_endpoints.Statement.{statement}
 use Rattle.configure_context.proofs.drop_endpoints.Tie as tie
 
-sub-drop-flags : tie.Need-sub-drop-flags
-sub-drop-flags c = search needs
+abbrev Inv-loop : tie.InvT-loop
+Inv-loop ctx₀ words i₀ ctx i =
+    (i ≤ length words) × (length ctx ≡ length ctx₀) × ((s : ℕ) → written s (inBlock CONTROL (dropFlags words)) ctx₀ ≡ written s (inBlock CONTROL (dropFlags (drop i words))) ctx)
 
-part-drop-flags-start : tie.Need-part-drop-flags-start
-part-drop-flags-start c = search needs
+abbrev μ-loop : tie.MeasureT-loop
+μ-loop ctx₀ words i₀ ctx i = length words - i
 
-part-drop-flags-end : tie.Need-part-drop-flags-end
-part-drop-flags-end c = search needs
+loop-holds : tie.Need-loop-holds Inv-loop μ-loop
+loop-holds c = search needs
 
-drop-flags-requires : tie.Need-drop-flags-requires
-drop-flags-requires c κs = search needs
+mul-word-dci : tie.Need-mul-word-dci Inv-loop μ-loop
+mul-word-dci c = search needs
 
-same-length : tie.Need-same-length
+shared-slice-read-word-dci : tie.Need-shared-slice-read-word-dci Inv-loop μ-loop
+shared-slice-read-word-dci c = search needs
+
+word-dci-requires : tie.Need-word-dci-requires Inv-loop μ-loop
+word-dci-requires c κs = search needs
+
+cast-t6 : tie.Need-cast-t6 Inv-loop μ-loop
+cast-t6 c = search needs
+
+put-field-requires : tie.Need-put-field-requires Inv-loop μ-loop
+put-field-requires c κs = search needs
+
+add-i : tie.Need-add-i Inv-loop μ-loop
+add-i c = search needs
+
+loop-less : tie.Need-loop-less Inv-loop μ-loop
+loop-less c = search needs
+
+loop-again : tie.Need-loop-again Inv-loop μ-loop
+loop-again c = (search needs, search needs, λ s. c .before .before .before .before .before .before .before .before .loop .inv .2 s ∙ drop-next s _ _ _ _ _ (c .before .before .before .before .before .before .before .loop-test .taken) (omega (arith, c .before .before .before .before .before .before .before .before .loop .inv .1, c .before .before .before .before .before .before .before .before .before .before .before .pre)) (c .before .before .before .before .before .word-dci .ensures .0) (c .before .before .before .before .before .word-dci .ensures .1) (c .before .before .put-field .ensures))
+
+same-length : tie.Need-same-length Inv-loop μ-loop
 same-length c = search needs
 
-returns : tie.Need-returns
-unfolding onPart
-returns c = λ spacing. rw (written-control spacing, c .before .before .drop-flags .ensures)
+returns : tie.Need-returns Inv-loop μ-loop
+unfolding dropFlags inBlock written
+returns c = λ s. sym (c .before .loop .inv .2 s ∙ rw (drop-of-length-le (c .before .before .before .before .args .words .now) {i = c .before .loop .i} (omega arith)))
 
 pub drop-endpoints-spec : {M : Type 1} → statement M
 drop-endpoints-spec =
     tie.close
     (tie.spec
-    sub-drop-flags
-    part-drop-flags-start
-    part-drop-flags-end
-    drop-flags-requires
+    Inv-loop
+    μ-loop
+    loop-holds
+    mul-word-dci
+    shared-slice-read-word-dci
+    word-dci-requires
+    cast-t6
+    put-field-requires
+    add-i
+    loop-less
+    loop-again
     same-length
     returns)

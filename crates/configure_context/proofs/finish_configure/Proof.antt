@@ -1,5 +1,6 @@
-use Rattle.context.specs.Place.{onPart}
 use native.Mathlib.Nat.{add-sub-cancel-left}
+use Rattle.block.specs.Setting.{settled}
+use Rattle.context.specs.Place.{onPart}
 use Rattle.context.proofs.Laws.{written-slot}
 use borrow.Author.Needs.{needs}
 use Rattle.configure_context.proofs.finish_configure.Statement.{statement}
@@ -8,33 +9,33 @@ use Rattle.configure_context.proofs.finish_configure.Tie as tie
 add-end : tie.Need-add-end
 add-end c = search needs
 
-sub-put-context-entries : tie.Need-sub-put-context-entries
-sub-put-context-entries c = search needs
+sub-put-field : tie.Need-sub-put-field
+sub-put-field c = search needs
 
-part-put-context-entries-start : tie.Need-part-put-context-entries-start
-part-put-context-entries-start c = search needs
+part-put-field-start : tie.Need-part-put-field-start
+part-put-field-start c = search needs
 
-part-put-context-entries-end : tie.Need-part-put-context-entries-end
-part-put-context-entries-end c = search needs
+part-put-field-end : tie.Need-part-put-field-end
+part-put-field-end c = search needs
 
-put-context-entries-requires : tie.Need-put-context-entries-requires
-put-context-entries-requires c κs = search needs
+put-field-requires : tie.Need-put-field-requires
+put-field-requires c κs = search needs
 
 same-length : tie.Need-same-length
 same-length c = search needs
 
 returns : tie.Need-returns
-unfolding onPart
-returns c = rw (written-slot, c .before .before .put-context-entries .ensures, add-sub-cancel-left)
+unfolding onPart settled
+returns c = rw (written-slot, c .before .before .put-field .ensures, add-sub-cancel-left)
 
 pub finish-configure-spec : {M : Type 1} → statement M
 finish-configure-spec =
     tie.close
     (tie.spec
     add-end
-    sub-put-context-entries
-    part-put-context-entries-start
-    part-put-context-entries-end
-    put-context-entries-requires
+    sub-put-field
+    part-put-field-start
+    part-put-field-end
+    put-field-requires
     same-length
     returns)

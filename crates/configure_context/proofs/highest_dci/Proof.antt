@@ -1,30 +1,25 @@
-use Rattle.context.proofs.Steps.{highest-done}
-use mathlib.Core.Path.{sym}
-use borrow.Author.Needs.{needs}
-use native.Mathlib.Omega.{arith}
 use Prim.Native.Nat.{_≤_, _-_, max}
-use mathlib.Core.Path.{_≡_, _∙_}
-use lib.ListN.{length, drop}
+use mathlib.Core.Path.{_≡_, sym, _∙_}
+use native.Mathlib.Omega.{arith}
+use lib.ListN.{length, drop, getD}
+use borrow.Author.Needs.{needs}
 use Rattle.context.specs.Steps.{highestDci}
-use Rattle.context.proofs.Steps.{highest-next, highest-least}
+use Rattle.context.proofs.Steps.{highest-next, highest-done, highest-least}
 use Rattle.configure_context.proofs.highest_dci.Statement.{statement}
 use Rattle.configure_context.proofs.highest_dci.Tie as tie
 
 abbrev Inv-loop : tie.InvT-loop
-Inv-loop dcis n highest₀ i₀ highest i =
+Inv-loop dcis highest₀ i₀ highest i =
     (i ≤ length dcis) × (1 ≤ highest) × (highestDci dcis ≡ max highest (highestDci (drop i dcis)))
 
 abbrev μ-loop : tie.MeasureT-loop
-μ-loop dcis n highest₀ i₀ highest i = length dcis - i
+μ-loop dcis highest₀ i₀ highest i = length dcis - i
 
 loop-holds : tie.Need-loop-holds Inv-loop μ-loop
-loop-holds c = (search needs, search needs, omega (arith, highest-least (c .before .args .dcis .now)))
+loop-holds c = (search needs, search needs, omega (arith, highest-least (c .args .dcis .now)))
 
-shared-slice-read-greater : tie.Need-shared-slice-read-greater Inv-loop μ-loop
-shared-slice-read-greater c = search needs
-
-greater-requires : tie.Need-greater-requires Inv-loop μ-loop
-greater-requires c κs = search needs
+shared-slice-read-dci : tie.Need-shared-slice-read-dci Inv-loop μ-loop
+shared-slice-read-dci c = search needs
 
 add-i : tie.Need-add-i Inv-loop μ-loop
 add-i c = search needs
@@ -33,10 +28,16 @@ loop-less : tie.Need-loop-less Inv-loop μ-loop
 loop-less c = search needs
 
 loop-again : tie.Need-loop-again Inv-loop μ-loop
-loop-again c = (search needs, omega arith, c .before .before .before .loop .inv .2 ∙ highest-next _ _ _ _ (c .before .before .loop-test .taken) (c .greater .ensures))
+loop-again c = (search needs, omega arith, c .before .before .before .loop .inv .2 ∙ highest-next (c .before .before .before .before .args .dcis .now) (c .before .before .before .loop .i) (c .before .before .before .loop .highest) (getD (c .before .before .before .before .args .dcis .now) (c .before .before .before .loop .i) 0) (c .before .before .loop-test .taken) (omega arith))
+
+loop-less-2 : tie.Need-loop-less-2 Inv-loop μ-loop
+loop-less-2 c = search needs
+
+loop-again-2 : tie.Need-loop-again-2 Inv-loop μ-loop
+loop-again-2 c = (search needs, omega arith, c .before .before .before .loop .inv .2 ∙ highest-next (c .before .before .before .before .args .dcis .now) (c .before .before .before .loop .i) (c .before .before .before .loop .highest) (c .before .before .before .loop .highest) (c .before .before .loop-test .taken) (omega arith))
 
 returns : tie.Need-returns Inv-loop μ-loop
-returns c = sym (c .before .loop .inv .2 ∙ highest-done (c .before .before .before .args .dcis .now) (c .before .loop .i) (c .before .loop .highest) (omega arith) (c .before .loop .inv .1))
+returns c = sym (c .before .loop .inv .2 ∙ highest-done (c .before .before .args .dcis .now) (c .before .loop .i) (c .before .loop .highest) (omega arith) (c .before .loop .inv .1))
 
 pub highest-dci-spec : {M : Type 1} → statement M
 highest-dci-spec =
@@ -45,9 +46,10 @@ highest-dci-spec =
     Inv-loop
     μ-loop
     loop-holds
-    shared-slice-read-greater
-    greater-requires
+    shared-slice-read-dci
     add-i
     loop-less
     loop-again
+    loop-less-2
+    loop-again-2
     returns)

@@ -1,42 +1,76 @@
-use mathlib.Core.Path.{_∙_}
+use mathlib.Core.Path.{_≡_, _∙_}
+use mathlib.Core.Logic.{⊎-elim}
+use native.Mathlib.Omega.{arith}
+use lib.ListN.{length}
+use borrow.Author.Tests.{eq-eqb, ne-eqb}
 use Rattle.block.specs.Setting.{settled}
-use Rattle.block.specs.Blocks.{hubSettings}
-use Rattle.block.proofs.Laws.{settled-append}
+use Rattle.block.specs.Blocks.{multiSettings, thinkSettings, hubSettings}
+use Rattle.block.proofs.Laws.{settled-append, settled-length}
 use borrow.Author.Needs.{needs}
 use Rattle.slot_block.proofs.hub_slot.Statement.{statement}
 use Rattle.slot_block.proofs.hub_slot.Tie as tie
 
+-- The multi flag, written or not.
+multi-put :
+    (c : tie.Joined1-2) →
+    c .if1 .block
+    ≡ settled (multiSettings (c .before .before .before .before .before .before .args .speed) (c .before .before .before .before .before .before .args .multi))
+    (c .before .before .before .put-field .last .0)
+unfolding settled multiSettings
+multi-put c =
+    ⊎-elim
+    (λ w.
+    w .5
+    ∙ w .2 .ensures
+    ∙ ⊎-elim (λ t. rw (t .taken)) (λ t. rw (t .0 .left, t .1 .taken)) (w .0 .came))
+    (λ w. w .2 ∙ rw (w .0 .left, w .1 .left))
+    (c .if1 .came)
+
+joined-length : (c : tie.Joined1-2) → length (c .if1 .block) ≡ length (c .before .before .before .before .before .before .args .block .now)
+joined-length c =
+    let start = c .before .before .before .before .before .before in
+    rw (multi-put c, settled-length (multiSettings (start .args .speed) (start .args .multi)))
+    (c .before .before .before .put-field .kept .0)
+
 put-field-requires : tie.Need-put-field-requires
 put-field-requires c κs = search needs
 
-put-multi-requires : tie.Need-put-multi-requires
-put-multi-requires c κs = search needs
+cast-put-field : tie.Need-cast-put-field
+cast-put-field c = search needs
 
 put-field-requires-2 : tie.Need-put-field-requires-2
 put-field-requires-2 c κs = search needs
 
-put-think-time-requires : tie.Need-put-think-time-requires
-put-think-time-requires c κs = search needs
+put-field-requires-3 : tie.Need-put-field-requires-3
+put-field-requires-3 c κs = (omega (arith, joined-length (c .before), c .before .before .before .before .before .before .before .pre), search needs)
+
+put-field-requires-4 : tie.Need-put-field-requires-4
+put-field-requires-4 c κs = (omega (arith, c .before .before .before .before .put-field3 .kept .0, joined-length (c .before .before .before .before .before .before), c .before .before .before .before .before .before .before .before .before .before .before .before .pre), search needs)
 
 same-length : tie.Need-same-length
-same-length c = search needs
+same-length c = omega (arith, c .before .before .put-field4 .kept .0, c .before .before .before .before .before .before .before .put-field3 .kept .0, joined-length (c .before .before .before .before .before .before .before .before .before))
 
 returns : tie.Need-returns
-unfolding settled hubSettings
-returns c =
-    let c6 = c .before .before .before .before .before .before in
-    let c10 = c6 .before .before .before .before in
-    let c14 = c10 .before .before .before .before in
-    c .before .before .put-think-time .ensures ∙ rw
-    (c6 .put-field2 .ensures, c10 .put-multi .ensures, c14 .put-field .ensures, settled-append)
+unfolding settled thinkSettings hubSettings
+returns c = c .before .before .put-field4 .ensures ∙ rw (c .before .before .before .before .before .before .before .put-field3 .ensures, multi-put (c .before .before .before .before .before .before .before .before .before), c .before .before .before .before .before .before .before .before .before .before .before .before .put-field .ensures, settled-append, eq-eqb _ _ (c .before .before .before .before .if3 .taken))
+
+same-length-2 : tie.Need-same-length-2
+same-length-2 c = omega (arith, c .before .before .before .put-field3 .kept .0, joined-length (c .before .before .before .before .before))
+
+returns-2 : tie.Need-returns-2
+unfolding settled thinkSettings hubSettings
+returns-2 c = c .before .before .before .put-field3 .ensures ∙ rw (multi-put (c .before .before .before .before .before), c .before .before .before .before .before .before .before .before .put-field .ensures, settled-append, ne-eqb _ _ (c .if3 .left))
 
 pub hub-slot-spec : {M : Type 1} → statement M
 hub-slot-spec =
     tie.close
     (tie.spec
     put-field-requires
-    put-multi-requires
+    cast-put-field
     put-field-requires-2
-    put-think-time-requires
+    put-field-requires-3
+    put-field-requires-4
     same-length
-    returns)
+    returns
+    same-length-2
+    returns-2)

@@ -1,0 +1,44 @@
+use mathlib.Core.Path.{_∙_}
+use Rattle.block.specs.Setting.{settled}
+use Rattle.block.specs.Blocks.{ringSettings}
+use borrow.Author.Needs.{needs}
+use Rattle.endpoint_block.proofs.put_common.Statement.{statement}
+use Rattle.endpoint_block.proofs.put_common.Tie as tie
+
+put-field-requires : tie.Need-put-field-requires
+put-field-requires c κs = search needs
+
+put-field-requires-2 : tie.Need-put-field-requires-2
+put-field-requires-2 c κs = search needs
+
+put-field-requires-3 : tie.Need-put-field-requires-3
+put-field-requires-3 c κs = search needs
+
+put-field-requires-4 : tie.Need-put-field-requires-4
+put-field-requires-4 c κs = search needs
+
+put-field-requires-5 : tie.Need-put-field-requires-5
+put-field-requires-5 c κs = search needs
+
+put-field-requires-6 : tie.Need-put-field-requires-6
+put-field-requires-6 c κs = search needs
+
+same-length : tie.Need-same-length
+same-length c = search needs
+
+returns : tie.Need-returns
+unfolding settled ringSettings
+returns c = c .before .before .put-field6 .ensures ∙ rw (c .before .before .before .before .before .before .put-field5 .ensures, c .before .before .before .before .before .before .before .before .before .before .put-field4 .ensures, c .before .before .before .before .before .before .before .before .before .before .before .before .before .before .put-field3 .ensures, c .before .before .before .before .before .before .before .before .before .before .before .before .before .before .before .before .before .before .put-field2 .ensures, c .before .before .before .before .before .before .before .before .before .before .before .before .before .before .before .before .before .before .before .before .before .before .put-field .ensures)
+
+pub put-common-spec : {M : Type 1} → statement M
+put-common-spec =
+    tie.close
+    (tie.spec
+    put-field-requires
+    put-field-requires-2
+    put-field-requires-3
+    put-field-requires-4
+    put-field-requires-5
+    put-field-requires-6
+    same-length
+    returns)
