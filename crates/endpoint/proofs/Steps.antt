@@ -1,5 +1,5 @@
 -- One turn of each loop.
-use Prim.Native.Nat.{ℕ, zero, suc, _+_, _-_, _≤_, _<_}
+use Prim.Native.Nat.{ℕ, zero, suc, _+_, _-_, _*_, _/_, _%_, _≤_, _<_}
 use mathlib.Core.Path.{_≡_, refl, sym, ap, _∙_}
 use mathlib.Core.Bool.{Bool, true, false, not, cond, _&&_, _||_}
 use mathlib.Core.List.{List, [], _∷_, _++_, append-assoc, append-nil}
@@ -13,11 +13,10 @@ use lib.Dec.{eqb, ltb}
 use lib.ListN.{length, getD, set, take, drop, replicate, length-append, length-set, length-replicate, drop-of-length-le}
 use lib.Seq.{getD-set-same, getD-set-other, set-getD, take-suc-set, take-all, take-append-seam, set-append-seam, drop-cons, drop-drop, getD-drop, getD-take, length-take-le}
 use Rattle.laws.proofs.Cases.{Decided, decided}
-use Rattle.laws.proofs.Distinct.{elem}
 use Rattle.descriptor.specs.Word.{endpointDescriptor}
 use Rattle.transfer.specs.Routes.{Queue}
-use Rattle.endpoint.specs.Order.{placeOf, dciAt}
-use Rattle.endpoint.specs.Endpoint.{blank, addresses, addressesFit, padded}
+use Rattle.endpoint.specs.Order.{placeOf, addressAt, dciAt}
+use Rattle.endpoint.specs.Endpoint.{blank, addresses, padded}
 use Rattle.endpoint.specs.Cells.{Whole, noCells, withCell, isActive, cellsFrom, gathered, isOwned, tabulated, claimedRing, claimedOwner, claimedActive, claimedCells, activeFrom, withActive, pendingFrom, queueDcis, queueRings}
 use Rattle.endpoint.specs.declared.entry.Endpoint.{Endpoint}
 use Rattle.endpoint.specs.declared.cells.Cells.{Cells}
@@ -366,7 +365,7 @@ module _ {i : ℕ} {pending : List ℕ} {was : Cells} {p : ℕ} {c : Cells} (a :
   claiming-done g h =
       cells-as c _ _ _ (write-done (a .rings) g h) (write-done (a .owners) g h) (write-done (a .active) g h)
 
--- `address_again` and `addresses_fit`
+-- the addresses of the first n endpoints
 pub addresses-length : (eps : List Endpoint) → length (addresses eps) ≡ length eps
 unfolding addresses
 addresses-length [] = refl
@@ -382,36 +381,14 @@ module _ (eps : List Endpoint) (n i : ℕ) (room : n ≤ length eps) where
   listed : length (addresses (take n eps)) ≡ n
   listed = addresses-length (take n eps) ∙ length-take-le n eps room
 
-  next : i < n → drop i (addresses (take n eps)) ≡ (getD eps i blank .address) ∷ drop (i + 1) (addresses (take n eps))
-  next h =
+  pub addresses-next : i < n → drop i (addresses (take n eps)) ≡ (getD eps i blank .address) ∷ drop (i + 1) (addresses (take n eps))
+  addresses-next h =
       let l = addresses (take n eps) in
       let a : getD l i 0 ≡ getD eps i blank .address = addresses-at (take n eps) i ∙ rw (getD-take n eps i blank h) in
       rw (← a, add-one i) (drop-cons l i 0 (rw listed h))
 
-  none : n ≤ i → drop i (addresses (take n eps)) ≡ []
-  none h = let g : length (addresses (take n eps)) ≤ i = rw listed h in drop-of-length-le (addresses (take n eps)) g
-
-  pub again-next :
-      (x : ℕ) → i < n →
-      elem x (drop i (addresses (take n eps))) ≡ eqb x (getD eps i blank .address) || elem x (drop (i + 1) (addresses (take n eps)))
-  unfolding elem
-  again-next x h = rw (next h)
-
-  pub again-none : (x : ℕ) → n ≤ i → elem x (drop i (addresses (take n eps))) ≡ false
-  unfolding elem
-  again-none x h = rw (none h)
-
-  pub fit-next :
-      i < n →
-      addressesFit (drop i (addresses (take n eps)))
-      ≡ (ltb (placeOf (getD eps i blank .address)) 30 && not (elem (getD eps i blank .address) (drop (i + 1) (addresses (take n eps)))))
-      && addressesFit (drop (i + 1) (addresses (take n eps)))
-  unfolding addressesFit
-  fit-next h = rw (next h)
-
-  pub fit-none : n ≤ i → addressesFit (drop i (addresses (take n eps))) ≡ true
-  unfolding addressesFit
-  fit-none h = rw (none h)
+  pub addresses-none : n ≤ i → drop i (addresses (take n eps)) ≡ []
+  addresses-none h = let g : length (addresses (take n eps)) ≤ i = rw listed h in drop-of-length-le (addresses (take n eps)) g
 
 -- `pending_rings`
 pending-step :
@@ -435,6 +412,23 @@ pending-next words rings by i h =
 pub pending-none : (words rings by : List ℕ) (i : ℕ) → length words ≤ i → pendingFrom (drop i words) rings by ≡ by
 unfolding pendingFrom
 pending-none words rings by i h = rw (drop-of-length-le words h)
+
+-- what `queues_of` and `endpoints_of` compute of a place
+pub dci-made : (p : ℕ) → p < 30 → 2 * (p % 15 + 1) + p / 15 ≡ dciAt p
+unfolding dciAt
+dci-made p h = go (decLt p 15)
+  where
+    go : Dec (p < 15) → 2 * (p % 15 + 1) + p / 15 ≡ cond (ltb p 15) (2 * (p + 1)) (2 * (p - 14) + 1)
+    go (yes l) = rw (lt-ltb p 15 l) (omega arith)
+    go (no l) = rw (le-ltb p 15 (omega arith)) (omega arith)
+
+pub address-made : (p : ℕ) → p < 30 → 128 * (p / 15) + p % 15 + 1 ≡ addressAt p
+unfolding addressAt
+address-made p h = go (decLt p 15)
+  where
+    go : Dec (p < 15) → 128 * (p / 15) + p % 15 + 1 ≡ cond (ltb p 15) (p + 1) (128 + (p - 14))
+    go (yes l) = rw (lt-ltb p 15 l) (omega arith)
+    go (no l) = rw (le-ltb p 15 (omega arith)) (omega arith)
 
 -- the arrays of `queues_of` are of its queues
 pub queues-dcis :

@@ -4,7 +4,6 @@ use super::cells::Cells;
 use super::cells::Owner;
 use super::order;
 ghost use mathlib.Core.Path.{_≡_};
-ghost use lib.ListN.{getD};
 ghost use Rattle.endpoint.specs.Cells.{pendingRings, claimedCells, QueuesAs};
 
 // Endpoints and their rings side by side, by rising address.
@@ -24,7 +23,8 @@ pub fn queues_of(by: [u64; 30]) -> Queues
     let mut p = 0;
     while p < 30 {
         let ring = by[p];
-        let dci = order::dci_at(p);
+        // Twice the number, and 1 more for IN.
+        let dci = (2 * (p % 15 + 1) + p / 15) as u8;
         p += 1;
         if ring != 0 {
             dcis[n] = dci;
@@ -39,24 +39,16 @@ pub fn queues_of(by: [u64; 30]) -> Queues
     }
 }
 
-// A ring past the end is 0.
-fn ring_at(rings: &[u64], i: usize) -> u64
-    ensures { λ r. ⌜ r ≡ getD (now (rings .entry)) i 0 ⌝ }
-{
-    if i < rings.len() { rings[i] } else { 0 }
-}
-
-// The rings offered for endpoint words, by place: of a repeated address the last word's.
+// The rings offered for endpoint words, by place: of a repeated address the last word's, 0 where there is none.
 pub fn pending_rings(words: &[u32], rings: &[u64]) -> [u64; 30]
     ensures { λ r. ⌜ r ≡ pendingRings (now (words .entry)) (now (rings .entry)) ⌝ }
 {
     let mut by = [0u64; 30];
-    let n = words.len();
     let mut i = 0;
-    while i < n {
+    while i < words.len() {
         let e = descriptor::endpoint_descriptor(words[i]);
         let place = order::place_of(e.address);
-        let ring = ring_at(rings, i);
+        let ring = if i < rings.len() { rings[i] } else { 0 };
         i += 1;
         if place < 30 {
             by[place] = ring;
