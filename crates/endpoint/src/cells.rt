@@ -4,7 +4,7 @@ use super::entry::Handle;
 use super::order;
 ghost use mathlib.Core.Path.{_≡_};
 ghost use Prim.Native.Nat.{_<_, _≤_};
-ghost use Rattle.endpoint.specs.Cells.{Whole, noCells, withCell, isActive, cellsOf, isOwned, ownedRings, withActive};
+ghost use Rattle.endpoint.specs.Cells.{Whole, noCells, withCell, cellsOf, isOwned, ownedRings, withActive};
 
 // Ring 0: no endpoint at that place.
 pub struct Cells {
@@ -26,15 +26,6 @@ pub fn no_cells() -> Cells
         rings: [0; 30],
         owners: [0; 30],
         active: [false; 30],
-    }
-}
-
-fn is_active(h: Handle) -> bool
-    ensures { λ r. ⌜ r ≡ isActive h ⌝ }
-{
-    match h {
-        Handle::Active => true,
-        Handle::Revoked => false,
     }
 }
 
@@ -60,8 +51,11 @@ pub fn cells_of(eps: [Endpoint; 30], owners: [u8; 30], n: usize) -> Cells
     let mut i = 0;
     while i < n {
         let e = eps[i];
-        let h = e.handle;
-        let on = is_active(h);
+        let handle = e.handle;
+        let on = match handle {
+            Handle::Active => true,
+            Handle::Revoked => false,
+        };
         let place = order::place_of(e.address);
         c = with_cell(c, place, e.ring, owners[i], on);
         i += 1;

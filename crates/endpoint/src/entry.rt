@@ -5,7 +5,7 @@ ghost use mathlib.Core.Path.{_≡_};
 ghost use Prim.Native.Nat.{_≤_};
 ghost use lib.ListN.{take};
 ghost use Rattle.endpoint.specs.Endpoint.{addresses, addressesFit};
-ghost use Rattle.endpoint.specs.Cells.{handleOf, EndpointsAs};
+ghost use Rattle.endpoint.specs.Cells.{EndpointsAs};
 
 // Whether transfers may be submitted to an endpoint.
 pub enum Handle {
@@ -25,12 +25,6 @@ pub struct Endpoints {
     pub count: usize,
 }
 
-fn handle_of(on: bool) -> Handle
-    ensures { λ r. ⌜ r ≡ handleOf on ⌝ }
-{
-    if on { Handle::Active } else { Handle::Revoked }
-}
-
 // The arrays of some cells, by rising address, blank past the count.
 pub fn endpoints_of(c: Cells) -> Endpoints
     ensures { λ r. ⌜ EndpointsAs r c ⌝ }
@@ -45,11 +39,16 @@ pub fn endpoints_of(c: Cells) -> Endpoints
     let mut p = 0;
     while p < 30 {
         let ring = c.rings[p];
+        let handle = if c.active[p] {
+            Handle::Active
+        } else {
+            Handle::Revoked
+        };
         // Numbers 1 to 15 of each direction; IN addresses have the top bit.
         let e = Endpoint {
             address: (128 * (p / 15) + p % 15 + 1) as u8,
             ring: ring,
-            handle: handle_of(c.active[p]),
+            handle: handle,
         };
         let owner = c.owners[p];
         p += 1;

@@ -1,10 +1,12 @@
 use Rattle.endpoint.specs.declared.entry.Endpoint.{Endpoint}
 use mathlib.Core.Path.{_≡_, refl}
 use Prim.Native.Nat.{_≤_, _+_, _-_, _*_, _/_, _%_}
+use mathlib.Core.Logic.{⊎-elim}
+use mathlib.Core.Bool.{false}
 use native.Mathlib.Omega.{arith}
 use lib.ListN.{getD}
 use Rattle.endpoint.specs.Endpoint.{blank}
-use Rattle.endpoint.specs.Cells.{endpointAt, endpointsOf, ownersOf}
+use Rattle.endpoint.specs.Cells.{handleOf, endpointAt, endpointsOf, ownersOf}
 use Rattle.endpoint.proofs.Steps.{Filled, fill-none, fill-next, fill-skip, address-made}
 use borrow.Author.Needs.{needs}
 use Rattle.endpoint.proofs.entry.endpoints_of.Statement.{statement}
@@ -29,6 +31,9 @@ mul-ring c = search needs
 element-copy-out-ring : tie.Need-element-copy-out-ring Inv-loop μ-loop
 element-copy-out-ring c = search needs
 
+element-copy-out-if1 : tie.Need-element-copy-out-if1 Inv-loop μ-loop
+element-copy-out-if1 c = search needs
+
 mul-owner : tie.Need-mul-owner Inv-loop μ-loop
 mul-owner c = search needs
 
@@ -40,12 +45,6 @@ add-owner-2 c = search needs
 
 cast-owner : tie.Need-cast-owner Inv-loop μ-loop
 cast-owner c = search needs
-
-element-copy-out-handle-of : tie.Need-element-copy-out-handle-of Inv-loop μ-loop
-element-copy-out-handle-of c = search needs
-
-handle-of-requires : tie.Need-handle-of-requires Inv-loop μ-loop
-handle-of-requires c κs = search needs
 
 element-copy-out-owner : tie.Need-element-copy-out-owner Inv-loop μ-loop
 element-copy-out-owner c = search needs
@@ -68,6 +67,12 @@ add-n c = search needs
 loop-less : tie.Need-loop-less Inv-loop μ-loop
 loop-less c = search needs
 
+handle-made :
+    (c : tie.Joined1 Inv-loop μ-loop) →
+    c .if1 .handle ≡ handleOf (getD (c .before .before .before .before .before .args .t1 .active) (c .before .before .before .before .loop .p) false)
+unfolding handleOf
+handle-made c = ⊎-elim (λ w. rw (w .0 .taken) (w .1)) (λ w. rw (w .0 .left) (w .1)) (c .if1 .came)
+
 loop-again : tie.Need-loop-again Inv-loop μ-loop
 unfolding endpointAt
 loop-again c = let l = c .before .before .before .before .before .before .loop in
@@ -76,13 +81,13 @@ loop-again c = let l = c .before .before .before .before .before .before .loop i
     record {
       address = 128 * (l .p / 15) + l .p % 15 + 1;
       ring = getD (d .rings) (l .p) 0;
-      handle = c .before .before .handle-of .result;
+      handle = c .before .before .if1 .handle;
     } in
-    let same : e ≡ endpointAt d (l .p) = rw (address-made (l .p) (c .before .before .before .before .before .loop-test .taken), c .before .before .handle-of .ensures) in (
+    let same : e ≡ endpointAt d (l .p) = rw (address-made (l .p) (c .before .before .before .before .before .loop-test .taken), handle-made (c .before .before)) in (
       search needs,
       search needs,
-      fill-next e (l .inv .2) (c .before .before .before .before .before .loop-test .taken) (c .if1 .taken) same,
-      fill-next _ (l .inv .3) (c .before .before .before .before .before .loop-test .taken) (c .if1 .taken) refl,
+      fill-next e (l .inv .2) (c .before .before .before .before .before .loop-test .taken) (c .if2 .taken) same,
+      fill-next _ (l .inv .3) (c .before .before .before .before .before .loop-test .taken) (c .if2 .taken) refl,
     )
 
 loop-less-2 : tie.Need-loop-less-2 Inv-loop μ-loop
@@ -90,7 +95,7 @@ loop-less-2 c = search needs
 
 loop-again-2 : tie.Need-loop-again-2 Inv-loop μ-loop
 loop-again-2 c = let l = c .before .before .before .before .before .before .loop in
-    (search needs, search needs, fill-skip (l .inv .2) (c .if1 .left), fill-skip (l .inv .3) (c .if1 .left))
+    (search needs, search needs, fill-skip (l .inv .2) (c .if2 .left), fill-skip (l .inv .3) (c .if2 .left))
 
 returns : tie.Need-returns Inv-loop μ-loop
 unfolding endpointsOf ownersOf
@@ -107,12 +112,11 @@ endpoints-of-spec =
     loop-holds
     mul-ring
     element-copy-out-ring
+    element-copy-out-if1
     mul-owner
     add-owner
     add-owner-2
     cast-owner
-    element-copy-out-handle-of
-    handle-of-requires
     element-copy-out-owner
     add-p
     mul-eps
