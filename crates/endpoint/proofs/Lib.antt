@@ -1,3 +1,4 @@
 pub mod Clean
+mod Fit
 pub mod Laws
 mod Steps

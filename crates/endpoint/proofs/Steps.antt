@@ -1,26 +1,27 @@
 -- One turn of each loop.
-use Prim.Native.Nat.{ℕ, zero, suc, _+_, _-_, _≤_, _<_}
+use Prim.Native.Nat.{ℕ, zero, suc, _+_, _-_, _*_, _/_, _%_, _≤_, _<_}
 use mathlib.Core.Path.{_≡_, refl, sym, ap, _∙_}
 use mathlib.Core.Bool.{Bool, true, false, not, cond, _&&_, _||_}
 use mathlib.Core.List.{List, [], _∷_, _++_, append-assoc, append-nil}
 use native.Mathlib.Numerals.{add-one}
 use native.Mathlib.Nat.{add-zero, zero-add, sub-zero}
 use native.Mathlib.Omega.{arith}
+use native.Mathlib.Decide.{decLt}
 use mathlib.Core.Logic.{inl, inr}
-use borrow.Author.Tests.{eq-eqb, ne-eqb, eqb-true, eqb-false}
+use borrow.Author.Tests.{lt-ltb, le-ltb, eq-eqb, ne-eqb, eqb-true, eqb-false}
 use lib.Dec.{eqb, ltb}
 use lib.ListN.{length, getD, set, take, drop, replicate, length-append, length-set, length-replicate, drop-of-length-le}
-use lib.Seq.{getD-set-same, getD-set-other, take-suc-set, take-all, take-append-seam, set-append-seam, drop-cons, drop-drop, getD-drop, getD-take, length-take-le}
+use lib.Seq.{getD-set-same, getD-set-other, set-getD, take-suc-set, take-all, take-append-seam, set-append-seam, drop-cons, drop-drop, getD-drop, getD-take, length-take-le}
 use Rattle.laws.proofs.Cases.{Decided, decided}
-use Rattle.laws.proofs.Distinct.{elem}
 use Rattle.descriptor.specs.Word.{endpointDescriptor}
 use Rattle.transfer.specs.Routes.{Queue}
-use Rattle.endpoint.specs.Order.{placeOf, dciAt}
-use Rattle.endpoint.specs.Endpoint.{blank, addresses, addressesFit, padded}
-use Rattle.endpoint.specs.Cells.{Whole, noCells, withCell, isActive, cellsFrom, gathered, isOwned, tabulated, activeFrom, pendingFrom, queueDcis, queueRings}
+use Rattle.endpoint.specs.Order.{placeOf, addressAt, dciAt}
+use Rattle.endpoint.specs.Endpoint.{blank, addresses, padded}
+use Rattle.endpoint.specs.Cells.{Whole, noCells, withCell, isActive, cellsFrom, gathered, isOwned, tabulated, claimedRing, claimedOwner, claimedActive, claimedCells, activeFrom, withActive, pendingFrom, queueDcis, queueRings}
 use Rattle.endpoint.specs.declared.entry.Endpoint.{Endpoint}
 use Rattle.endpoint.specs.declared.cells.Cells.{Cells}
 use Rattle.endpoint.specs.declared.cells.Owner.{Owner}
+use Rattle.endpoint.specs.declared.cells.Owner.the-variants.{Interface}
 
 -- What stands at a place after one was written.
 pub getD-set :
@@ -38,27 +39,37 @@ tabulated-snoc f zero a = rw add-zero
 tabulated-snoc f (suc k) a =
     let e : a + 1 + k ≡ a + suc k = omega arith in rw (tabulated-snoc f k (a + 1), e)
 
--- An array of m places, of which the first p are written.
-pub record Written {A : Type 0} (m : ℕ) (f : ℕ → A) (p : ℕ) (l : List A) : Type 0 where
+-- An array of m places written in place: the first p stand as f says, the others as they were.
+pub record Written {A : Type 0} (m : ℕ) (f : ℕ → A) (was : List A) (d : A) (p : ℕ) (l : List A) : Type 0 where
   pub written : take p l ≡ tabulated f p 0
+  pub left : (q : ℕ) → p ≤ q → getD l q d ≡ getD was q d
   pub room : length l ≡ m
 
-pub write-none : {A : Type 0} (m : ℕ) (f : ℕ → A) (l : List A) → length l ≡ m → Written m f 0 l
+pub write-none : {A : Type 0} (m : ℕ) (f : ℕ → A) (l : List A) (d : A) → length l ≡ m → Written m f l d 0 l
 unfolding tabulated
-write-none m f l e = record { written = refl; room = e }
+write-none m f l d e = record { written = refl; left = λ q h. refl; room = e }
 
 pub write-next :
-    {A : Type 0} {m : ℕ} {f : ℕ → A} {p : ℕ} {l : List A} (v : A) → Written m f p l → p < m → v ≡ f p →
-    Written m f (p + 1) (set l p v)
-write-next {m = m} {f} {p} {l} v w h q =
+    {A : Type 0} {m : ℕ} {f : ℕ → A} {was : List A} {d : A} {p : ℕ} {l : List A} (v : A) → Written m f was d p l → p < m →
+    v ≡ f p → Written m f was d (p + 1) (set l p v)
+write-next {m = m} {f} {was} {d} {p} {l} v w h q =
     record {
       written = rw (add-one p, take-suc-set l p v (rw (w .room) h), tabulated-snoc f p 0, w .written, q, zero-add);
+      left = λ r g. getD-set-other l p r v d (λ e. absurd (omega arith)) ∙ w .left r (omega arith);
       room = length-set l p v ∙ w .room;
     }
 
+-- what stands as it should is not written
+pub write-keep :
+    {A : Type 0} {m : ℕ} {f : ℕ → A} {was : List A} {d : A} {p : ℕ} {l : List A} → Written m f was d p l → p < m →
+    getD was p d ≡ f p → Written m f was d (p + 1) l
+write-keep {d = d} {p} {l} w h q =
+    rw (set-getD l p d) at (write-next (getD l p d) w h (w .left p (omega arith) ∙ q))
+
 pub write-done :
-    {A : Type 0} {m : ℕ} {f : ℕ → A} {p : ℕ} {l : List A} → Written m f p l → m ≤ p → p ≤ m → l ≡ tabulated f m 0
-write-done {m = m} {f} {p} {l} w g h =
+    {A : Type 0} {m : ℕ} {f : ℕ → A} {was : List A} {d : A} {p : ℕ} {l : List A} → Written m f was d p l → m ≤ p → p ≤ m →
+    l ≡ tabulated f m 0
+write-done {m = m} {f} {was} {d} {p} {l} w g h =
     let r : length l ≡ m = w .room in
     let same : p ≡ m = omega arith in
     sym (take-all p l (omega arith)) ∙ w .written ∙ ap (λ (k : ℕ). tabulated f k 0) same
@@ -154,7 +165,7 @@ gathered-length {A = A} {B = B} f g rings (suc k) a = go (eqb (getD rings a 0) 0
     go false l m e = ap suc e
 
 -- `with_active`
-pub active-next :
+active-next :
     (who : Owner) (c : Cells) (m : ℕ) (l : List Bool) (p n n′ : ℕ) (v : Bool) →
     p < m → p < length l →
     v ≡ cond (isOwned who c p) (ltb 0 n) (getD (c .active) p false) →
@@ -174,11 +185,76 @@ active-next who c m l p n n′ v h g ev en =
     go true = refl
     go false = refl
 
-pub active-done :
+active-done :
     (who : Owner) (c : Cells) (m : ℕ) (l : List Bool) (p n : ℕ) →
     m ≤ p → length l ≤ p → take p l ++ activeFrom (m - p) p who n c ≡ l
 unfolding activeFrom
 active-done who c m l p n h g = let e : m - p ≡ zero = omega arith in rw (e, take-all p l g, append-nil)
+
+less-than : (m n : ℕ) → ltb m n ≡ ltb 0 (n - m)
+less-than m n = go (decLt m n)
+  where
+    go : Dec (m < n) → ltb m n ≡ ltb 0 (n - m)
+    go (yes l) = lt-ltb m n l ∙ sym (lt-ltb 0 (n - m) (omega arith))
+    go (no l) = le-ltb m n (omega arith) ∙ sym (le-ltb 0 (n - m) (omega arith))
+
+cells-as :
+    (c : Cells) (rings owners : List ℕ) (active : List Bool) → c .rings ≡ rings → c .owners ≡ owners → c .active ≡ active →
+    c ≡ record { rings = rings; owners = owners; active = active }
+cells-as c rings owners active p q r = rw (← p, ← q, ← r)
+
+-- of the first p places `seen` are owned, and their marks are those of the definition
+pub record Activated (who : Owner) (n : ℕ) (was : Cells) (seen p : ℕ) (c : Cells) : Type 0 where
+  pub rings : c .rings ≡ was .rings
+  pub owners : c .owners ≡ was .owners
+  pub left : (q : ℕ) → p ≤ q → getD (c .active) q false ≡ getD (was .active) q false
+  pub room : length (c .active) ≡ 30
+  pub marked : activeFrom 30 0 who n was ≡ take p (c .active) ++ activeFrom (30 - p) p who (n - seen) was
+
+pub activated-none : (who : Owner) (n : ℕ) (c : Cells) → length (c .active) ≡ 30 → Activated who n c 0 0 c
+activated-none who n c e =
+    record { rings = refl; owners = refl; left = λ q h. refl; room = e; marked = rw (sub-zero 30, sub-zero n) }
+
+module _ {who : Owner} {n : ℕ} {was : Cells} {seen p : ℕ} {c : Cells} (a : Activated who n was seen p c) where
+  owned-was : isOwned who was p ≡ isOwned who c p
+  unfolding isOwned
+  owned-was = rw (a .rings, a .owners)
+
+  pub activated-next :
+      p < 30 → isOwned who c p ≡ true →
+      Activated who n was (seen + 1) (p + 1) (record { rings = c .rings; owners = c .owners; active = set (c .active) p (ltb seen n) })
+  activated-next h o =
+      record {
+        rings = a .rings;
+        owners = a .owners;
+        left = λ q g. getD-set-other (c .active) p q (ltb seen n) false (λ e. absurd (omega arith)) ∙ a .left q (omega arith);
+        room = length-set (c .active) p (ltb seen n) ∙ a .room;
+        marked =
+            let e : n - (seen + 1) ≡ n - seen - 1 = omega arith in
+            a .marked
+            ∙ active-next who was 30 (c .active) p (n - seen) (n - (seen + 1)) (ltb seen n) h (rw (a .room) h)
+            (rw (owned-was, o) (less-than seen n)) (rw (owned-was, o) e);
+      }
+
+  pub activated-keep : p < 30 → isOwned who c p ≡ false → Activated who n was seen (p + 1) c
+  activated-keep h o =
+      record {
+        rings = a .rings;
+        owners = a .owners;
+        left = λ q g. a .left q (omega arith);
+        room = a .room;
+        marked =
+            a .marked
+            ∙ active-next who was 30 (c .active) p (n - seen) (n - seen) (getD (c .active) p false) h (rw (a .room) h)
+            (rw (owned-was, o) (a .left p (omega arith))) (rw (owned-was, o))
+            ∙ rw (set-getD (c .active) p false);
+      }
+
+  pub activated-done : 30 ≤ p → c ≡ withActive who n was
+  unfolding withActive
+  activated-done h =
+      cells-as c (was .rings) (was .owners) (activeFrom 30 0 who n was) (a .rings) (a .owners)
+      (sym (a .marked ∙ active-done who was 30 (c .active) p (n - seen) h (rw (a .room) h)))
 
 -- the first of those from the i-th on
 first-drop : {A : Type 0} (i : ℕ) (l : List A) (d : A) → getD (drop i l) 0 d ≡ getD l i d
@@ -224,13 +300,72 @@ whole-cell c place ring owner on w =
     }
 
 -- `claimed_cells`
-pub cells-tabulated :
-    (out : Cells) (f g : ℕ → ℕ) (h : ℕ → Bool) (n : ℕ) →
-    out .rings ≡ tabulated f n 0 → out .owners ≡ tabulated g n 0 → out .active ≡ tabulated h n 0 →
-    out ≡ record { rings = tabulated f n 0; owners = tabulated g n 0; active = tabulated h n 0 }
-cells-tabulated out f g h n p q r = rw (← p, ← q, ← r)
+pub record Claiming (i : ℕ) (pending : List ℕ) (was : Cells) (p : ℕ) (c : Cells) : Type 0 where
+  pub rings : Written 30 (claimedRing i pending was) (was .rings) 0 p (c .rings)
+  pub owners : Written 30 (claimedOwner i pending was) (was .owners) 0 p (c .owners)
+  pub active : Written 30 (claimedActive i pending was) (was .active) false p (c .active)
 
--- `address_again` and `addresses_fit`
+pub claiming-none : (i : ℕ) (pending : List ℕ) (c : Cells) → Whole c → Claiming i pending c 0 c
+claiming-none i pending c w =
+    record {
+      rings = write-none 30 _ (c .rings) 0 (w .rings);
+      owners = write-none 30 _ (c .owners) 0 (w .owners);
+      active = write-none 30 _ (c .active) false (w .active);
+    }
+
+module _ {i : ℕ} {pending : List ℕ} {was : Cells} {p : ℕ} {c : Cells} (a : Claiming i pending was p c) where
+  pub claiming-whole : Whole c
+  claiming-whole = record { rings = a .rings .room; owners = a .owners .room; active = a .active .room }
+
+  claiming-set :
+      (r o : ℕ) (on : Bool) → p < 30 → r ≡ claimedRing i pending was p → o ≡ claimedOwner i pending was p →
+      on ≡ claimedActive i pending was p → Claiming i pending was (p + 1) (withCell c p r o on)
+  unfolding withCell
+  claiming-set r o on h e f g =
+      record {
+        rings = write-next r (a .rings) h e;
+        owners = write-next o (a .owners) h f;
+        active = write-next on (a .active) h g;
+      }
+
+  owned-before : isOwned (Interface i) was p ≡ isOwned (Interface i) c p
+  unfolding isOwned
+  owned-before = rw (a .rings .left p (omega arith), a .owners .left p (omega arith))
+
+  -- a ring is pending
+  pub claiming-put :
+      p < 30 → (getD pending p 0 ≡ 0 → ⊥) → Claiming i pending was (p + 1) (withCell c p (getD pending p 0) i true)
+  unfolding claimedRing claimedOwner claimedActive
+  claiming-put h z =
+      let e : eqb (getD pending p 0) 0 ≡ false = ne-eqb (getD pending p 0) 0 z in
+      claiming-set (getD pending p 0) i true h (rw e) (rw e) (rw e)
+
+  module _ (h : p < 30) (z : getD pending p 0 ≡ 0) where
+    unoffered : eqb (getD pending p 0) 0 ≡ true
+    unoffered = eq-eqb (getD pending p 0) 0 z
+
+    -- none is, and the endpoint is the interface's
+    pub claiming-gone : isOwned (Interface i) c p ≡ true → Claiming i pending was (p + 1) (withCell c p 0 0 false)
+    unfolding claimedRing claimedOwner claimedActive
+    claiming-gone o =
+        claiming-set 0 0 false h (rw (unoffered, owned-before, o)) (rw (unoffered, owned-before, o)) (rw (unoffered, owned-before, o))
+
+    -- or it is not
+    pub claiming-keep : isOwned (Interface i) c p ≡ false → Claiming i pending was (p + 1) c
+    unfolding claimedRing claimedOwner claimedActive
+    claiming-keep o =
+        record {
+          rings = write-keep (a .rings) h (rw (unoffered, owned-before, o));
+          owners = write-keep (a .owners) h (rw (unoffered, owned-before, o));
+          active = write-keep (a .active) h (rw (unoffered, owned-before, o));
+        }
+
+  pub claiming-done : 30 ≤ p → p ≤ 30 → c ≡ claimedCells i pending was
+  unfolding claimedCells
+  claiming-done g h =
+      cells-as c _ _ _ (write-done (a .rings) g h) (write-done (a .owners) g h) (write-done (a .active) g h)
+
+-- the addresses of the first n endpoints
 pub addresses-length : (eps : List Endpoint) → length (addresses eps) ≡ length eps
 unfolding addresses
 addresses-length [] = refl
@@ -246,36 +381,14 @@ module _ (eps : List Endpoint) (n i : ℕ) (room : n ≤ length eps) where
   listed : length (addresses (take n eps)) ≡ n
   listed = addresses-length (take n eps) ∙ length-take-le n eps room
 
-  next : i < n → drop i (addresses (take n eps)) ≡ (getD eps i blank .address) ∷ drop (i + 1) (addresses (take n eps))
-  next h =
+  pub addresses-next : i < n → drop i (addresses (take n eps)) ≡ (getD eps i blank .address) ∷ drop (i + 1) (addresses (take n eps))
+  addresses-next h =
       let l = addresses (take n eps) in
       let a : getD l i 0 ≡ getD eps i blank .address = addresses-at (take n eps) i ∙ rw (getD-take n eps i blank h) in
       rw (← a, add-one i) (drop-cons l i 0 (rw listed h))
 
-  none : n ≤ i → drop i (addresses (take n eps)) ≡ []
-  none h = let g : length (addresses (take n eps)) ≤ i = rw listed h in drop-of-length-le (addresses (take n eps)) g
-
-  pub again-next :
-      (x : ℕ) → i < n →
-      elem x (drop i (addresses (take n eps))) ≡ eqb x (getD eps i blank .address) || elem x (drop (i + 1) (addresses (take n eps)))
-  unfolding elem
-  again-next x h = rw (next h)
-
-  pub again-none : (x : ℕ) → n ≤ i → elem x (drop i (addresses (take n eps))) ≡ false
-  unfolding elem
-  again-none x h = rw (none h)
-
-  pub fit-next :
-      i < n →
-      addressesFit (drop i (addresses (take n eps)))
-      ≡ (ltb (placeOf (getD eps i blank .address)) 30 && not (elem (getD eps i blank .address) (drop (i + 1) (addresses (take n eps)))))
-      && addressesFit (drop (i + 1) (addresses (take n eps)))
-  unfolding addressesFit
-  fit-next h = rw (next h)
-
-  pub fit-none : n ≤ i → addressesFit (drop i (addresses (take n eps))) ≡ true
-  unfolding addressesFit
-  fit-none h = rw (none h)
+  pub addresses-none : n ≤ i → drop i (addresses (take n eps)) ≡ []
+  addresses-none h = let g : length (addresses (take n eps)) ≤ i = rw listed h in drop-of-length-le (addresses (take n eps)) g
 
 -- `pending_rings`
 pending-step :
@@ -299,6 +412,23 @@ pending-next words rings by i h =
 pub pending-none : (words rings by : List ℕ) (i : ℕ) → length words ≤ i → pendingFrom (drop i words) rings by ≡ by
 unfolding pendingFrom
 pending-none words rings by i h = rw (drop-of-length-le words h)
+
+-- what `queues_of` and `endpoints_of` compute of a place
+pub dci-made : (p : ℕ) → p < 30 → 2 * (p % 15 + 1) + p / 15 ≡ dciAt p
+unfolding dciAt
+dci-made p h = go (decLt p 15)
+  where
+    go : Dec (p < 15) → 2 * (p % 15 + 1) + p / 15 ≡ cond (ltb p 15) (2 * (p + 1)) (2 * (p - 14) + 1)
+    go (yes l) = rw (lt-ltb p 15 l) (omega arith)
+    go (no l) = rw (le-ltb p 15 (omega arith)) (omega arith)
+
+pub address-made : (p : ℕ) → p < 30 → 128 * (p / 15) + p % 15 + 1 ≡ addressAt p
+unfolding addressAt
+address-made p h = go (decLt p 15)
+  where
+    go : Dec (p < 15) → 128 * (p / 15) + p % 15 + 1 ≡ cond (ltb p 15) (p + 1) (128 + (p - 14))
+    go (yes l) = rw (lt-ltb p 15 l) (omega arith)
+    go (no l) = rw (le-ltb p 15 (omega arith)) (omega arith)
 
 -- the arrays of `queues_of` are of its queues
 pub queues-dcis :

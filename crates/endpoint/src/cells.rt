@@ -3,10 +3,8 @@ use super::entry::Endpoint;
 use super::entry::Handle;
 use super::order;
 ghost use mathlib.Core.Path.{_≡_};
-ghost use mathlib.Core.Bool.{not, cond, _&&_};
-ghost use Prim.Native.Nat.{_≤_, _-_};
-ghost use lib.Dec.{eqb, ltb};
-ghost use Rattle.endpoint.specs.Cells.{Whole, noCells, withCell, isActive, cellsOf, owns, ownedRings, withActive};
+ghost use Prim.Native.Nat.{_<_, _≤_};
+ghost use Rattle.endpoint.specs.Cells.{Whole, noCells, withCell, cellsOf, isOwned, ownedRings, withActive};
 
 // Ring 0: no endpoint at that place.
 pub struct Cells {
@@ -31,17 +29,8 @@ pub fn no_cells() -> Cells
     }
 }
 
-fn is_active(h: Handle) -> bool
-    ensures { λ r. ⌜ r ≡ isActive h ⌝ }
-{
-    match h {
-        Handle::Active => true,
-        Handle::Revoked => false,
-    }
-}
-
 // A place past the end is none.
-fn with_cell(mut c: Cells, place: usize, ring: u64, owner: u8, on: bool) -> Cells
+pub fn with_cell(mut c: Cells, place: usize, ring: u64, owner: u8, on: bool) -> Cells
     requires { ⌜ Whole c ⌝ }
     ensures { λ r. ⌜ r ≡ withCell c place ring owner on ⌝ }
 {
@@ -62,8 +51,11 @@ pub fn cells_of(eps: [Endpoint; 30], owners: [u8; 30], n: usize) -> Cells
     let mut i = 0;
     while i < n {
         let e = eps[i];
-        let h = e.handle;
-        let on = is_active(h);
+        let handle = e.handle;
+        let on = match handle {
+            Handle::Active => true,
+            Handle::Revoked => false,
+        };
         let place = order::place_of(e.address);
         c = with_cell(c, place, e.ring, owners[i], on);
         i += 1;
@@ -71,28 +63,17 @@ pub fn cells_of(eps: [Endpoint; 30], owners: [u8; 30], n: usize) -> Cells
     c
 }
 
-fn owns(who: Owner, owner: u8) -> bool
-    ensures { λ r. ⌜ r ≡ owns who owner ⌝ }
+pub fn is_owned(who: Owner, c: Cells, place: usize) -> bool
+    requires { ⌜ place < 30 ⌝ }
+    ensures { λ r. ⌜ r ≡ isOwned who c place ⌝ }
 {
-    match who {
-        Owner::Any => true,
-        Owner::Interface(i) => owner == i,
-    }
-}
-
-pub fn is_owned(who: Owner, ring: u64, owner: u8) -> bool
-    ensures { λ r. ⌜ r ≡ not (eqb ring 0) && owns who owner ⌝ }
-{
-    if ring == 0 {
+    if c.rings[place] == 0 {
         return false;
     }
-    owns(who, owner)
-}
-
-fn owned_ring(who: Owner, ring: u64, owner: u8) -> u64
-    ensures { λ r. ⌜ r ≡ cond (not (eqb ring 0) && owns who owner) ring 0 ⌝ }
-{
-    if is_owned(who, ring, owner) { ring } else { 0 }
+    match who {
+        Owner::Any => true,
+        Owner::Interface(i) => c.owners[place] == i,
+    }
 }
 
 // The rings of an owner's endpoints by place, 0 elsewhere.
@@ -102,41 +83,28 @@ pub fn owned_rings(who: Owner, c: Cells) -> [u64; 30]
     let mut rings = [0u64; 30];
     let mut p = 0;
     while p < 30 {
-        rings[p] = owned_ring(who, c.rings[p], c.owners[p]);
+        let place = p;
         p += 1;
+        if is_owned(who, c, place) {
+            rings[place] = c.rings[place];
+        }
     }
     rings
-}
-
-// Whether an endpoint is active: one that is owned, while some are left to be.
-fn active_after(owned: bool, left: usize, on: bool) -> bool
-    ensures { λ r. ⌜ r ≡ cond owned (ltb 0 left) on ⌝ }
-{
-    if owned { 0 < left } else { on }
-}
-
-fn left_after(owned: bool, left: usize) -> usize
-    ensures { λ r. ⌜ r ≡ cond owned (left - 1) left ⌝ }
-{
-    if owned {
-        return if left == 0 { 0 } else { left - 1 };
-    }
-    left
 }
 
 // Of an owner's endpoints, by rising address, the first n active and the others revoked.
 pub fn with_active(who: Owner, n: usize, mut c: Cells) -> Cells
     ensures { λ r. ⌜ r ≡ withActive who n c ⌝ }
 {
-    let mut active = [false; 30];
-    let mut left = n;
+    let mut seen = 0;
     let mut p = 0;
     while p < 30 {
-        let owned = is_owned(who, c.rings[p], c.owners[p]);
-        active[p] = active_after(owned, left, c.active[p]);
-        left = left_after(owned, left);
+        let place = p;
         p += 1;
+        if is_owned(who, c, place) {
+            c.active[place] = seen < n;
+            seen += 1;
+        }
     }
-    c.active = active;
     c
 }

@@ -3,10 +3,9 @@ use super::cells::Cells;
 use super::order;
 ghost use mathlib.Core.Path.{_≡_};
 ghost use Prim.Native.Nat.{_≤_};
-ghost use lib.ListN.{take, drop};
-ghost use Rattle.laws.proofs.Distinct.{elem};
+ghost use lib.ListN.{take};
 ghost use Rattle.endpoint.specs.Endpoint.{addresses, addressesFit};
-ghost use Rattle.endpoint.specs.Cells.{handleOf, EndpointsAs};
+ghost use Rattle.endpoint.specs.Cells.{EndpointsAs};
 
 // Whether transfers may be submitted to an endpoint.
 pub enum Handle {
@@ -26,12 +25,6 @@ pub struct Endpoints {
     pub count: usize,
 }
 
-fn handle_of(on: bool) -> Handle
-    ensures { λ r. ⌜ r ≡ handleOf on ⌝ }
-{
-    if on { Handle::Active } else { Handle::Revoked }
-}
-
 // The arrays of some cells, by rising address, blank past the count.
 pub fn endpoints_of(c: Cells) -> Endpoints
     ensures { λ r. ⌜ EndpointsAs r c ⌝ }
@@ -46,10 +39,16 @@ pub fn endpoints_of(c: Cells) -> Endpoints
     let mut p = 0;
     while p < 30 {
         let ring = c.rings[p];
+        let handle = if c.active[p] {
+            Handle::Active
+        } else {
+            Handle::Revoked
+        };
+        // Numbers 1 to 15 of each direction; IN addresses have the top bit.
         let e = Endpoint {
-            address: order::address_at(p),
+            address: (128 * (p / 15) + p % 15 + 1) as u8,
             ring: ring,
-            handle: handle_of(c.active[p]),
+            handle: handle,
         };
         let owner = c.owners[p];
         p += 1;
@@ -66,38 +65,24 @@ pub fn endpoints_of(c: Cells) -> Endpoints
     }
 }
 
-// Whether an address stands among the first n endpoints from an index on.
-fn address_again(eps: [Endpoint; 30], from: usize, n: usize, address: u8) -> bool
-    requires { ⌜ n ≤ 30 ⌝ }
-    ensures { λ r. ⌜ r ≡ elem address (drop from (addresses (take n eps))) ⌝ }
-{
-    let mut i = from;
-    while i < n {
-        let e = eps[i];
-        i += 1;
-        if e.address == address {
-            return true;
-        }
-    }
-    false
-}
-
 // Whether each of the first n endpoints has an address that an endpoint can have, and no two the same.
 pub fn addresses_fit(eps: [Endpoint; 30], n: usize) -> bool
     requires { ⌜ n ≤ 30 ⌝ }
     ensures { λ r. ⌜ r ≡ addressesFit (addresses (take n eps)) ⌝ }
 {
+    let mut taken = [false; 30];
     let mut i = 0;
     while i < n {
         let e = eps[i];
-        let a = e.address;
+        let place = order::place_of(e.address);
         i += 1;
-        if order::place_of(a) == 30 {
+        if place == 30 {
             return false;
         }
-        if address_again(eps, i, n, a) {
+        if taken[place] {
             return false;
         }
+        taken[place] = true;
     }
     true
 }

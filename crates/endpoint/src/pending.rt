@@ -4,9 +4,7 @@ use super::cells::Cells;
 use super::cells::Owner;
 use super::order;
 ghost use mathlib.Core.Path.{_≡_};
-ghost use mathlib.Core.Bool.{true, false};
-ghost use lib.ListN.{getD};
-ghost use Rattle.endpoint.specs.Cells.{pendingRings, claimed, claimedCells, QueuesAs};
+ghost use Rattle.endpoint.specs.Cells.{pendingRings, claimedCells, QueuesAs};
 
 // Endpoints and their rings side by side, by rising address.
 pub struct Queues {
@@ -25,7 +23,8 @@ pub fn queues_of(by: [u64; 30]) -> Queues
     let mut p = 0;
     while p < 30 {
         let ring = by[p];
-        let dci = order::dci_at(p);
+        // Twice the number, and 1 more for IN.
+        let dci = (2 * (p % 15 + 1) + p / 15) as u8;
         p += 1;
         if ring != 0 {
             dcis[n] = dci;
@@ -40,24 +39,16 @@ pub fn queues_of(by: [u64; 30]) -> Queues
     }
 }
 
-// A ring past the end is 0.
-fn ring_at(rings: &[u64], i: usize) -> u64
-    ensures { λ r. ⌜ r ≡ getD (now (rings .entry)) i 0 ⌝ }
-{
-    if i < rings.len() { rings[i] } else { 0 }
-}
-
-// The rings offered for endpoint words, by place: of a repeated address the last word's.
+// The rings offered for endpoint words, by place: of a repeated address the last word's, 0 where there is none.
 pub fn pending_rings(words: &[u32], rings: &[u64]) -> [u64; 30]
     ensures { λ r. ⌜ r ≡ pendingRings (now (words .entry)) (now (rings .entry)) ⌝ }
 {
     let mut by = [0u64; 30];
-    let n = words.len();
     let mut i = 0;
-    while i < n {
+    while i < words.len() {
         let e = descriptor::endpoint_descriptor(words[i]);
         let place = order::place_of(e.address);
-        let ring = ring_at(rings, i);
+        let ring = if i < rings.len() { rings[i] } else { 0 };
         i += 1;
         if place < 30 {
             by[place] = ring;
@@ -66,52 +57,21 @@ pub fn pending_rings(words: &[u32], rings: &[u64]) -> [u64; 30]
     by
 }
 
-// What stands at one place.
-struct Cell {
-    ring: u64,
-    owner: u8,
-    active: bool,
-}
-
-// A pending ring is the interface's, active; without one an endpoint of its own is gone.
-fn claimed_cell(interface: u8, pending: u64, owned: bool, was: Cell) -> Cell
-    ensures { λ r. ⌜ (r .ring ≡ claimed pending owned pending 0 (was .ring)) × (r .owner ≡ claimed pending owned interface 0 (was .owner)) × (r .active ≡ claimed pending owned true false (was .active)) ⌝ }
-{
-    if pending != 0 {
-        return Cell {
-            ring: pending,
-            owner: interface,
-            active: true,
-        };
-    }
-    if owned {
-        return Cell {
-            ring: 0,
-            owner: 0,
-            active: false,
-        };
-    }
-    was
-}
-
-// The cells after a claim of an interface; with no ring pending, after its release.
-pub fn claimed_cells(interface: u8, pending: [u64; 30], c: Cells) -> Cells
+// The cells after a claim of an interface: a pending ring is its own, active; without one an endpoint of its own is gone. With no
+// ring pending, after its release.
+pub fn claimed_cells(interface: u8, pending: [u64; 30], mut c: Cells) -> Cells
     ensures { λ r. ⌜ r ≡ claimedCells interface pending c ⌝ }
 {
-    let mut out = cells::no_cells();
     let mut p = 0;
     while p < 30 {
-        let was = Cell {
-            ring: c.rings[p],
-            owner: c.owners[p],
-            active: c.active[p],
-        };
-        let owned = cells::is_owned(Owner::Interface(interface), was.ring, was.owner);
-        let cell = claimed_cell(interface, pending[p], owned, was);
-        out.rings[p] = cell.ring;
-        out.owners[p] = cell.owner;
-        out.active[p] = cell.active;
+        let place = p;
+        let ring = pending[p];
         p += 1;
+        if ring != 0 {
+            c = cells::with_cell(c, place, ring, interface, true);
+        } else if cells::is_owned(Owner::Interface(interface), c, place) {
+            c = cells::with_cell(c, place, 0, 0, false);
+        }
     }
-    out
+    c
 }

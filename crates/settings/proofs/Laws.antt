@@ -31,7 +31,8 @@ use Rattle.settings.specs.Match.{hasPlace, same, eachFrom, eachPlace, ow
 use Rattle.settings.specs.declared.held.Settings.{Settings}
 use Rattle.settings.specs.Held.{Held, heldIn, interfacesOf, alternatesOf, isHeld, alternateOf, withoutSetting, withSetting, foundWords, settingWords, isFound, eachSetting, allFound, settingsSound, SettingsAs}
 
-eqb-turned : (a b : ℕ) → eqb a b ≡ eqb b a
+-- A test of equality turned around.
+pub eqb-turned : (a b : ℕ) → eqb a b ≡ eqb b a
 eqb-turned a b = go (decided (eqb b a))
   where
     go : Decided (eqb b a) → eqb a b ≡ eqb b a
@@ -252,7 +253,7 @@ module _ (i a : ℕ) where
 
 -- Tests of every setting.
 module _ (test : ℕ → ℕ → Bool) where
-  passed-append : (hs gs : List Held) → eachSetting test (hs ++ gs) ≡ eachSetting test hs && eachSetting test gs
+  pub passed-append : (hs gs : List Held) → eachSetting test (hs ++ gs) ≡ eachSetting test hs && eachSetting test gs
   unfolding eachSetting
   passed-append [] gs = refl
   passed-append (h ∷ hs) gs =

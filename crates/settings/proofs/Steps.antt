@@ -2,28 +2,31 @@
 use Prim.Native.Nat.{ℕ, zero, suc, _+_, _-_, _≤_, _<_}
 use mathlib.Core.Path.{_≡_, refl, sym, _∙_}
 use mathlib.Core.Logic.{inl, inr}
-use mathlib.Core.Bool.{Bool, true, false, not, cond, _&&_, _||_, or-true, or-false, Bool·not-not}
+use mathlib.Core.Bool.{Bool, true, false, not, cond, _&&_, _||_, or-true, or-false, and-false, Bool·not-not, Bool·beq}
 use mathlib.Core.List.{List, [], _∷_, _++_, append-assoc, append-nil}
 use native.Mathlib.Numerals.{add-one, one-add}
 use native.Mathlib.Nat.{add-zero}
 use native.Mathlib.Omega.{arith}
+use native.Mathlib.Decide.{decLt}
 use borrow.Author.Tests.{eq-eqb, ne-eqb, eqb-true, eqb-false}
 use lib.Dec.{eqb}
 use lib.ListN.{length, getD, set, drop, length-append, drop-of-length-le}
 use lib.Seq.{drop-drop, getD-drop, getD-set-same, getD-set-other, set-append-seam, drop-cons, ext-getD}
-use Rattle.laws.proofs.Cases.{Decided, decided}
-use Rattle.laws.proofs.Distinct.{elem, distinct}
+use Rattle.laws.proofs.Tests.{and-left, and-right, not-both}
+use Rattle.laws.proofs.Cases.{Decided, decided, false-if}
+use Rattle.laws.proofs.Distinct.{elem, distinct, elem-append}
+use Rattle.configuration.specs.Lookup.{findEndpoints}
 use Rattle.descriptor.specs.Word.{endpointDescriptor}
 use Rattle.endpoint.specs.Order.{placeOf}
 use Rattle.endpoint.specs.Endpoint.{padded}
-use Rattle.endpoint.specs.Cells.{isOwned, ownedRings}
+use Rattle.endpoint.specs.Cells.{isOwned, owns, ownedRings}
 use Rattle.endpoint.specs.declared.cells.Owner.the-variants.{Interface}
 use Rattle.endpoint.specs.declared.cells.Cells.{Cells}
-use Rattle.endpoint.proofs.Laws.{tabulated-at, tabulated-length, owned-zero}
+use Rattle.endpoint.proofs.Laws.{tabulated-at, tabulated-length, owned-at, owned-zero}
 use Rattle.settings.specs.declared.held.Settings.{Settings}
-use Rattle.settings.specs.Held.{Held, heldIn, interfacesOf, alternatesOf, isHeld, withoutSetting, eachSetting, SettingsAs}
-use Rattle.settings.specs.Match.{hasPlace, placesOf, same, eachFrom, eachPlace, ownsPlaces, addressesFree}
-use Rattle.settings.proofs.Laws.{held-elem, interfaces-any, interfaces-length, alternates-length, interfaces-append, alternates-append, each-same}
+use Rattle.settings.specs.Held.{Held, heldIn, interfacesOf, alternatesOf, isHeld, withoutSetting, isFound, eachSetting, allFound, settingsSound, SettingsAs}
+use Rattle.settings.specs.Match.{hasPlace, placesOf, same, eachFrom, eachPlace, ownsPlaces, allOwn, ownersHeld, endpointsMatch, addressesFree}
+use Rattle.settings.proofs.Laws.{eqb-turned, passed-append, held-elem, interfaces-any, interfaces-length, alternates-length, interfaces-append, alternates-append, each-same}
 
 abbrev pub heldAt : List ℕ → List ℕ → ℕ → Held
 heldAt is alts i = record { interface = getD is i 0; alternate = getD alts i 0 }
@@ -76,18 +79,6 @@ module _ (is : List ℕ) (n i : ℕ) where
   unfolding isHeld
   again-none alts x h = rw (held-none alts h)
 
-  pub distinct-next :
-      (alts : List ℕ) → i < n →
-      distinct (interfacesOf (heldIn (n - i) (drop i is) alts))
-      ≡ not (isHeld (getD is i 0) (heldIn (n - (i + 1)) (drop (i + 1) is) alts))
-      && distinct (interfacesOf (heldIn (n - (i + 1)) (drop (i + 1) is) alts))
-  unfolding distinct
-  distinct-next alts h = rw (held-elem, interfaces-next alts h)
-
-  pub distinct-none : (alts : List ℕ) → n ≤ i → distinct (interfacesOf (heldIn (n - i) (drop i is) alts)) ≡ true
-  unfolding distinct interfacesOf
-  distinct-none alts h = rw (held-none alts h)
-
 -- The test of one setting.
 module _ (test : ℕ → ℕ → Bool) (is alts : List ℕ) (n i : ℕ) where
   pub passed-next :
@@ -131,6 +122,85 @@ module _ (is alts : List ℕ) (j i : ℕ) where
       getD is i 0 ≡ j → withoutSetting j (heldIn (i + 1) is alts) ≡ withoutSetting j (heldIn i is alts)
   unfolding withoutSetting
   without-out h = rw (add-one i, held-snoc i is alts, without-append j, eq-eqb (getD is i 0) j h, append-nil)
+
+-- `settings_sound`: one setting more after sound ones.
+distinct-snoc : (l : List ℕ) (x : ℕ) → distinct (l ++ (x ∷ [])) ≡ (distinct l && not (elem x l))
+unfolding distinct elem
+distinct-snoc [] x = refl
+distinct-snoc (y ∷ l) x =
+    rw (distinct-snoc l x, elem-append y l (x ∷ []), eqb-turned x y) (go (elem y l) (eqb y x) (distinct l) (elem x l))
+  where
+    go : (e t d f : Bool) → (not (e || (t || false)) && (d && not f)) ≡ ((not e && d) && not (t || f))
+    go true t d f = refl
+    go false true true f = refl
+    go false true false f = refl
+    go false false d f = refl
+
+sound-put :
+    (list : List ℕ) (hs : List Held) (h : Held) →
+    settingsSound list (hs ++ (h ∷ []))
+    ≡ (settingsSound list hs && (not (isHeld (h .interface) hs) && isFound (findEndpoints list (h .interface) (h .alternate))))
+unfolding settingsSound allFound eachSetting interfacesOf
+sound-put list hs h =
+    rw (
+      interfaces-append hs (h ∷ []),
+      distinct-snoc (interfacesOf hs) (h .interface),
+      passed-append (λ i a. isFound (findEndpoints list i a)) hs (h ∷ []),
+      held-elem (h .interface) hs,
+    )
+    (go (distinct (interfacesOf hs)) (elem (h .interface) (interfacesOf hs)) (eachSetting (λ i a. isFound (findEndpoints list i a)) hs)
+    (isFound (findEndpoints list (h .interface) (h .alternate))))
+  where
+    go : (d e a f : Bool) → ((d && not e) && (a && (f && true))) ≡ ((d && a) && (not e && f))
+    go false e a f = refl
+    go true true true f = refl
+    go true true false f = refl
+    go true false a true = refl
+    go true false a false = refl
+
+module _ (list is alts : List ℕ) where
+  abbrev Fresh : ℕ → Bool
+  Fresh i = not (isHeld (getD is i 0) (heldIn i is alts)) && isFound (findEndpoints list (getD is i 0) (getD alts i 0))
+
+  sound-step :
+      (i : ℕ) → settingsSound list (heldIn (i + 1) is alts) ≡ (settingsSound list (heldIn i is alts) && Fresh i)
+  sound-step i = rw (add-one i, held-snoc i is alts) (sound-put list (heldIn i is alts) (heldAt is alts i))
+
+  sound-first :
+      (n k : ℕ) → k ≤ n → settingsSound list (heldIn n is alts) ≡ true → settingsSound list (heldIn k is alts) ≡ true
+  sound-first zero k h e = let s : k ≡ zero = omega arith in rw s e
+  sound-first (suc n) k h e =
+      go (decLt n k)
+      (λ l. sound-first n k l (and-left (settingsSound list (heldIn n is alts)) (Fresh n) (sym (sound-step n) ∙ rw (add-one n) e)))
+    where
+      go : Dec (n < k) → (k ≤ n → settingsSound list (heldIn k is alts) ≡ true) → settingsSound list (heldIn k is alts) ≡ true
+      go (yes l) f = let s : k ≡ suc n = omega arith in rw s e
+      go (no l) f = f (omega arith)
+
+  not-sound : (n i : ℕ) → i < n → Fresh i ≡ false → settingsSound list (heldIn n is alts) ≡ false
+  not-sound n i h f =
+      false-if (settingsSound list (heldIn n is alts))
+      (λ e. not-both (Fresh i) (and-right (settingsSound list (heldIn i is alts)) (Fresh i) (sym (sound-step i) ∙ sound-first n (i + 1) (omega arith) e)) f)
+
+  pub sound-none : settingsSound list (heldIn 0 is alts) ≡ true
+  unfolding settingsSound allFound eachSetting heldIn interfacesOf distinct
+  sound-none = refl
+
+  pub sound-next :
+      (i : ℕ) → settingsSound list (heldIn i is alts) ≡ true → isHeld (getD is i 0) (heldIn i is alts) ≡ false →
+      isFound (findEndpoints list (getD is i 0) (getD alts i 0)) ≡ true → settingsSound list (heldIn (i + 1) is alts) ≡ true
+  sound-next i s h f = rw (sound-step i, s, h, f)
+
+  -- its interface is held already
+  pub sound-again :
+      (n i : ℕ) → i < n → isHeld (getD is i 0) (heldIn i is alts) ≡ true → settingsSound list (heldIn n is alts) ≡ false
+  sound-again n i h e = not-sound n i h (rw e)
+
+  -- or lookup does not find its alternate
+  pub sound-lost :
+      (n i : ℕ) → i < n → isFound (findEndpoints list (getD is i 0) (getD alts i 0)) ≡ false →
+      settingsSound list (heldIn n is alts) ≡ false
+  sound-lost n i h e = not-sound n i h (rw e (and-false (not (isHeld (getD is i 0) (heldIn i is alts)))))
 
 -- An array filled from its front, one more.
 padded-put :
@@ -218,6 +288,14 @@ place-at : (words : List ℕ) (p : ℕ) → p < 30 → getD (placesOf words) p f
 unfolding placesOf
 place-at words p h = tabulated-at (λ q. hasPlace q words) 30 p false h
 
+-- A place has a word exactly if it has a ring.
+pub same-test : (word none : Bool) → same word (not none) ≡ not (Bool·beq word none)
+unfolding same
+same-test true true = refl
+same-test true false = refl
+same-test false true = refl
+same-test false false = refl
+
 -- The endpoints of an interface against the places of its words.
 pub owns-same :
     (places : List Bool) (words rings : List ℕ) (i : ℕ) (c : Cells) →
@@ -229,10 +307,29 @@ owns-same places words rings i c e f =
     (λ p h. rw (e, f, place-at words p h, owned-zero (Interface i) c p h, Bool·not-not (isOwned (Interface i) c p)))
 
 -- The endpoints of other interfaces against the places of words.
+own-ring : (r o i : ℕ) → eqb r (cond (not (eqb r 0) && eqb o i) r 0) ≡ (eqb r 0 || eqb o i)
+own-ring r o i = go (eqb r 0) (eqb o i) refl
+  where
+    go : (t s : Bool) → eqb r 0 ≡ t → eqb r (cond (not t && s) r 0) ≡ (t || s)
+    go true s e = e
+    go false true e = eq-eqb r r refl
+    go false false e = e
+
 pub free-same :
-    (places : List Bool) (words : List ℕ) (i : ℕ) (c : Cells) →
-    places ≡ placesOf words →
-    addressesFree words i c
-    ≡ eachPlace (λ p. not (getD places p false) || (eqb (getD (c .rings) p 0) 0 || eqb (getD (c .owners) p 0) i))
-unfolding addressesFree
-free-same places words i c e = each-same _ _ (λ p h. rw (e, place-at words p h))
+    (places : List Bool) (words own : List ℕ) (i : ℕ) (c : Cells) →
+    places ≡ placesOf words → own ≡ ownedRings (Interface i) c →
+    addressesFree words i c ≡ eachPlace (λ p. not (getD places p false) || eqb (getD (c .rings) p 0) (getD own p 0))
+unfolding addressesFree isOwned owns
+free-same places words own i c e f =
+    each-same _ _
+    (λ p h. rw (e, f, place-at words p h, owned-at (Interface i) c p h, own-ring (getD (c .rings) p 0) (getD (c .owners) p 0) i))
+
+-- `endpoints_match`: first the endpoints of each setting, then the owners.
+module _ (list : List ℕ) (hs : List Held) (c : Cells) where
+  pub match-not : allOwn list hs c ≡ false → endpointsMatch list hs c ≡ false
+  unfolding endpointsMatch
+  match-not e = rw e
+
+  pub match-owners : allOwn list hs c ≡ true → endpointsMatch list hs c ≡ ownersHeld hs c
+  unfolding endpointsMatch
+  match-owners e = rw e

@@ -2,10 +2,9 @@
 use configuration::Found;
 ghost use mathlib.Core.Path.{_≡_};
 ghost use mathlib.Core.List.{List};
-ghost use Prim.Native.Nat.{ℕ, _≤_, _-_};
-ghost use lib.ListN.{length, drop};
-ghost use Rattle.laws.proofs.Distinct.{distinct};
-ghost use Rattle.settings.specs.Held.{heldIn, interfacesOf, isHeld, alternateOf, withoutSetting, withSetting, settingWords, isFound, allFound, settingsSound, SettingsAs};
+ghost use Prim.Native.Nat.{ℕ, _≤_};
+ghost use lib.ListN.{length};
+ghost use Rattle.settings.specs.Held.{heldIn, isHeld, alternateOf, withoutSetting, withSetting, settingWords, settingsSound, SettingsAs};
 
 pub struct Settings {
     pub interfaces: [u8; 32],
@@ -13,12 +12,12 @@ pub struct Settings {
     pub count: usize,
 }
 
-// Whether an interface is held, by a setting from an index on.
-fn held_from(interfaces: [u8; 32], from: usize, n: usize, interface: u8) -> bool
+// Whether an interface is held, whatever its alternate.
+pub fn is_held(interfaces: [u8; 32], n: usize, interface: u8) -> bool
     requires { ⌜ n ≤ 32 ⌝ }
-    ensures { λ r. ⌜ ((alternates : List ℕ) → r ≡ isHeld interface (heldIn (n - from) (drop from interfaces) alternates)) ⌝ }
+    ensures { λ r. ⌜ ((alternates : List ℕ) → r ≡ isHeld interface (heldIn n interfaces alternates)) ⌝ }
 {
-    let mut i = from;
+    let mut i = 0;
     while i < n {
         let held = interfaces[i];
         i += 1;
@@ -27,14 +26,6 @@ fn held_from(interfaces: [u8; 32], from: usize, n: usize, interface: u8) -> bool
         }
     }
     false
-}
-
-// Whether an interface is held, whatever its alternate.
-pub fn is_held(interfaces: [u8; 32], n: usize, interface: u8) -> bool
-    requires { ⌜ n ≤ 32 ⌝ }
-    ensures { λ r. ⌜ ((alternates : List ℕ) → r ≡ isHeld interface (heldIn n interfaces alternates)) ⌝ }
-{
-    held_from(interfaces, 0, n, interface)
 }
 
 // The alternate that an interface holds, 0 where it holds none.
@@ -54,21 +45,6 @@ pub fn alternate_of(interfaces: [u8; 32], alternates: [u8; 32], n: usize, interf
     0
 }
 
-fn interfaces_distinct(interfaces: [u8; 32], n: usize) -> bool
-    requires { ⌜ n ≤ 32 ⌝ }
-    ensures { λ r. ⌜ ((alternates : List ℕ) → r ≡ distinct (interfacesOf (heldIn n interfaces alternates))) ⌝ }
-{
-    let mut i = 0;
-    while i < n {
-        let interface = interfaces[i];
-        i += 1;
-        if held_from(interfaces, i, n, interface) {
-            return false;
-        }
-    }
-    true
-}
-
 // The endpoint words of a setting; none where lookup finds none.
 pub fn setting_words<'a>(list: &'a [u32], interface: u8, alternate: u8) -> &'a [u32]
     ensures { λ r. ⌜ now r ≡ settingWords (now (list .entry)) interface alternate ⌝ }
@@ -83,39 +59,25 @@ pub fn setting_words<'a>(list: &'a [u32], interface: u8, alternate: u8) -> &'a [
     }
 }
 
-fn is_found(found: Found) -> bool
-    ensures { λ r. ⌜ r ≡ isFound found ⌝ }
-{
-    match found {
-        Found::Endpoints { .. } => true,
-        Found::NotFound => false,
-    }
-}
-
-fn all_found(list: &[u32], interfaces: [u8; 32], alternates: [u8; 32], n: usize) -> bool
-    requires { ⌜ n ≤ 32 ⌝ }
-    ensures { λ r. ⌜ r ≡ allFound (now (list .entry)) (heldIn n interfaces alternates) ⌝ }
-{
-    let mut i = 0;
-    while i < n {
-        let found = configuration::find_interface_endpoints(list, interfaces[i], alternates[i]);
-        i += 1;
-        if !is_found(found) {
-            return false;
-        }
-    }
-    true
-}
-
 // Whether the held interfaces are distinct and lookup finds their alternates.
 pub fn settings_sound(list: &[u32], interfaces: [u8; 32], alternates: [u8; 32], n: usize) -> bool
     requires { ⌜ n ≤ 32 ⌝ }
     ensures { λ r. ⌜ r ≡ settingsSound (now (list .entry)) (heldIn n interfaces alternates) ⌝ }
 {
-    if !interfaces_distinct(interfaces, n) {
-        return false;
+    let mut i = 0;
+    while i < n {
+        let interface = interfaces[i];
+        if is_held(interfaces, i, interface) {
+            return false;
+        }
+        let found = configuration::find_interface_endpoints(list, interface, alternates[i]);
+        i += 1;
+        match found {
+            Found::Endpoints { .. } => {}
+            Found::NotFound => return false,
+        }
     }
-    all_found(list, interfaces, alternates, n)
+    true
 }
 
 // The settings without an interface's.

@@ -1,8 +1,10 @@
 use mathlib.Core.Path.{_≡_, sym, _∙_}
 use Prim.Native.Nat.{_≤_, _-_}
-use lib.ListN.{drop}
+use lib.ListN.{getD, drop}
+use mathlib.Core.Logic.{⊎-elim}
 use native.Mathlib.Nat.{sub-zero}
-use Rattle.endpoint.specs.Cells.{Whole, noCells, cellsFrom, cellsOf}
+use Rattle.endpoint.specs.Endpoint.{blank}
+use Rattle.endpoint.specs.Cells.{Whole, noCells, isActive, cellsFrom, cellsOf}
 use Rattle.endpoint.proofs.Steps.{cells-next, cells-done, whole-none, whole-cell}
 use borrow.Author.Needs.{needs}
 use Rattle.endpoint.proofs.cells.cells_of.Statement.{statement}
@@ -27,8 +29,11 @@ mul-e c = search needs
 array-copy-out-e : tie.Need-array-copy-out-e Inv-loop μ-loop
 array-copy-out-e c = search needs
 
-is-active-requires : tie.Need-is-active-requires Inv-loop μ-loop
-is-active-requires c κs = search needs
+enum-told : tie.Need-enum-told Inv-loop μ-loop
+enum-told c = search needs
+
+enum-told-2 : tie.Need-enum-told-2 Inv-loop μ-loop
+enum-told-2 c = search needs
 
 place-of-requires : tie.Need-place-of-requires Inv-loop μ-loop
 place-of-requires c κs = search needs
@@ -45,15 +50,20 @@ add-i c = search needs
 loop-less : tie.Need-loop-less Inv-loop μ-loop
 loop-less c = search needs
 
+on-made :
+    (c : tie.At-match-came Inv-loop μ-loop) →
+    c .match .on ≡ isActive (getD (c .before .before .before .before .before .args .t1) (c .before .before .before .loop .i) blank .handle)
+unfolding isActive
+on-made c = ⊎-elim (λ w. rw (w .1 .given .1) (w .2)) (λ w. rw (w .1 .given .1) (w .2)) (c .match .came)
+
 loop-again : tie.Need-loop-again Inv-loop μ-loop
-loop-again c =
-    let l = c .before .before .before .before .before .loop in (
-      search needs,
-      rw (c .with-cell .ensures) (whole-cell _ _ _ _ _ (l .inv .1)),
-      l .inv .2
-          ∙ cells-next _ _ _ _ _ (c .before .before .before .before .loop-test .taken)
-          ∙ rw (c .with-cell .ensures, c .before .place-of .ensures .0, c .before .before .is-active .ensures),
-    )
+loop-again c = let l = c .before .before .before .before .before .loop in (
+  search needs,
+  rw (c .with-cell .ensures) (whole-cell _ _ _ _ _ (l .inv .1)),
+  l .inv .2
+      ∙ cells-next _ _ _ _ _ (c .before .before .before .before .loop-test .taken)
+      ∙ rw (c .with-cell .ensures, c .before .place-of .ensures .0, on-made (c .before .before)),
+)
 
 returns : tie.Need-returns Inv-loop μ-loop
 unfolding cellsOf
@@ -69,7 +79,8 @@ cells-of-spec =
     loop-holds
     mul-e
     array-copy-out-e
-    is-active-requires
+    enum-told
+    enum-told-2
     place-of-requires
     array-read-with-cell
     with-cell-requires

@@ -1,73 +1,46 @@
-use mathlib.Core.Path.{_≡_, _∙_}
-use Prim.Native.Nat.{_≤_, _-_, _+_}
-use native.Mathlib.Omega.{arith}
-use lib.ListN.{length, take, length-set}
-use mathlib.Core.List.{_++_}
-use Rattle.endpoint.specs.Cells.{isOwned, withActive, activeFrom}
-use Rattle.endpoint.proofs.Steps.{active-next, active-done}
+use mathlib.Core.Path.{sym, _∙_}
+use Prim.Native.Nat.{_≤_, _-_}
+use Rattle.endpoint.proofs.Steps.{Activated, activated-none, activated-next, activated-keep, activated-done}
 use borrow.Author.Needs.{needs}
 use Rattle.endpoint.proofs.cells.with_active.Statement.{statement}
 use Rattle.endpoint.proofs.cells.with_active.Tie as tie
 
 abbrev Inv-loop : tie.InvT-loop
-Inv-loop who n c active₀ left₀ p₀ active left p =
-    (p ≤ 30)
-    × (length active ≡ 30)
-    × (activeFrom 30 0 who n c ≡ take p active ++ activeFrom (30 - p) p who left c)
+Inv-loop who n c₀ seen₀ p₀ c seen p =
+    (p ≤ 30) × (seen ≤ p) × Activated who n c₀ seen p c
 
 abbrev μ-loop : tie.MeasureT-loop
-μ-loop who n c active₀ left₀ p₀ active left p = 30 - p
+μ-loop who n c₀ seen₀ p₀ c seen p = 30 - p
 
 loop-holds : tie.Need-loop-holds Inv-loop μ-loop
-loop-holds c = search needs
+loop-holds c = (search needs, search needs, activated-none _ _ _ (search needs))
 
-mul-is-owned : tie.Need-mul-is-owned Inv-loop μ-loop
-mul-is-owned c = search needs
-
-element-copy-out-is-owned : tie.Need-element-copy-out-is-owned Inv-loop μ-loop
-element-copy-out-is-owned c = search needs
-
-element-copy-out-is-owned-2 : tie.Need-element-copy-out-is-owned-2 Inv-loop μ-loop
-element-copy-out-is-owned-2 c = search needs
+add-p : tie.Need-add-p Inv-loop μ-loop
+add-p c = search needs
 
 is-owned-requires : tie.Need-is-owned-requires Inv-loop μ-loop
 is-owned-requires c κs = search needs
 
-element-copy-out-active-after : tie.Need-element-copy-out-active-after Inv-loop μ-loop
-element-copy-out-active-after c = search needs
+element-write-c : tie.Need-element-write-c Inv-loop μ-loop
+element-write-c c = search needs
 
-active-after-requires : tie.Need-active-after-requires Inv-loop μ-loop
-active-after-requires c κs = search needs
-
-array-write-active : tie.Need-array-write-active Inv-loop μ-loop
-array-write-active c = search needs
-
-left-after-requires : tie.Need-left-after-requires Inv-loop μ-loop
-left-after-requires c κs = search needs
-
-add-p : tie.Need-add-p Inv-loop μ-loop
-add-p c = search needs
+add-seen : tie.Need-add-seen Inv-loop μ-loop
+add-seen c = search needs
 
 loop-less : tie.Need-loop-less Inv-loop μ-loop
 loop-less c = search needs
 
 loop-again : tie.Need-loop-again Inv-loop μ-loop
-unfolding isOwned
-loop-again c =
-    let l = c .before .before .before .before .before .before .before .loop in (
-      search needs,
-      length-set (l .active) (l .p) (c .before .active-after .result) ∙ l .inv .1,
-      l .inv .2
-          ∙ active-next _ _ 30 (l .active) (l .p) _ _ _ (c .before .before .before .before .before .before .loop-test .taken) (omega arith)
-          (c .before .active-after .ensures ∙ rw (c .before .before .before .is-owned .ensures))
-          (c .left-after .ensures ∙ rw (c .before .before .before .is-owned .ensures)),
-    )
+loop-again c = (search needs, search needs, activated-next (c .before .before .before .loop .inv .2) (c .before .before .loop-test .taken) (sym (c .before .is-owned .ensures) ∙ c .if1 .taken))
+
+loop-less-2 : tie.Need-loop-less-2 Inv-loop μ-loop
+loop-less-2 c = search needs
+
+loop-again-2 : tie.Need-loop-again-2 Inv-loop μ-loop
+loop-again-2 c = (search needs, search needs, activated-keep (c .before .before .before .loop .inv .2) (c .before .before .loop-test .taken) (sym (c .before .is-owned .ensures) ∙ c .if1 .left))
 
 returns : tie.Need-returns Inv-loop μ-loop
-unfolding withActive
-returns c =
-    let l = c .before .loop in
-    rw (l .inv .2, active-done (c .before .before .args .who) (c .before .before .args .t3) 30 (l .active) (l .p) (l .left) (c .loop-test .left) (omega arith))
+returns c = activated-done (c .before .loop .inv .2) (c .loop-test .left)
 
 pub with-active-spec : {M : Type 1} → statement M
 with-active-spec =
@@ -76,15 +49,12 @@ with-active-spec =
     Inv-loop
     μ-loop
     loop-holds
-    mul-is-owned
-    element-copy-out-is-owned
-    element-copy-out-is-owned-2
-    is-owned-requires
-    element-copy-out-active-after
-    active-after-requires
-    array-write-active
-    left-after-requires
     add-p
+    is-owned-requires
+    element-write-c
+    add-seen
     loop-less
     loop-again
+    loop-less-2
+    loop-again-2
     returns)

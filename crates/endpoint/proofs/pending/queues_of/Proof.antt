@@ -4,7 +4,7 @@ use native.Mathlib.Omega.{arith}
 use lib.ListN.{length, getD}
 use Rattle.endpoint.specs.Order.{dciAt}
 use Rattle.endpoint.specs.Cells.{queuesOf}
-use Rattle.endpoint.proofs.Steps.{Filled, fill-none, fill-next, fill-skip, gathered-length, take-filled, queues-dcis, queues-rings}
+use Rattle.endpoint.proofs.Steps.{Filled, fill-none, fill-next, fill-skip, gathered-length, take-filled, queues-dcis, queues-rings, dci-made}
 use borrow.Author.Needs.{needs}
 use Rattle.endpoint.proofs.pending.queues_of.Statement.{statement}
 use Rattle.endpoint.proofs.pending.queues_of.Tie as tie
@@ -29,8 +29,17 @@ mul-ring c = search needs
 array-read-ring : tie.Need-array-read-ring Inv-loop μ-loop
 array-read-ring c = search needs
 
-dci-at-requires : tie.Need-dci-at-requires Inv-loop μ-loop
-dci-at-requires c κs = search needs
+add-dci : tie.Need-add-dci Inv-loop μ-loop
+add-dci c = search needs
+
+mul-dci : tie.Need-mul-dci Inv-loop μ-loop
+mul-dci c = search needs
+
+add-dci-2 : tie.Need-add-dci-2 Inv-loop μ-loop
+add-dci-2 c = search needs
+
+cast-dci : tie.Need-cast-dci Inv-loop μ-loop
+cast-dci c = search needs
 
 add-p : tie.Need-add-p Inv-loop μ-loop
 add-p c = search needs
@@ -51,27 +60,25 @@ loop-less : tie.Need-loop-less Inv-loop μ-loop
 loop-less c = search needs
 
 loop-again : tie.Need-loop-again Inv-loop μ-loop
-loop-again c =
-    let l = c .before .before .before .loop in (
-      search needs,
-      search needs,
-      search needs,
-      fill-next _ (l .inv .3) (c .before .before .loop-test .taken) (c .if1 .taken) (c .before .dci-at .ensures),
-      fill-next _ (l .inv .4) (c .before .before .loop-test .taken) (c .if1 .taken) refl,
-    )
+loop-again c = let l = c .before .before .loop in (
+  search needs,
+  search needs,
+  search needs,
+  fill-next _ (l .inv .3) (c .before .loop-test .taken) (c .if1 .taken) (dci-made (l .p) (c .before .loop-test .taken)),
+  fill-next _ (l .inv .4) (c .before .loop-test .taken) (c .if1 .taken) refl,
+)
 
 loop-less-2 : tie.Need-loop-less-2 Inv-loop μ-loop
 loop-less-2 c = search needs
 
 loop-again-2 : tie.Need-loop-again-2 Inv-loop μ-loop
-loop-again-2 c =
-    let l = c .before .before .before .loop in (
-      search needs,
-      search needs,
-      search needs,
-      fill-skip (l .inv .3) (c .if1 .left),
-      fill-skip (l .inv .4) (c .if1 .left),
-    )
+loop-again-2 c = let l = c .before .before .loop in (
+  search needs,
+  search needs,
+  search needs,
+  fill-skip (l .inv .3) (c .if1 .left),
+  fill-skip (l .inv .4) (c .if1 .left),
+)
 
 returns : tie.Need-returns Inv-loop μ-loop
 unfolding queuesOf
@@ -95,7 +102,10 @@ queues-of-spec =
     loop-holds
     mul-ring
     array-read-ring
-    dci-at-requires
+    add-dci
+    mul-dci
+    add-dci-2
+    cast-dci
     add-p
     array-write-dcis
     mul-rings

@@ -1,24 +1,77 @@
-use Prim.Native.Nat.{_-_}
+use Prim.Native.Nat.{_≤_, _-_}
+use mathlib.Core.Path.{_≡_, sym, _∙_}
+use mathlib.Core.Bool.{true}
+use native.Mathlib.Omega.{arith}
 use borrow.Author.Needs.{needs}
-use borrow.Author.Tests.{not-true, not-false}
-use Rattle.settings.specs.Held.{settingsSound}
+use Rattle.settings.specs.Held.{heldIn, isFound, settingsSound}
+use Rattle.settings.proofs.Steps.{sound-none, sound-next, sound-again, sound-lost}
 use Rattle.settings.proofs.held.settings_sound.Statement.{statement}
 use Rattle.settings.proofs.held.settings_sound.Tie as tie
 
-interfaces-distinct-requires : tie.Need-interfaces-distinct-requires
-interfaces-distinct-requires c κs = search needs
+abbrev Inv-loop : tie.InvT-loop
+Inv-loop list n interfaces alternates i₀ i =
+    (i ≤ n) × (settingsSound list (heldIn i interfaces alternates) ≡ true)
 
-returns : tie.Need-returns
-unfolding settingsSound
-returns c = rw (← c .before .interfaces-distinct .ensures _, not-true (c .before .interfaces-distinct .result) (c .if1 .taken))
+abbrev μ-loop : tie.MeasureT-loop
+μ-loop list n interfaces alternates i₀ i = n - i
 
-all-found-requires : tie.Need-all-found-requires
-all-found-requires c κs = search needs
+loop-holds : tie.Need-loop-holds Inv-loop μ-loop
+loop-holds c = (search needs, sound-none _ _ _)
 
-returns-2 : tie.Need-returns-2
-unfolding settingsSound
-returns-2 c = rw (← c .before .before .interfaces-distinct .ensures _, not-false (c .before .before .interfaces-distinct .result) (c .before .if1 .left)) (c .all-found .ensures)
+array-read-interface : tie.Need-array-read-interface Inv-loop μ-loop
+array-read-interface c = search needs
+
+is-held-requires : tie.Need-is-held-requires Inv-loop μ-loop
+is-held-requires c κs = search needs
+
+returns : tie.Need-returns Inv-loop μ-loop
+returns c = sym (sound-again _ _ _ _ (c .before .before .before .loop .i) (c .before .before .loop-test .taken) (sym (c .before .is-held .ensures _) ∙ c .if1 .taken))
+
+array-read-find-interface-endpoints : tie.Need-array-read-find-interface-endpoints Inv-loop μ-loop
+array-read-find-interface-endpoints c = search needs
+
+find-interface-endpoints-requires : tie.Need-find-interface-endpoints-requires Inv-loop μ-loop
+find-interface-endpoints-requires c κs = search needs
+
+add-i : tie.Need-add-i Inv-loop μ-loop
+add-i c = search needs
+
+enum-told : tie.Need-enum-told Inv-loop μ-loop
+enum-told c = search needs
+
+loop-less : tie.Need-loop-less Inv-loop μ-loop
+loop-less c = search needs
+
+loop-again : tie.Need-loop-again Inv-loop μ-loop
+unfolding isFound
+loop-again c = (search needs, sound-next _ _ _ (c .before .before .before .before .before .before .loop .i) (c .before .before .before .before .before .before .loop .inv .1) (sym (c .before .before .before .before .is-held .ensures _) ∙ c .before .before .before .if1 .left) (rw (← c .before .before .find-interface-endpoints .ensures, c .enum-told .given .1)))
+
+enum-told-2 : tie.Need-enum-told-2 Inv-loop μ-loop
+enum-told-2 c = search needs
+
+returns-2 : tie.Need-returns-2 Inv-loop μ-loop
+unfolding isFound
+returns-2 c = sym (sound-lost _ _ _ _ (c .before .before .before .before .before .before .loop .i) (c .before .before .before .before .before .loop-test .taken) (rw (← c .before .before .find-interface-endpoints .ensures, c .enum-told2 .given .1)))
+
+returns-3 : tie.Need-returns-3 Inv-loop μ-loop
+returns-3 c = let e : c .before .loop .i ≡ c .before .before .before .args .n = omega (arith, c .before .loop .inv .0, c .loop-test .left) in sym (rw (← e) (c .before .loop .inv .1))
 
 pub settings-sound-spec : {M : Type 1} → statement M
 settings-sound-spec =
-    tie.close (tie.spec interfaces-distinct-requires returns all-found-requires returns-2)
+    tie.close
+    (tie.spec
+    Inv-loop
+    μ-loop
+    loop-holds
+    array-read-interface
+    is-held-requires
+    returns
+    array-read-find-interface-endpoints
+    find-interface-endpoints-requires
+    add-i
+    enum-told
+    loop-less
+    loop-again
+    enum-told-2
+    returns-2
+    returns-3)

@@ -3,7 +3,7 @@ use mathlib.Core.Path.{_≡_, refl, sym, _∙_}
 use mathlib.Core.Bool.{_||_}
 use mathlib.Core.List.{List}
 use borrow.Author.Needs.{needs}
-use borrow.Author.Tests.{not-true, not-false}
+use borrow.Author.Tests.{eq-eqb, ne-eqb, not-true, not-false}
 use lib.Dec.{eqb}
 use lib.ListN.{getD}
 use Rattle.settings.specs.Held.{heldIn, isHeld}
@@ -23,36 +23,35 @@ loop-holds : tie.Need-loop-holds Inv-loop μ-loop
 unfolding ownersHeld eachPlace
 loop-holds c = (search needs, λ ys. refl)
 
-mul-owner-held : tie.Need-mul-owner-held Inv-loop μ-loop
-mul-owner-held c = search needs
+mul-ring : tie.Need-mul-ring Inv-loop μ-loop
+mul-ring c = search needs
 
-element-copy-out-owner-held : tie.Need-element-copy-out-owner-held Inv-loop μ-loop
-element-copy-out-owner-held c = search needs
+element-copy-out-ring : tie.Need-element-copy-out-ring Inv-loop μ-loop
+element-copy-out-ring c = search needs
 
-element-copy-out-owner-held-2 : tie.Need-element-copy-out-owner-held-2 Inv-loop μ-loop
-element-copy-out-owner-held-2 c = search needs
-
-owner-held-requires : tie.Need-owner-held-requires Inv-loop μ-loop
-owner-held-requires c κs = search needs
+element-copy-out-owner : tie.Need-element-copy-out-owner Inv-loop μ-loop
+element-copy-out-owner c = search needs
 
 add-p : tie.Need-add-p Inv-loop μ-loop
 add-p c = search needs
 
+is-held-requires : tie.Need-is-held-requires Inv-loop μ-loop
+is-held-requires c κs = search needs
+
 returns : tie.Need-returns Inv-loop μ-loop
-returns c =
-    let c4 = c .before .before .before .before in
-    let c5 = c4 .before in
-    λ ys. sym
-    (c5 .loop .inv .1 ys ∙ each-next _ 30 (c5 .loop .p) (c4 .loop-test .taken) ∙ rw (← c .before .owner-held .ensures ys, not-true (c .before .owner-held .result) (c .if1 .taken)))
+returns c = λ ys. sym (c .before .before .before .before .before .before .loop .inv .1 ys ∙ each-next _ 30 (c .before .before .before .before .before .before .loop .p) (c .before .before .before .before .before .loop-test .taken) ∙ rw (ne-eqb _ _ (c .before .before .if1 .taken), ← c .before .is-held .ensures ys, not-true (c .before .is-held .result) (c .if2 .taken)))
 
 loop-less : tie.Need-loop-less Inv-loop μ-loop
 loop-less c = search needs
 
 loop-again : tie.Need-loop-again Inv-loop μ-loop
-loop-again c =
-    let c4 = c .before .before .before .before in
-    let c5 = c4 .before in
-    (search needs, λ ys. c5 .loop .inv .1 ys ∙ each-next _ 30 (c5 .loop .p) (c4 .loop-test .taken) ∙ rw (← c .before .owner-held .ensures ys, not-false (c .before .owner-held .result) (c .if1 .left)))
+loop-again c = (search needs, λ ys. c .before .before .before .before .before .before .loop .inv .1 ys ∙ each-next _ 30 (c .before .before .before .before .before .before .loop .p) (c .before .before .before .before .before .loop-test .taken) ∙ rw (ne-eqb _ _ (c .before .before .if1 .taken), ← c .before .is-held .ensures ys, not-false (c .before .is-held .result) (c .if2 .left)))
+
+loop-less-2 : tie.Need-loop-less-2 Inv-loop μ-loop
+loop-less-2 c = search needs
+
+loop-again-2 : tie.Need-loop-again-2 Inv-loop μ-loop
+loop-again-2 c = (search needs, λ ys. c .before .before .before .before .loop .inv .1 ys ∙ each-next _ 30 (c .before .before .before .before .loop .p) (c .before .before .before .loop-test .taken) ∙ rw (eq-eqb _ _ (c .if1 .left)))
 
 returns-2 : tie.Need-returns-2 Inv-loop μ-loop
 returns-2 c = λ ys. sym (c .before .loop .inv .1 ys ∙ each-none _ 30 (c .before .loop .p) (c .loop-test .left))
@@ -64,12 +63,14 @@ owners-held-spec =
     Inv-loop
     μ-loop
     loop-holds
-    mul-owner-held
-    element-copy-out-owner-held
-    element-copy-out-owner-held-2
-    owner-held-requires
+    mul-ring
+    element-copy-out-ring
+    element-copy-out-owner
     add-p
+    is-held-requires
     returns
     loop-less
     loop-again
+    loop-less-2
+    loop-again-2
     returns-2)
