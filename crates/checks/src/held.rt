@@ -6,21 +6,8 @@ ghost use mathlib.Core.Path.{_≡_};
 ghost use mathlib.Core.List.{List};
 ghost use Prim.Native.Nat.{ℕ, _≤_};
 ghost use lib.ListN.{take};
-ghost use Rattle.configuration.specs.Lookup.{findEndpoints};
-ghost use Rattle.settings.specs.Held.{heldIn, isFound};
+ghost use Rattle.settings.specs.Held.{heldIn};
 ghost use Rattle.checks.specs.Offer.{heldCheck};
-
-// Whether an interface has an alternate 0.
-fn has_alternate(list: [u32; 256], n: usize, interface: u8) -> bool
-    requires { ⌜ n ≤ 256 ⌝ }
-    ensures { λ r. ⌜ r ≡ isFound (findEndpoints (take n list) interface 0) ⌝ }
-{
-    let found = configuration::find_interface_endpoints(&list[0..n], interface, 0);
-    match found {
-        Found::Endpoints { .. } => true,
-        Found::NotFound => false,
-    }
-}
 
 // 8, of an interface to be released.
 pub fn held_check(
@@ -36,8 +23,9 @@ pub fn held_check(
     if settings::is_held(interfaces, held, interface) {
         return Check::Pass;
     }
-    if has_alternate(list, n, interface) {
-        return Check::Pass;
+    let found = configuration::find_interface_endpoints(&list[0..n], interface, 0);
+    match found {
+        Found::Endpoints { .. } => Check::Pass,
+        Found::NotFound => Check::Refuse(Answer::NotFound),
     }
-    Check::Refuse(Answer::NotFound)
 }

@@ -8,27 +8,7 @@ ghost use Prim.Native.Nat.{_≤_};
 ghost use lib.ListN.{take};
 ghost use Rattle.endpoint.specs.Cells.{pendingRings};
 ghost use Rattle.settings.specs.Held.{settingWords};
-ghost use Rattle.checks.specs.Offer.{wordsCheck, offerCheck};
-
-// 9, 10, of the words that lookup found.
-fn words_check(
-    words: &[u32],
-    interface: u8,
-    c: Cells,
-    rings: &[u64],
-    control: u64,
-    quarantined: &[u64],
-) -> Check
-    ensures { λ r. ⌜ r ≡ wordsCheck (now (words .entry)) interface c (now (rings .entry)) control (now (quarantined .entry)) ⌝ }
-{
-    if !settings::addresses_free(words, interface, c) {
-        return Check::Refuse(Answer::InvalidParameter);
-    }
-    if ring::offer_ok(words.len(), rings, &c.rings, control, quarantined) {
-        return Check::Pass;
-    }
-    Check::Refuse(Answer::Rings)
-}
+ghost use Rattle.checks.specs.Offer.{offerCheck};
 
 // 8, 9, 10.
 pub fn list_check(
@@ -46,17 +26,19 @@ pub fn list_check(
     ensures { λ r. ⌜ r ≡ offerCheck (take n list) interface alternate c (now (rings .entry)) control (take m quarantined) ⌝ }
 {
     let words = &list[0..n];
-    let kept = &quarantined[0..m];
     let found = configuration::find_interface_endpoints(words, interface, alternate);
     match found {
-        Found::Endpoints { start, count } => words_check(
-            &words[start..start + count],
-            interface,
-            c,
-            rings,
-            control,
-            kept,
-        ),
+        Found::Endpoints { start, count } => {
+            let setting = &words[start..start + count];
+            if !settings::addresses_free(setting, interface, c) {
+                return Check::Refuse(Answer::InvalidParameter);
+            }
+            let kept = &quarantined[0..m];
+            if ring::offer_ok(count, rings, &c.rings, control, kept) {
+                return Check::Pass;
+            }
+            Check::Refuse(Answer::Rings)
+        }
         Found::NotFound => Check::Refuse(Answer::NotFound),
     }
 }

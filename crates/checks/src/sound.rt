@@ -1,23 +1,12 @@
 // Whether the fields and arrays of a record are sound; an array holds a list in its first n words.
 use endpoint::Endpoint;
 ghost use mathlib.Core.Path.{_≡_};
-ghost use mathlib.Core.Bool.{_||_};
 ghost use Prim.Native.Nat.{_≤_};
-ghost use lib.Dec.{eqb};
 ghost use lib.ListN.{take};
 ghost use Rattle.endpoint.specs.Cells.{cellsOf};
 ghost use Rattle.endpoint.specs.Endpoint.{addresses};
 ghost use Rattle.settings.specs.Held.{heldIn};
 ghost use Rattle.checks.specs.Sound.{soundPlace, soundCounts, soundLists};
-
-fn spacing_known(spacing: usize) -> bool
-    ensures { λ r. ⌜ r ≡ (eqb spacing 32 || eqb spacing 64) ⌝ }
-{
-    if spacing == 32 {
-        return true;
-    }
-    spacing == 64
-}
 
 pub fn place_sound(slot: u8, n: u8, spacing: usize, speed: u8) -> bool
     ensures { λ r. ⌜ r ≡ soundPlace slot n spacing speed ⌝ }
@@ -28,7 +17,7 @@ pub fn place_sound(slot: u8, n: u8, spacing: usize, speed: u8) -> bool
     if n < slot {
         return false;
     }
-    if !spacing_known(spacing) {
+    if spacing != 32 && spacing != 64 {
         return false;
     }
     def::speed_known(speed)

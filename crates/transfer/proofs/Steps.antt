@@ -1,7 +1,8 @@
 -- One turn of each loop: what a definition says of the queues from the i-th on.
 use Prim.Native.Nat.{ℕ, zero, suc, _+_, _≤_, _<_}
-use mathlib.Core.Path.{_≡_, refl, sym, ap}
-use mathlib.Core.Bool.{not, true, false, _&&_, _||_}
+use mathlib.Core.Path.{_≡_, refl, sym, ap, _∙_}
+use mathlib.Core.Bool.{not, true, false, _&&_, _||_, or-true}
+use mathlib.Core.Logic.{_⊎_, inl, inr}
 use mathlib.Core.List.{List, [], _∷_}
 use native.Mathlib.Omega.{arith}
 use native.Mathlib.Numerals.{add-one}
@@ -21,11 +22,11 @@ getD-second : (rs : List ℕ) (i : ℕ) → getD rs (suc i) 0 ≡ getD (drop 1 r
 getD-second [] i = refl
 getD-second (r ∷ rs) i = refl
 
-queueAt : List ℕ → List ℕ → ℕ → Queue
+abbrev queueAt : List ℕ → List ℕ → ℕ → Queue
 queueAt ds rs i = record { dci = getD ds i 0; ring = getD rs i 0 }
 
 queue-next : (ds rs : List ℕ) (i : ℕ) → i < length ds → drop i (queues ds rs) ≡ queueAt ds rs i ∷ drop (suc i) (queues ds rs)
-unfolding queues queueAt
+unfolding queues
 queue-next [] rs i h = absurd (omega arith)
 queue-next (d ∷ ds) rs zero h = refl
 queue-next (d ∷ ds) rs (suc i) h = rw (getD-second rs i) (queue-next ds (drop 1 rs) i (omega arith))
@@ -38,7 +39,7 @@ module _ (ds rs : List ℕ) (i : ℕ) where
   rest-none h = let l : length (queues ds rs) ≤ i = rw (length-queues ds rs) h in drop-of-length-le (queues ds rs) l
 
   pub names-next : (d : ℕ) → i < length ds → names d (drop i (queues ds rs)) ≡ eqb (getD ds i 0) d || names d (drop (i + 1) (queues ds rs))
-  unfolding names queueAt
+  unfolding names
   names-next d h = rw (rest-next h)
 
   pub names-none : (d : ℕ) → length ds ≤ i → names d (drop i (queues ds rs)) ≡ false
@@ -47,31 +48,38 @@ module _ (ds rs : List ℕ) (i : ℕ) where
 
   module _ (routes : List ℕ) (slot : ℕ) where
     pub match-next : i < length ds → oldMatch routes slot (drop i (queues ds rs)) ≡ eqb (routeOf routes slot (getD ds i 0)) (getD rs i 0) && oldMatch routes slot (drop (i + 1) (queues ds rs))
-    unfolding oldMatch queueAt
+    unfolding oldMatch
     match-next h = rw (rest-next h)
 
     pub match-none : length ds ≤ i → oldMatch routes slot (drop i (queues ds rs)) ≡ true
     unfolding oldMatch
     match-none h = rw (rest-none h)
 
-    pub free-next : (old : List Queue) → i < length ds → newFree routes slot old (drop i (queues ds rs)) ≡ isFree routes slot old (record { dci = getD ds i 0; ring = getD rs i 0 }) && newFree routes slot old (drop (i + 1) (queues ds rs))
-    unfolding newFree queueAt
+    free-next : (old : List Queue) → i < length ds → newFree routes slot old (drop i (queues ds rs)) ≡ isFree routes slot old (queueAt ds rs i) && newFree routes slot old (drop (i + 1) (queues ds rs))
+    unfolding newFree
     free-next old h = rw (rest-next h)
+
+    -- A route that is an old endpoint's, its own ring or none is free, and no other.
+    module _ (old : List Queue) (h : i < length ds) (word ring : ℕ) (w : word ≡ routeOf routes slot (getD ds i 0)) (r : ring ≡ getD rs i 0) where
+      is-free : (names (getD ds i 0) old ≡ true) ⊎ ((eqb word ring ≡ true) ⊎ (eqb word 0 ≡ true)) → isFree routes slot old (queueAt ds rs i) ≡ true
+      unfolding isFree
+      is-free (inl a) = rw (a, or-true (eqb (routeOf routes slot (getD ds i 0)) 0))
+      is-free (inr (inl o)) = rw (← w, ← r, o, or-true (eqb word 0 || names (getD ds i 0) old))
+      is-free (inr (inr z)) = rw (← w, z)
+
+      pub free-go : (names (getD ds i 0) old ≡ true) ⊎ ((eqb word ring ≡ true) ⊎ (eqb word 0 ≡ true)) → newFree routes slot old (drop i (queues ds rs)) ≡ newFree routes slot old (drop (i + 1) (queues ds rs))
+      free-go f = free-next old h ∙ rw (is-free f)
+
+      pub free-stop : names (getD ds i 0) old ≡ false → eqb word ring ≡ false → eqb word 0 ≡ false → newFree routes slot old (drop i (queues ds rs)) ≡ false
+      unfolding isFree
+      free-stop a o z = free-next old h ∙ rw (← w, ← r, z, a, o)
 
     pub free-none : (old : List Queue) → length ds ≤ i → newFree routes slot old (drop i (queues ds rs)) ≡ true
     unfolding newFree
     free-none old h = rw (rest-none h)
 
-    pub clear-next : i < length ds → cleared routes slot (drop i (queues ds rs)) ≡ cleared (withRoute routes slot (getD ds i 0) 0) slot (drop (i + 1) (queues ds rs))
-    unfolding cleared queueAt
-    clear-next h = rw (rest-next h)
-
-    pub clear-none : length ds ≤ i → cleared routes slot (drop i (queues ds rs)) ≡ routes
-    unfolding cleared
-    clear-none h = rw (rest-none h)
-
     pub publish-next : i < length ds → published routes slot (drop i (queues ds rs)) ≡ published (withRoute routes slot (getD ds i 0) (getD rs i 0)) slot (drop (i + 1) (queues ds rs))
-    unfolding published queueAt
+    unfolding published
     publish-next h = rw (rest-next h)
 
     pub publish-none : length ds ≤ i → published routes slot (drop i (queues ds rs)) ≡ routes
@@ -89,8 +97,9 @@ unfolding newFree isFree
 free-rings routes slot ds rs [] = refl
 free-rings routes slot ds rs (q ∷ qs) = rw (names-rings (q .dci) ds rs, free-rings routes slot ds rs qs)
 
-pub clear-rings : (routes : List ℕ) (slot : ℕ) (ds rs : List ℕ) → cleared routes slot (queues ds rs) ≡ cleared routes slot (queues ds [])
-unfolding cleared queues
+-- Routes without rings are cleared.
+pub clear-rings : (routes : List ℕ) (slot : ℕ) (ds rs : List ℕ) → cleared routes slot (queues ds rs) ≡ published routes slot (queues ds [])
+unfolding cleared published queues
 clear-rings routes slot [] rs = refl
 clear-rings routes slot (d ∷ ds) rs = clear-rings (withRoute routes slot d 0) slot ds (drop 1 rs)
 
@@ -107,7 +116,7 @@ module _ (routes : List ℕ) (slot : ℕ) (ds rs : List ℕ) (new : List Queue) 
       let e : replaced routes slot (queues ds rs) new ≡ replace.QueueFull = full-replaced routes slot (queues ds rs) new (not-false (oldMatch routes slot (queues ds rs)) o) f in
       (sym e, sym (full-kept routes slot (queues ds rs) new e))
 
-  pub at-done : (after : List ℕ) → after ≡ published (cleared routes slot (queues ds [])) slot new → not (newFree routes slot (queues ds []) new) ≡ false → not (oldMatch routes slot (queues ds rs)) ≡ false → (replace.Done ≡ replaced routes slot (queues ds rs) new) × (after ≡ withReplaced routes slot (queues ds rs) new)
+  pub at-done : (after : List ℕ) → after ≡ published (published routes slot (queues ds [])) slot new → not (newFree routes slot (queues ds []) new) ≡ false → not (oldMatch routes slot (queues ds rs)) ≡ false → (replace.Done ≡ replaced routes slot (queues ds rs) new) × (after ≡ withReplaced routes slot (queues ds rs) new)
   at-done after m n o =
       let f : newFree routes slot (queues ds rs) new ≡ true = rw (free-rings routes slot ds rs new) (not-false (newFree routes slot (queues ds []) new) n) in
       let e : replaced routes slot (queues ds rs) new ≡ replace.Done = done-replaced routes slot (queues ds rs) new (not-false (oldMatch routes slot (queues ds rs)) o) f in

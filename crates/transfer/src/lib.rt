@@ -41,23 +41,16 @@ fn route(routes: &[u64], slot: SlotId, dci: Dci) -> u64
 }
 
 // A word past the end is not written.
-fn put_route(routes: &mut [u64], slot: SlotId, dci: Dci, ring: u64)
-    ensures { λ r. ⌜ now (routes .exit) ≡ withRoute (now (routes .entry)) (slot .0) (dci .0) ring ⌝ }
-{
-    let i = route_index(slot, dci);
-    if i < routes.len() {
-        routes[i] = ring;
-    }
-}
-
 pub fn register_queue(routes: &mut [u64], slot: SlotId, dci: Dci, ring: u64) -> Registered
     ensures { λ r. ⌜ (r ≡ registered (now (routes .entry)) (slot .0) (dci .0)) × (now (routes .exit) ≡ withRegistered (now (routes .entry)) (slot .0) (dci .0) ring) ⌝ }
 {
-    let word = route(routes, slot, dci);
-    if word != 0 {
-        return Registered::QueueFull;
+    let i = route_index(slot, dci);
+    if i < routes.len() {
+        if routes[i] != 0 {
+            return Registered::QueueFull;
+        }
+        routes[i] = ring;
     }
-    put_route(routes, slot, dci, ring);
     Registered::Done
 }
 
@@ -65,13 +58,10 @@ pub fn register_queue(routes: &mut [u64], slot: SlotId, dci: Dci, ring: u64) -> 
 fn old_match(routes: &[u64], slot: SlotId, dcis: &[u8], rings: &[u64]) -> bool
     ensures { λ r. ⌜ r ≡ oldMatch (now (routes .entry)) (slot .0) (queues (now (dcis .entry)) (now (rings .entry))) ⌝ }
 {
-    let n = dcis.len();
     let mut i = 0;
-    while i < n {
-        let dci = Dci(dcis[i]);
-        let word = route(routes, slot, dci);
-        let ring = word_at(rings, i);
-        if word != ring {
+    while i < dcis.len() {
+        let word = route(routes, slot, Dci(dcis[i]));
+        if word != word_at(rings, i) {
             return false;
         }
         i += 1;
@@ -80,14 +70,12 @@ fn old_match(routes: &[u64], slot: SlotId, dcis: &[u8], rings: &[u64]) -> bool
 }
 
 // Whether an endpoint is among those of a list, whatever its ring (so the queues have none).
-fn is_among(dcis: &[u8], dci: Dci) -> bool
-    ensures { λ r. ⌜ r ≡ names (dci .0) (queues (now (dcis .entry)) []) ⌝ }
+fn is_among(dcis: &[u8], dci: u8) -> bool
+    ensures { λ r. ⌜ r ≡ names dci (queues (now (dcis .entry)) []) ⌝ }
 {
-    let d = dci.0;
-    let n = dcis.len();
     let mut i = 0;
-    while i < n {
-        if dcis[i] == d {
+    while i < dcis.len() {
+        if dcis[i] == dci {
             return true;
         }
         i += 1;
@@ -95,59 +83,35 @@ fn is_among(dcis: &[u8], dci: Dci) -> bool
     false
 }
 
-// Whether a new endpoint's route may be written.
-fn is_free(routes: &[u64], slot: SlotId, old_dcis: &[u8], dci: Dci, ring: u64) -> bool
-    ensures { λ r. ⌜ r ≡ isFree (now (routes .entry)) (slot .0) (queues (now («old_dcis» .entry)) []) (record { dci = dci .0; ring = ring }) ⌝ }
-{
-    let word = route(routes, slot, dci);
-    if word == 0 {
-        return true;
-    }
-    if is_among(old_dcis, dci) {
-        return true;
-    }
-    word == ring
-}
-
+// Whether each new endpoint's route is none, its own ring already, or an old endpoint's.
 fn new_free(routes: &[u64], slot: SlotId, old_dcis: &[u8], dcis: &[u8], rings: &[u64]) -> bool
     ensures { λ r. ⌜ r ≡ newFree (now (routes .entry)) (slot .0) (queues (now («old_dcis» .entry)) []) (queues (now (dcis .entry)) (now (rings .entry))) ⌝ }
 {
-    let n = dcis.len();
     let mut i = 0;
-    while i < n {
-        let dci = Dci(dcis[i]);
+    while i < dcis.len() {
+        let dci = dcis[i];
+        let word = route(routes, slot, Dci(dci));
         let ring = word_at(rings, i);
-        let free = is_free(routes, slot, old_dcis, dci, ring);
         i += 1;
-        if !free {
+        if word != 0 && word != ring && !is_among(old_dcis, dci) {
             return false;
         }
     }
     true
 }
 
-fn clear_routes(routes: &mut [u64], slot: SlotId, dcis: &[u8])
-    ensures { λ r. ⌜ now (routes .exit) ≡ cleared (now (routes .entry)) (slot .0) (queues (now (dcis .entry)) []) ⌝ }
-{
-    let n = dcis.len();
-    let mut i = 0;
-    while i < n {
-        let dci = Dci(dcis[i]);
-        put_route(routes, slot, dci, 0);
-        i += 1;
-    }
-}
-
-fn publish_routes(routes: &mut [u64], slot: SlotId, dcis: &[u8], rings: &[u64])
+// Writes each endpoint's ring, or 0 where there is none; a word past the end is not written.
+fn put_routes(routes: &mut [u64], slot: SlotId, dcis: &[u8], rings: &[u64])
     ensures { λ r. ⌜ now (routes .exit) ≡ published (now (routes .entry)) (slot .0) (queues (now (dcis .entry)) (now (rings .entry))) ⌝ }
 {
-    let n = dcis.len();
     let mut i = 0;
-    while i < n {
-        let dci = Dci(dcis[i]);
+    while i < dcis.len() {
+        let word = route_index(slot, Dci(dcis[i]));
         let ring = word_at(rings, i);
-        put_route(routes, slot, dci, ring);
         i += 1;
+        if word < routes.len() {
+            routes[word] = ring;
+        }
     }
 }
 
@@ -168,7 +132,7 @@ pub fn replace_queues(
     if !new_free(routes, slot, old_dcis, new_dcis, new_rings) {
         return Replaced::QueueFull;
     }
-    clear_routes(routes, slot, old_dcis);
-    publish_routes(routes, slot, new_dcis, new_rings);
+    put_routes(routes, slot, old_dcis, &[0u64; 0]);
+    put_routes(routes, slot, new_dcis, new_rings);
     Replaced::Done
 }

@@ -1,10 +1,10 @@
+use borrow.Author.Needs.{needs}
 use Prim.Native.Nat.{_-_}
 use mathlib.Core.Path.{_≡_, sym, _∙_}
 use borrow.Author.Tests.{eq-eqb, ne-eqb}
 use lib.ListN.{length, drop}
 use Rattle.laws.proofs.Distinct.{elem}
 use Rattle.ring.proofs.Steps.{elem-next, elem-none}
-use borrow.Author.Needs.{needs}
 use Rattle.ring.proofs.has_ring.Statement.{statement}
 use Rattle.ring.proofs.has_ring.Tie as tie
 
@@ -18,17 +18,17 @@ abbrev μ-loop : tie.MeasureT-loop
 loop-holds : tie.Need-loop-holds Inv-loop μ-loop
 loop-holds c = search needs
 
-mul-r : tie.Need-mul-r Inv-loop μ-loop
-mul-r c = search needs
+mul-if1 : tie.Need-mul-if1 Inv-loop μ-loop
+mul-if1 c = search needs
 
-shared-slice-read-r : tie.Need-shared-slice-read-r Inv-loop μ-loop
-shared-slice-read-r c = search needs
-
-add-i : tie.Need-add-i Inv-loop μ-loop
-add-i c = search needs
+shared-slice-read-if1 : tie.Need-shared-slice-read-if1 Inv-loop μ-loop
+shared-slice-read-if1 c = search needs
 
 returns : tie.Need-returns Inv-loop μ-loop
 returns c = sym (c .before .before .before .loop .inv ∙ elem-next _ _ _ (c .before .before .loop-test .taken) ∙ rw (eq-eqb _ _ (sym (c .if1 .taken))))
+
+add-i : tie.Need-add-i Inv-loop μ-loop
+add-i c = search needs
 
 loop-less : tie.Need-loop-less Inv-loop μ-loop
 loop-less c = search needs
@@ -46,10 +46,10 @@ has-ring-spec =
     Inv-loop
     μ-loop
     loop-holds
-    mul-r
-    shared-slice-read-r
-    add-i
+    mul-if1
+    shared-slice-read-if1
     returns
+    add-i
     loop-less
     loop-again
     returns-2)

@@ -1,105 +1,72 @@
-use Prim.Native.Nat.{_-_}
-use borrow.Author.Tests.{eq-eqb, ne-eqb, not-true, not-false}
-use Rattle.ring.specs.Rings.{offerOk}
 use borrow.Author.Needs.{needs}
+use Prim.Native.Nat.{_≤_, _-_}
+use mathlib.Core.Path.{_≡_, sym, _∙_}
+use mathlib.Core.Logic.{inl, inr, ⊎-elim}
+use borrow.Author.Tests.{eq-eqb, ne-eqb, not-true, not-false}
+use lib.ListN.{length, drop}
+use Rattle.ring.specs.Rings.{offerOk}
+use Rattle.ring.proofs.Steps.{clear, clear-go, clear-stop, clear-none, offer-rest, offer-miscounted, offer-unfit}
 use Rattle.ring.proofs.offer_ok.Statement.{statement}
 use Rattle.ring.proofs.offer_ok.Tie as tie
 
-returns : tie.Need-returns
-unfolding offerOk
-returns c = rw (ne-eqb _ _ (c .if1 .taken))
+abbrev Inv-loop : tie.InvT-loop
+Inv-loop count rings live control quarantined i₀ i =
+    (i ≤ length rings) × (offerOk count rings live control quarantined ≡ clear live control quarantined (drop i rings))
 
-rings-ok-requires : tie.Need-rings-ok-requires
-rings-ok-requires c κs = search needs
+abbrev μ-loop : tie.MeasureT-loop
+μ-loop count rings live control quarantined i₀ i = length rings - i
 
-returns-2 : tie.Need-returns-2
-unfolding offerOk
-returns-2 c =
-    rw (
-      eq-eqb _ _ (c .before .before .if1 .left),
-      ← c .before .rings-ok .ensures,
-      not-true (c .before .rings-ok .result) (c .if2 .taken),
-    )
+rings-fit-requires : tie.Need-rings-fit-requires Inv-loop μ-loop
+rings-fit-requires c κs = search needs
 
-rings-distinct-requires : tie.Need-rings-distinct-requires
-rings-distinct-requires c κs = search needs
+returns : tie.Need-returns Inv-loop μ-loop
+returns c = sym (⊎-elim (λ w. offer-miscounted _ _ _ _ _ (w .taken)) (λ w. offer-unfit _ _ _ _ _ (sym (w .1 .ensures) ∙ not-true (w .1 .result) (w .2 .taken))) (c .if1 .came))
 
-returns-3 : tie.Need-returns-3
-unfolding offerOk
-returns-3 c =
-    rw (
-      eq-eqb _ _ (c .before .before .before .before .if1 .left),
-      ← c .before .before .before .rings-ok .ensures,
-      not-false (c .before .before .before .rings-ok .result) (c .before .before .if2 .left),
-      ← c .before .rings-distinct .ensures,
-      not-true (c .before .rings-distinct .result) (c .if3 .taken),
-    )
+loop-holds : tie.Need-loop-holds Inv-loop μ-loop
+loop-holds c = (search needs, offer-rest _ _ _ _ _ (c .before .before .if1 .left) (sym (c .before .rings-fit .ensures) ∙ not-false (c .before .rings-fit .result) (c .if2 .left)))
 
-rings-disjoint-requires : tie.Need-rings-disjoint-requires
-rings-disjoint-requires c κs = search needs
+mul-ring : tie.Need-mul-ring Inv-loop μ-loop
+mul-ring c = search needs
 
-returns-4 : tie.Need-returns-4
-unfolding offerOk
-returns-4 c =
-    rw (
-      eq-eqb _ _ (c .before .before .before .before .before .before .if1 .left),
-      ← c .before .before .before .before .before .rings-ok .ensures,
-      not-false (c .before .before .before .before .before .rings-ok .result) (c .before .before .before .before .if2 .left),
-      ← c .before .before .before .rings-distinct .ensures,
-      not-false (c .before .before .before .rings-distinct .result) (c .before .before .if3 .left),
-      ← c .before .rings-disjoint .ensures,
-      not-true (c .before .rings-disjoint .result) (c .if4 .taken),
-    )
+shared-slice-read-ring : tie.Need-shared-slice-read-ring Inv-loop μ-loop
+shared-slice-read-ring c = search needs
 
-has-ring-requires : tie.Need-has-ring-requires
+add-i : tie.Need-add-i Inv-loop μ-loop
+add-i c = search needs
+
+has-ring-requires : tie.Need-has-ring-requires Inv-loop μ-loop
 has-ring-requires c κs = search needs
 
-returns-5 : tie.Need-returns-5
-unfolding offerOk
-returns-5 c =
-    rw (
-      eq-eqb _ _ (c .before .before .before .before .before .before .before .before .if1 .left),
-      ← c .before .before .before .before .before .before .before .rings-ok .ensures,
-      not-false (c .before .before .before .before .before .before .before .rings-ok .result) (c .before .before .before .before .before .before .if2 .left),
-      ← c .before .before .before .before .before .rings-distinct .ensures,
-      not-false (c .before .before .before .before .before .rings-distinct .result) (c .before .before .before .before .if3 .left),
-      ← c .before .before .before .rings-disjoint .ensures,
-      not-false (c .before .before .before .rings-disjoint .result) (c .before .before .if4 .left),
-      ← c .before .has-ring .ensures,
-      c .if5 .taken,
-    )
+has-ring-requires-2 : tie.Need-has-ring-requires-2 Inv-loop μ-loop
+has-ring-requires-2 c κs = search needs
 
-rings-disjoint-requires-2 : tie.Need-rings-disjoint-requires-2
-rings-disjoint-requires-2 c κs = search needs
+returns-2 : tie.Need-returns-2 Inv-loop μ-loop
+returns-2 c = sym (c .before .before .before .loop .inv .1 ∙ clear-stop _ _ _ _ _ (c .before .before .loop-test .taken) (⊎-elim (λ w. inl (eq-eqb _ _ (sym (w .taken)))) (⊎-elim (λ w. inr (inl (sym (w .1 .ensures) ∙ w .2 .taken))) (λ w. inr (inr (sym (w .3 .ensures) ∙ w .4 .taken)))) (c .if3 .came)))
 
-returns-6 : tie.Need-returns-6
-unfolding offerOk
-returns-6 c =
-    rw (
-      eq-eqb _ _ (c .before .before .before .before .before .before .before .before .before .if1 .left),
-      ← c .before .before .before .before .before .before .before .before .rings-ok .ensures,
-      not-false (c .before .before .before .before .before .before .before .before .rings-ok .result) (c .before .before .before .before .before .before .before .if2 .left),
-      ← c .before .before .before .before .before .before .rings-distinct .ensures,
-      not-false (c .before .before .before .before .before .before .rings-distinct .result) (c .before .before .before .before .before .if3 .left),
-      ← c .before .before .before .before .rings-disjoint .ensures,
-      not-false (c .before .before .before .before .rings-disjoint .result) (c .before .before .before .if4 .left),
-      ← c .before .before .has-ring .ensures,
-      c .before .if5 .left,
-      ← c .rings-disjoint2 .ensures,
-    )
+loop-less : tie.Need-loop-less Inv-loop μ-loop
+loop-less c = search needs
+
+loop-again : tie.Need-loop-again Inv-loop μ-loop
+loop-again c = (search needs, c .before .before .before .before .before .before .before .loop .inv .1 ∙ clear-go _ _ _ _ _ (c .before .before .before .before .before .before .loop-test .taken) (ne-eqb _ _ (λ e. c .before .before .before .before .if3 .left (sym e))) (sym (c .before .before .before .has-ring .ensures) ∙ c .before .before .if4 .left) (sym (c .before .has-ring2 .ensures) ∙ c .if5 .left))
+
+returns-3 : tie.Need-returns-3 Inv-loop μ-loop
+returns-3 c = sym (c .before .loop .inv .1 ∙ clear-none _ _ _ _ _ (c .loop-test .left))
 
 pub offer-ok-spec : {M : Type 1} → statement M
 offer-ok-spec =
     tie.close
     (tie.spec
+    Inv-loop
+    μ-loop
+    rings-fit-requires
     returns
-    rings-ok-requires
-    returns-2
-    rings-distinct-requires
-    returns-3
-    rings-disjoint-requires
-    returns-4
+    loop-holds
+    mul-ring
+    shared-slice-read-ring
+    add-i
     has-ring-requires
-    returns-5
-    rings-disjoint-requires-2
-    returns-6)
+    has-ring-requires-2
+    returns-2
+    loop-less
+    loop-again
+    returns-3)

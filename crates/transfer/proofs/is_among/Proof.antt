@@ -1,7 +1,7 @@
+use borrow.Author.Needs.{needs}
 use Prim.Native.Nat.{_≤_, _-_}
 use mathlib.Core.Path.{_≡_, sym, _∙_}
 use mathlib.Core.List.{[]}
-use borrow.Author.Needs.{needs}
 use borrow.Author.Tests.{eq-eqb, ne-eqb}
 use lib.ListN.{length, drop}
 use Rattle.transfer.specs.Routes.{queues, names}
@@ -10,11 +10,11 @@ use Rattle.transfer.proofs.is_among.Statement.{statement}
 use Rattle.transfer.proofs.is_among.Tie as tie
 
 abbrev Inv-loop : tie.InvT-loop
-Inv-loop dcis d n i₀ i =
-    (i ≤ length dcis) × (names d (queues dcis []) ≡ names d (drop i (queues dcis [])))
+Inv-loop dcis dci i₀ i =
+    (i ≤ length dcis) × (names dci (queues dcis []) ≡ names dci (drop i (queues dcis [])))
 
 abbrev μ-loop : tie.MeasureT-loop
-μ-loop dcis d n i₀ i = length dcis - i
+μ-loop dcis dci i₀ i = length dcis - i
 
 loop-holds : tie.Need-loop-holds Inv-loop μ-loop
 loop-holds c = search needs

@@ -1,44 +1,49 @@
+use lib.Dec.{eqb}
+use borrow.Author.Needs.{needs}
 use Prim.Native.Nat.{_≤_, _-_}
 use mathlib.Core.Path.{_≡_, sym, _∙_}
+use mathlib.Core.Logic.{inl, inr, ⊎-elim}
 use mathlib.Core.List.{[]}
-use borrow.Author.Needs.{needs}
-use borrow.Author.Tests.{not-true, not-false}
+use borrow.Author.Tests.{eq-eqb, ne-eqb, not-true, not-false}
 use lib.ListN.{length, drop}
 use Rattle.transfer.specs.Routes.{queues, newFree}
-use Rattle.transfer.proofs.Steps.{free-next, free-none}
+use Rattle.transfer.proofs.Steps.{free-go, free-stop, free-none}
 use Rattle.transfer.proofs.new_free.Statement.{statement}
 use Rattle.transfer.proofs.new_free.Tie as tie
 
 abbrev Inv-loop : tie.InvT-loop
-Inv-loop routes slot old-dcis dcis rings n i₀ i =
+Inv-loop routes slot old-dcis dcis rings i₀ i =
     (i ≤ length dcis) × (newFree routes (slot .0) (queues old-dcis []) (queues dcis rings) ≡ newFree routes (slot .0) (queues old-dcis []) (drop i (queues dcis rings)))
 
 abbrev μ-loop : tie.MeasureT-loop
-μ-loop routes slot old-dcis dcis rings n i₀ i = length dcis - i
+μ-loop routes slot old-dcis dcis rings i₀ i = length dcis - i
 
 loop-holds : tie.Need-loop-holds Inv-loop μ-loop
 loop-holds c = search needs
 
-shared-slice-read-t13 : tie.Need-shared-slice-read-t13 Inv-loop μ-loop
-shared-slice-read-t13 c = search needs
+shared-slice-read-dci : tie.Need-shared-slice-read-dci Inv-loop μ-loop
+shared-slice-read-dci c = search needs
+
+route-requires : tie.Need-route-requires Inv-loop μ-loop
+route-requires c κs = search needs
 
 word-at-requires : tie.Need-word-at-requires Inv-loop μ-loop
 word-at-requires c κs = search needs
 
-is-free-requires : tie.Need-is-free-requires Inv-loop μ-loop
-is-free-requires c κs = search needs
-
 add-i : tie.Need-add-i Inv-loop μ-loop
 add-i c = search needs
 
+is-among-requires : tie.Need-is-among-requires Inv-loop μ-loop
+is-among-requires c κs = search needs
+
 returns : tie.Need-returns Inv-loop μ-loop
-returns c = sym (c .before .before .before .before .before .loop .inv .1 ∙ free-next _ _ _ _ _ _ (c .before .before .before .before .loop-test .taken) ∙ rw (← c .before .before .word-at .ensures, ← c .before .is-free .ensures, not-true (c .before .is-free .result) (c .if1 .taken)))
+returns c = let word = c .before .before .before .before .before .route .result in let ring = c .before .before .before .before .word-at .result in sym (c .before .before .before .before .before .before .before .before .loop .inv .1 ∙ free-stop _ _ _ _ _ _ (c .before .before .before .before .before .before .before .loop-test .taken) word ring (c .before .before .before .before .before .route .ensures) (c .before .before .before .before .word-at .ensures) (sym (c .before .is-among .ensures) ∙ not-true (c .before .is-among .result) (c .if3 .taken)) (not-true (eqb word ring) (c .before .before .if2 .taken)) (ne-eqb word 0 (c .before .before .before .if1 .taken)))
 
 loop-less : tie.Need-loop-less Inv-loop μ-loop
 loop-less c = search needs
 
 loop-again : tie.Need-loop-again Inv-loop μ-loop
-loop-again c = (search needs, c .before .before .before .before .before .loop .inv .1 ∙ free-next _ _ _ _ _ _ (c .before .before .before .before .loop-test .taken) ∙ rw (← c .before .before .word-at .ensures, ← c .before .is-free .ensures, not-false (c .before .is-free .result) (c .if1 .left)))
+loop-again c = let word = c .before .before .route .result in let ring = c .before .word-at .result in (search needs, c .before .before .before .before .before .loop .inv .1 ∙ free-go _ _ _ _ _ _ (c .before .before .before .before .loop-test .taken) word ring (c .before .before .route .ensures) (c .before .word-at .ensures) (⊎-elim (λ w. inl (sym (w .2 .ensures) ∙ not-false (w .2 .result) (w .3 .left))) (⊎-elim (λ w. inr (inl (not-false (eqb word ring) (w .1 .left)))) (λ w. inr (inr (eq-eqb word 0 (w .left))))) (c .if1 .came)))
 
 returns-2 : tie.Need-returns-2 Inv-loop μ-loop
 returns-2 c = sym (c .before .loop .inv .1 ∙ free-none _ _ _ _ _ _ (c .loop-test .left))
@@ -50,10 +55,11 @@ new-free-spec =
     Inv-loop
     μ-loop
     loop-holds
-    shared-slice-read-t13
+    shared-slice-read-dci
+    route-requires
     word-at-requires
-    is-free-requires
     add-i
+    is-among-requires
     returns
     loop-less
     loop-again

@@ -1,6 +1,6 @@
+use borrow.Author.Needs.{needs}
 use Prim.Native.Nat.{_≤_, _-_}
 use mathlib.Core.Path.{_≡_, sym, _∙_}
-use borrow.Author.Needs.{needs}
 use borrow.Author.Tests.{eq-eqb, ne-eqb}
 use lib.ListN.{length, drop}
 use Rattle.transfer.specs.Routes.{queues, oldMatch}
@@ -9,17 +9,17 @@ use Rattle.transfer.proofs.old_match.Statement.{statement}
 use Rattle.transfer.proofs.old_match.Tie as tie
 
 abbrev Inv-loop : tie.InvT-loop
-Inv-loop routes slot dcis rings n i₀ i =
+Inv-loop routes slot dcis rings i₀ i =
     (i ≤ length dcis) × (oldMatch routes (slot .0) (queues dcis rings) ≡ oldMatch routes (slot .0) (drop i (queues dcis rings)))
 
 abbrev μ-loop : tie.MeasureT-loop
-μ-loop routes slot dcis rings n i₀ i = length dcis - i
+μ-loop routes slot dcis rings i₀ i = length dcis - i
 
 loop-holds : tie.Need-loop-holds Inv-loop μ-loop
 loop-holds c = search needs
 
-shared-slice-read-t12 : tie.Need-shared-slice-read-t12 Inv-loop μ-loop
-shared-slice-read-t12 c = search needs
+shared-slice-read-t10 : tie.Need-shared-slice-read-t10 Inv-loop μ-loop
+shared-slice-read-t10 c = search needs
 
 route-requires : tie.Need-route-requires Inv-loop μ-loop
 route-requires c κs = search needs
@@ -49,7 +49,7 @@ old-match-spec =
     Inv-loop
     μ-loop
     loop-holds
-    shared-slice-read-t12
+    shared-slice-read-t10
     route-requires
     word-at-requires
     returns

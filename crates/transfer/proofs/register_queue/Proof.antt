@@ -1,37 +1,54 @@
-use mathlib.Core.Path.{_≡_, _∙_}
+use mathlib.Core.Path.{_≡_}
 use mathlib.Core.Bool.{true, false}
-use borrow.Author.Needs.{needs}
 use borrow.Author.Tests.{eq-eqb, ne-eqb}
 use lib.Dec.{eqb}
-use Rattle.transfer.specs.Routes.{registered, withRegistered}
+use lib.ListN.{getD, List·getD-eq-default}
+use lib.Seq.{set-out}
+use Rattle.transfer.specs.Routes.{routeOf, withRoute, registered, withRegistered}
+use borrow.Author.Needs.{needs}
 use Rattle.transfer.proofs.register_queue.Statement.{statement}
 use Rattle.transfer.proofs.register_queue.Tie as tie
 
-route-requires : tie.Need-route-requires
-route-requires c κs = search needs
+route-index-requires : tie.Need-route-index-requires
+route-index-requires c κs = search needs
+
+mul-if2 : tie.Need-mul-if2
+mul-if2 c = search needs
+
+slice-read-if2 : tie.Need-slice-read-if2
+slice-read-if2 c = search needs
+
+returns : tie.Need-returns
+unfolding routeOf registered withRegistered
+returns c = let e = c .before .before .before .route-index .ensures in let t : eqb (getD (c .before .before .before .before .before .args .routes .now) (c .before .before .before .route-index .result) 0) 0 ≡ false = ne-eqb _ _ (c .if2 .taken) in (rw (← e, t), rw (← e, t))
+
+mul-routes : tie.Need-mul-routes
+mul-routes c = search needs
+
+slice-write-routes : tie.Need-slice-write-routes
+slice-write-routes c = search needs
 
 same-length : tie.Need-same-length
 same-length c = search needs
 
-returns : tie.Need-returns
-unfolding registered withRegistered
-returns c = let t : eqb (c .before .route .result) 0 ≡ false = ne-eqb _ _ (c .if1 .taken) in (rw (← c .before .route .ensures, t), rw (← c .before .route .ensures, t))
-
-put-route-requires : tie.Need-put-route-requires
-put-route-requires c κs = search needs
-
-same-length-2 : tie.Need-same-length-2
-same-length-2 c = search needs
-
 returns-2 : tie.Need-returns-2
-unfolding registered withRegistered
-returns-2 c =
-    let c4 = c .before .before .before .before in
-    let c5 = c4 .before in
-    let t : eqb (c5 .route .result) 0 ≡ true = eq-eqb _ _ (c4 .if1 .left) in
-    (rw (← c5 .route .ensures, t), c .before .before .put-route .ensures ∙ rw (← c5 .route .ensures, t))
+unfolding routeOf withRoute registered withRegistered
+returns-2 c = let e = c .before .before .before .route-index .ensures in let t : eqb (getD (c .before .before .before .before .before .args .routes .now) (c .before .before .before .route-index .result) 0) 0 ≡ true = eq-eqb _ _ (c .if2 .left) in (rw (← e, t), rw (← e, t))
+
+returns-3 : tie.Need-returns-3
+unfolding routeOf withRoute registered withRegistered
+returns-3 c = let e = c .before .route-index .ensures in let z : getD (c .before .before .before .args .routes .now) (c .before .route-index .result) 0 ≡ 0 = List·getD-eq-default (c .before .before .before .args .routes .now) 0 (c .if1 .left) in (rw (← e, z), rw (← e, z, set-out (c .before .before .before .args .routes .now) (c .before .route-index .result) (c .before .before .before .args .ring) (c .if1 .left)))
 
 pub register-queue-spec : {M : Type 1} → statement M
 register-queue-spec =
     tie.close
-    (tie.spec route-requires same-length returns put-route-requires same-length-2 returns-2)
+    (tie.spec
+    route-index-requires
+    mul-if2
+    slice-read-if2
+    returns
+    mul-routes
+    slice-write-routes
+    same-length
+    returns-2
+    returns-3)

@@ -1,3 +1,5 @@
+use native.Mathlib.Nat.{sub-zero}
+use Rattle.settings.specs.Held.{isFound}
 use borrow.Author.Needs.{needs}
 use Rattle.checks.proofs.held.held_check.Statement.{statement}
 use Rattle.checks.proofs.held.held_check.Tie as tie
@@ -8,15 +10,43 @@ is-held-requires c κs = search needs
 returns : tie.Need-returns
 returns c = λ alternates. rw (← c .before .is-held .ensures alternates, c .if1 .taken)
 
-has-alternate-requires : tie.Need-has-alternate-requires
-has-alternate-requires c κs = search needs
+sub-find-interface-endpoints : tie.Need-sub-find-interface-endpoints
+sub-find-interface-endpoints c = search needs
+
+part-find-interface-endpoints-start : tie.Need-part-find-interface-endpoints-start
+part-find-interface-endpoints-start c = search needs
+
+part-find-interface-endpoints-end : tie.Need-part-find-interface-endpoints-end
+part-find-interface-endpoints-end c = search needs
+
+find-interface-endpoints-requires : tie.Need-find-interface-endpoints-requires
+find-interface-endpoints-requires c κs = search needs
+
+enum-told : tie.Need-enum-told
+enum-told c = search needs
+
+enum-told-2 : tie.Need-enum-told-2
+enum-told-2 c = search needs
 
 returns-2 : tie.Need-returns-2
-returns-2 c = λ alternates. rw (← c .before .before .before .is-held .ensures alternates, ← c .before .has-alternate .ensures, c .before .before .if1 .left, c .if2 .taken)
+unfolding isFound
+returns-2 c = λ alternates. rw (← c .before .before .before .before .before .before .is-held .ensures alternates, c .before .before .before .before .before .if1 .left, ← (rw sub-zero at (c .before .before .find-interface-endpoints .ensures)), c .enum-told .given .1)
 
 returns-3 : tie.Need-returns-3
-returns-3 c = λ alternates. rw (← c .before .before .before .is-held .ensures alternates, ← c .before .has-alternate .ensures, c .before .before .if1 .left, c .if2 .left)
+unfolding isFound
+returns-3 c = λ alternates. rw (← c .before .before .before .before .before .before .is-held .ensures alternates, c .before .before .before .before .before .if1 .left, ← (rw sub-zero at (c .before .before .find-interface-endpoints .ensures)), c .enum-told2 .given .1)
 
 pub held-check-spec : {M : Type 1} → statement M
 held-check-spec =
-    tie.close (tie.spec is-held-requires returns has-alternate-requires returns-2 returns-3)
+    tie.close
+    (tie.spec
+    is-held-requires
+    returns
+    sub-find-interface-endpoints
+    part-find-interface-endpoints-start
+    part-find-interface-endpoints-end
+    find-interface-endpoints-requires
+    enum-told
+    enum-told-2
+    returns-2
+    returns-3)

@@ -1,6 +1,8 @@
+use Rattle.checks.proofs.Steps.{part-count}
 use mathlib.Core.Path.{sym, _∙_}
 use native.Mathlib.Omega.{arith}
 use native.Mathlib.Nat.{sub-zero, add-sub-cancel-left}
+use borrow.Author.Tests.{not-true, not-false}
 use Rattle.configuration.proofs.Laws.{found-inside}
 use Rattle.settings.specs.Held.{isFound, foundWords, settingWords}
 use borrow.Author.Needs.{needs}
@@ -16,6 +18,34 @@ part-words-start c = search needs
 part-words-end : tie.Need-part-words-end
 part-words-end c = search needs
 
+find-interface-endpoints-requires : tie.Need-find-interface-endpoints-requires
+find-interface-endpoints-requires c κs = search needs
+
+enum-known-found : tie.Need-enum-known-found
+enum-known-found c = search needs
+
+add-setting : tie.Need-add-setting
+add-setting c = let h = found-inside _ _ _ _ _ (sym (c .before .before .before .find-interface-endpoints .ensures) ∙ c .before .found .given .1) in omega (arith, h)
+
+mul-setting : tie.Need-mul-setting
+mul-setting c = let h = found-inside _ _ _ _ _ (sym (c .before .before .before .find-interface-endpoints .ensures) ∙ c .before .found .given .1) in omega (arith, h)
+
+sub-setting : tie.Need-sub-setting
+sub-setting c = search needs
+
+part-setting-start : tie.Need-part-setting-start
+part-setting-start c = search needs
+
+part-setting-end : tie.Need-part-setting-end
+part-setting-end c = let h = found-inside _ _ _ _ _ (sym (c .before .before .before .find-interface-endpoints .ensures) ∙ c .before .found .given .1) in omega (arith, h)
+
+addresses-free-requires : tie.Need-addresses-free-requires
+addresses-free-requires c κs = search needs
+
+returns : tie.Need-returns
+unfolding settingWords foundWords isFound
+returns c = rw (← (rw sub-zero at (c .before .before .before .before .before .before .find-interface-endpoints .ensures)), c .before .before .before .before .found .given .1, ← (rw (sub-zero, add-sub-cancel-left) at (c .before .addresses-free .ensures)), not-true (c .before .addresses-free .result) (c .if1 .taken))
+
 sub-kept : tie.Need-sub-kept
 sub-kept c = search needs
 
@@ -25,40 +55,23 @@ part-kept-start c = search needs
 part-kept-end : tie.Need-part-kept-end
 part-kept-end c = search needs
 
-find-interface-endpoints-requires : tie.Need-find-interface-endpoints-requires
-find-interface-endpoints-requires c κs = search needs
+offer-ok-requires : tie.Need-offer-ok-requires
+offer-ok-requires c κs = search needs
 
-enum-known-found : tie.Need-enum-known-found
-enum-known-found c = search needs
-
-add-words-check : tie.Need-add-words-check
-add-words-check c = let h = found-inside _ _ _ _ _ (sym (c .before .before .before .find-interface-endpoints .ensures) ∙ c .before .found .given .1) in omega (arith, h)
-
-mul-words-check : tie.Need-mul-words-check
-mul-words-check c = let h = found-inside _ _ _ _ _ (sym (c .before .before .before .find-interface-endpoints .ensures) ∙ c .before .found .given .1) in omega (arith, h)
-
-sub-words-check : tie.Need-sub-words-check
-sub-words-check c = search needs
-
-part-words-check-start : tie.Need-part-words-check-start
-part-words-check-start c = search needs
-
-part-words-check-end : tie.Need-part-words-check-end
-part-words-check-end c = let h = found-inside _ _ _ _ _ (sym (c .before .before .before .find-interface-endpoints .ensures) ∙ c .before .found .given .1) in omega (arith, h)
-
-words-check-requires : tie.Need-words-check-requires
-words-check-requires c κs = search needs
+returns-2 : tie.Need-returns-2
+unfolding settingWords foundWords isFound
+returns-2 c = let F = rw sub-zero at (c .before .before .before .before .before .before .before .before .before .before .before .before .before .find-interface-endpoints .ensures) in let e = c .before .before .before .before .before .before .before .before .before .before .before .found .given .1 in rw (← F, e, ← (rw (sub-zero, add-sub-cancel-left) at (c .before .before .before .before .before .before .before .before .addresses-free .ensures)), not-false (c .before .before .before .before .before .before .before .before .addresses-free .result) (c .before .before .before .before .before .before .before .if1 .left), part-count _ _ _ (found-inside _ _ _ _ _ (sym F ∙ e)), ← (rw sub-zero at (c .before .offer-ok .ensures)), c .if2 .taken)
 
 enum-told : tie.Need-enum-told
 enum-told c = search needs
 
-returns : tie.Need-returns
+returns-3 : tie.Need-returns-3
 unfolding settingWords foundWords isFound
-returns c = c .words-check .ensures ∙ rw (sub-zero, sub-zero, ← (rw sub-zero at (c .before .before .before .before .before .find-interface-endpoints .ensures)), c .before .before .before .found .given .1, add-sub-cancel-left)
+returns-3 c = let F = rw sub-zero at (c .before .before .before .before .before .before .before .before .before .before .before .before .before .find-interface-endpoints .ensures) in let e = c .before .before .before .before .before .before .before .before .before .before .before .found .given .1 in rw (← F, e, ← (rw (sub-zero, add-sub-cancel-left) at (c .before .before .before .before .before .before .before .before .addresses-free .ensures)), not-false (c .before .before .before .before .before .before .before .before .addresses-free .result) (c .before .before .before .before .before .before .before .if1 .left), part-count _ _ _ (found-inside _ _ _ _ _ (sym F ∙ e)), ← (rw sub-zero at (c .before .offer-ok .ensures)), c .if2 .left)
 
-returns-2 : tie.Need-returns-2
+returns-4 : tie.Need-returns-4
 unfolding isFound
-returns-2 c = rw (← (rw sub-zero at (c .before .before .find-interface-endpoints .ensures)), c .enum-told .given .1)
+returns-4 c = rw (← (rw sub-zero at (c .before .before .find-interface-endpoints .ensures)), c .enum-told .given .1)
 
 pub list-check-spec : {M : Type 1} → statement M
 list-check-spec =
@@ -67,17 +80,20 @@ list-check-spec =
     sub-words
     part-words-start
     part-words-end
+    find-interface-endpoints-requires
+    enum-known-found
+    add-setting
+    mul-setting
+    sub-setting
+    part-setting-start
+    part-setting-end
+    addresses-free-requires
+    returns
     sub-kept
     part-kept-start
     part-kept-end
-    find-interface-endpoints-requires
-    enum-known-found
-    add-words-check
-    mul-words-check
-    sub-words-check
-    part-words-check-start
-    part-words-check-end
-    words-check-requires
+    offer-ok-requires
+    returns-2
     enum-told
-    returns
-    returns-2)
+    returns-3
+    returns-4)
