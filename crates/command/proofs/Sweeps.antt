@@ -19,39 +19,6 @@ use Rattle.command.proofs.Laws.{played-ends, played-sends, words-then, 
 use Rattle.command.proofs.Cuts.{done-cut, failed-cut, failed-done, on-sent, cuts-then, uncut-then, uncut-result, cut-last}
 use Rattle.command.proofs.Operations.{EachCommand, each-then}
 
-module _ (o ds log log′ : List ℕ) (n i : ℕ) (s : Sent) (h : i < length ds) (es : s ≡ outcomeAt o n) where
-  -- one turn of the resuming loop
-  pub resume-next : log′ ≡ set log n (commandWord (command.Resume (getD ds i 0))) → (ctx : List ℕ) →
-      played o n (resumeFrom ctx i (drop i ds)) log ≡
-      played o (n + 1)
-      (onSent s (resumeFrom ctx (i + 1) (drop (i + 1) ds)) (λ code. ends (swept (Failed code) i)) (ends (swept Cut i)))
-      log′
-  unfolding resumeFrom
-  resume-next el ctx =
-      let e : drop i ds ≡ getD ds i 0 ∷ drop (i + 1) ds = rw (add-one i) (drop-cons ds i 0 h) in
-      rw (e, el, es) (played-sends _ _ _ _ _ _)
-
-  -- one turn of the stopping loop
-  pub stop-next : log′ ≡ set log n (commandWord (command.Stop (getD ds i 0))) → (ctx : List ℕ) →
-      played o n (stopFrom ctx (take i ds) (drop i ds)) log ≡
-      played o (n + 1)
-      (onSent s (stopFrom ctx (take (i + 1) ds) (drop (i + 1) ds)) (undoStops ctx (take i ds)) (ends (swept Cut 0)))
-      log′
-  unfolding stopFrom
-  stop-next el ctx = rw (add-one i, drop-cons ds i 0, take-suc ds i 0, el, es) (played-sends _ _ _ _ _ _)
-
-module _ (o ds log : List ℕ) (n i : ℕ) (h : length ds ≤ i) where
-  -- the resuming loop's end
-  pub resume-end : (ctx : List ℕ) → played o n (resumeFrom ctx i (drop i ds)) log ≡ record { end = swept Done i; count = n; log = log }
-  unfolding resumeFrom
-  resume-end ctx = rw (drop-of-length-le ds h) (played-ends _ _ _ _)
-
-  -- the stopping loop's end
-  pub stop-end : (ctx stopped : List ℕ) →
-      played o n (stopFrom ctx stopped (drop i ds)) log ≡ record { end = swept Done 0; count = n; log = log }
-  unfolding stopFrom
-  stop-end ctx stopped = rw (drop-of-length-le ds h) (played-ends _ _ _ _)
-
 -- Resuming m endpoints where a are active already.
 record Resumed (a m : ℕ) (ws : List ℕ) (r : Sweep) : Type 0 where
   pub short : length ws ≤ m

@@ -1,7 +1,6 @@
 // Whether the hubs above a device form a chain.
 ghost use mathlib.Core.Path.{_≡_};
-ghost use Rattle.hub.specs.Chain.{hubFits, chainFrom, chainOk};
-use crate::hub_word::HubInfo;
+ghost use Rattle.hub.specs.Chain.{chainFrom, chainOk};
 use crate::hub_word::hub_at;
 
 const MAX_HUBS: usize = 256;
@@ -19,36 +18,17 @@ pub fn chain_ok(hubs: &[u64], has_parent: bool, parent: usize) -> bool
         return true;
     }
     let h = hub_at(hubs, parent);
-    let d = h.depth_plus_one;
-    if MAX_DEPTH_PLUS_ONE < d {
+    if MAX_DEPTH_PLUS_ONE < h.depth_plus_one {
         return false;
     }
-    chain_from(hubs, parent, d)
+    chain_from(hubs, parent, h.depth_plus_one)
 }
 
+// The same from the hub at an index, of this depth plus one; past the end of the list none is present.
 fn chain_from(hubs: &[u64], at: usize, depth_plus_one: u8) -> bool
     ensures { λ r. ⌜ r ≡ chainFrom (now (hubs .entry)) at «depth_plus_one» ⌝ }
 {
-    if hubs.len() <= at {
-        return false;
-    }
     let h = hub_at(hubs, at);
-    if !hub_fits(h, depth_plus_one) {
-        return false;
-    }
-    if depth_plus_one == 0 {
-        return true;
-    }
-    if !h.has_parent {
-        return false;
-    }
-    let parent = h.parent;
-    chain_from(hubs, parent, depth_plus_one - 1)
-}
-
-fn hub_fits(h: HubInfo, depth_plus_one: u8) -> bool
-    ensures { λ r. ⌜ r ≡ hubFits h «depth_plus_one» ⌝ }
-{
     if !h.present {
         return false;
     }
@@ -58,5 +38,14 @@ fn hub_fits(h: HubInfo, depth_plus_one: u8) -> bool
     if h.unused != 0 {
         return false;
     }
-    h.depth_plus_one == depth_plus_one
+    if h.depth_plus_one != depth_plus_one {
+        return false;
+    }
+    if depth_plus_one == 0 {
+        return true;
+    }
+    if !h.has_parent {
+        return false;
+    }
+    chain_from(hubs, h.parent, depth_plus_one - 1)
 }

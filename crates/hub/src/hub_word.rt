@@ -1,6 +1,6 @@
 // A hub of 01's list, as its word of 64 bits.
 ghost use mathlib.Core.Path.{_≡_};
-ghost use Rattle.hub.specs.HubWord.{hubInfo, hubAt};
+ghost use Rattle.hub.specs.HubWord.{hubAt};
 
 // A hub word taken apart.
 pub struct HubInfo {
@@ -36,15 +36,10 @@ const MULTI: u64 = 0x0000_0000_8000_0000;
 pub fn hub_at(hubs: &[u64], at: usize) -> HubInfo
     ensures { λ r. ⌜ r ≡ hubAt (now (hubs .entry)) at ⌝ }
 {
+    let mut w = 0;
     if at < hubs.len() {
-        return hub_info(hubs[at]);
+        w = hubs[at];
     }
-    hub_info(0)
-}
-
-fn hub_info(w: u64) -> HubInfo
-    ensures { λ r. ⌜ r ≡ hubInfo w ⌝ }
-{
     HubInfo {
         present: w / PRESENT % 2 == 1,
         has_parent: w / HAS_PARENT % 2 == 1,

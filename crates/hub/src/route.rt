@@ -1,7 +1,7 @@
 // The route from the root hub down to a device.
 ghost use mathlib.Core.Path.{_≡_};
-ghost use Prim.Native.Nat.{_*_, _<_, _^_};
-ghost use Rattle.hub.specs.Route.{ports, clamp, routeOf, routeString};
+ghost use Prim.Native.Nat.{_<_};
+ghost use Rattle.hub.specs.Route.{ports, routeOf, routeString};
 use crate::hub_word::hub_at;
 
 // The Route String of a device's slot context.
@@ -15,6 +15,9 @@ pub fn route_string(hubs: &[u64], has_parent: bool, parent: usize, port: u8) -> 
     route_from(hubs, parent, port, h.depth_plus_one)
 }
 
+// By the depth of the hub that a port is on.
+const NIBBLE_WEIGHTS: [u32; 7] = [0x1, 0x10, 0x100, 0x1000, 0x1_0000, 0x10_0000, 0x100_0000];
+
 // The route string from a port of the hub at an index.
 fn route_from(hubs: &[u64], at: usize, port: u8, depth_plus_one: u8) -> u32
     requires { ⌜ «depth_plus_one» < 8 ⌝ }
@@ -24,24 +27,12 @@ fn route_from(hubs: &[u64], at: usize, port: u8, depth_plus_one: u8) -> u32
         return 0;
     }
     let h = hub_at(hubs, at);
-    let parent = h.parent;
     let depth = depth_plus_one - 1;
-    let above = route_from(hubs, parent, h.port_id, depth);
-    nibble(port, depth) + above
-}
-
-// By the depth of the hub that a port is on.
-const NIBBLE_WEIGHTS: [u32; 7] = [0x1, 0x10, 0x100, 0x1000, 0x1_0000, 0x10_0000, 0x100_0000];
-
-// A port of a hub of this depth, at its place in the route string.
-fn nibble(port: u8, depth: u8) -> u32
-    requires { ⌜ depth < 7 ⌝ }
-    ensures { λ r. ⌜ r ≡ clamp port * 16 ^ depth ⌝ }
-{
+    let above = route_from(hubs, h.parent, h.port_id, depth);
     let i = depth as usize;
     let weight = NIBBLE_WEIGHTS[i];
     if 15 < port {
-        return 15 * weight;
+        return 15 * weight + above;
     }
-    (port as u32) * weight
+    (port as u32) * weight + above
 }

@@ -1,6 +1,6 @@
 // The transaction translator above a Low or Full speed device.
 ghost use mathlib.Core.Path.{_≡_};
-ghost use Rattle.hub.specs.Translator.{noTranslator, nearestHigh, translatorOf};
+ghost use Rattle.hub.specs.Translator.{nearestHigh, translatorOf};
 use crate::hub_word::hub_at;
 
 // The High speed hub that translates for a Low or Full speed device, and the port on it; all 0 where there is none.
@@ -9,6 +9,12 @@ pub struct Translator {
     pub multi: bool,
     pub port: u8,
 }
+
+const NO_TRANSLATOR: Translator = Translator {
+    slot_id: 0,
+    multi: false,
+    port: 0,
+};
 
 // What a device's slot context says of a transaction translator.
 pub fn transaction_translator(
@@ -21,10 +27,10 @@ pub fn transaction_translator(
     ensures { λ r. ⌜ r ≡ translatorOf speed (now (hubs .entry)) «has_parent» parent port ⌝ }
 {
     if speed != def::FULL && speed != def::LOW {
-        return no_translator();
+        return NO_TRANSLATOR;
     }
     if !has_parent {
-        return no_translator();
+        return NO_TRANSLATOR;
     }
     let h = hub_at(hubs, parent);
     nearest_high(hubs, parent, port, h.depth_plus_one)
@@ -35,7 +41,7 @@ fn nearest_high(hubs: &[u64], at: usize, port: u8, depth_plus_one: u8) -> Transl
     ensures { λ r. ⌜ r ≡ nearestHigh (now (hubs .entry)) at port «depth_plus_one» ⌝ }
 {
     if depth_plus_one == 0 {
-        return no_translator();
+        return NO_TRANSLATOR;
     }
     let h = hub_at(hubs, at);
     if h.speed == def::HIGH {
@@ -45,16 +51,5 @@ fn nearest_high(hubs: &[u64], at: usize, port: u8, depth_plus_one: u8) -> Transl
             port: port,
         };
     }
-    let parent = h.parent;
-    nearest_high(hubs, parent, h.port_id, depth_plus_one - 1)
-}
-
-fn no_translator() -> Translator
-    ensures { λ r. ⌜ r ≡ noTranslator ⌝ }
-{
-    Translator {
-        slot_id: 0,
-        multi: false,
-        port: 0,
-    }
+    nearest_high(hubs, h.parent, h.port_id, depth_plus_one - 1)
 }

@@ -1,5 +1,6 @@
 // What the courses of claim, release and set configuration share: parts of arrays lent on, and how a course ends.
 use answer::Answer;
+use command::Command;
 use command::Sent;
 use command::Swept;
 use def::SlotId;
@@ -26,24 +27,73 @@ pub struct Ended {
     pub moved: bool,
 }
 
-// Stops the endpoints of some queues.
-pub fn stop_queues(log: &mut [u32], outcomes: &[u8], n: usize, q: Queues) -> Swept
-    requires { ⌜ (q .count ≤ 30) × (n + 2 * q .count ≤ length (now log)) ⌝ }
-    ensures { λ r. ⌜ ((ctx : List ℕ) → SweptAs r (now (log .exit)) (played (now (outcomes .entry)) n (stopAll ctx (dcisIn q)) (now (log .entry)))) ⌝ }
-{
-    let dcis = q.dcis;
-    let count = q.count;
-    command::stop_all(log, outcomes, n, &dcis[0..count])
-}
-
-// Resumes the endpoints of some queues.
+// Resumes the endpoints of some queues in order, until one fails.
 pub fn resume_queues(log: &mut [u32], outcomes: &[u8], n: usize, q: Queues) -> Swept
     requires { ⌜ (q .count ≤ 30) × (n + q .count ≤ length (now log)) ⌝ }
     ensures { λ r. ⌜ ((ctx : List ℕ) → SweptAs r (now (log .exit)) (played (now (outcomes .entry)) n (resumeAll ctx (dcisIn q)) (now (log .entry)))) ⌝ }
 {
-    let dcis = q.dcis;
-    let count = q.count;
-    command::resume_all(log, outcomes, n, &dcis[0..count])
+    let mut i = 0;
+    while i < q.count {
+        let sent = command::send(log, outcomes, n + i, Command::Resume(q.dcis[i]));
+        match sent {
+            Sent::Done => {
+                i += 1;
+            }
+            _ => {
+                return Swept {
+                    sent,
+                    count: n + i + 1,
+                    active: i,
+                };
+            }
+        }
+    }
+    Swept {
+        sent: Sent::Done,
+        count: n + i,
+        active: i,
+    }
+}
+
+// Stops the endpoints of some queues in order; where one fails, those already stopped are resumed.
+pub fn stop_queues(log: &mut [u32], outcomes: &[u8], n: usize, q: Queues) -> Swept
+    requires { ⌜ (q .count ≤ 30) × (n + 2 * q .count ≤ length (now log)) ⌝ }
+    ensures { λ r. ⌜ ((ctx : List ℕ) → SweptAs r (now (log .exit)) (played (now (outcomes .entry)) n (stopAll ctx (dcisIn q)) (now (log .entry)))) ⌝ }
+{
+    let mut i = 0;
+    while i < q.count {
+        match command::send(log, outcomes, n + i, Command::Stop(q.dcis[i])) {
+            Sent::Done => {
+                i += 1;
+            }
+            Sent::Failed(code) => {
+                let stopped = Queues {
+                    dcis: q.dcis,
+                    rings: q.rings,
+                    count: i,
+                };
+                let back = resume_queues(log, outcomes, n + i + 1, stopped);
+                let resumed = back.sent;
+                return Swept {
+                    sent: command::or_code(code, resumed),
+                    count: back.count,
+                    active: back.active,
+                };
+            }
+            Sent::Cut => {
+                return Swept {
+                    sent: Sent::Cut,
+                    count: n + i + 1,
+                    active: 0,
+                };
+            }
+        }
+    }
+    Swept {
+        sent: Sent::Done,
+        count: n + i,
+        active: 0,
+    }
 }
 
 // Takes the routes of some queues out and puts those of others in.
@@ -58,17 +108,15 @@ pub fn publish_endpoint_routes(
 {
     let old_dcis = old.dcis;
     let old_rings = old.rings;
-    let old_count = old.count;
     let new_dcis = new.dcis;
     let new_rings = new.rings;
-    let new_count = new.count;
     transfer::replace_queues(
         routes,
         slot,
-        &old_dcis[0..old_count],
-        &old_rings[0..old_count],
-        &new_dcis[0..new_count],
-        &new_rings[0..new_count],
+        &old_dcis[..old.count],
+        &old_rings[..old.count],
+        &new_dcis[..new.count],
+        &new_rings[..new.count],
     )
 }
 
@@ -100,9 +148,7 @@ pub fn prepare_configure(
 {
     let dcis = q.dcis;
     let rings = q.rings;
-    let count = q.count;
     let endpoints = all.dcis;
-    let endpoint_count = all.count;
     configure_context::prepare_configure_context(
         ctx,
         spacing,
@@ -111,9 +157,9 @@ pub fn prepare_configure(
         alternate,
         dropped,
         added,
-        &dcis[0..count],
-        &rings[0..count],
-        &endpoints[0..endpoint_count],
+        &dcis[..q.count],
+        &rings[..q.count],
+        &endpoints[..all.count],
     );
 }
 

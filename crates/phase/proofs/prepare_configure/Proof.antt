@@ -1,63 +1,52 @@
+use Prim.Native.Nat.{_≤_}
+use mathlib.Core.Path.{_≡_, sym}
 use native.Mathlib.Omega.{arith}
-use mathlib.Core.Path.{_≡_}
 use lib.ListN.{length}
+use lib.Seq.{length-take-le}
 use Rattle.phase.specs.Arrays.{dcisIn, ringsIn, queuesIn}
-use native.Mathlib.Nat.{sub-zero}
 use borrow.Author.Needs.{needs}
 use Rattle.phase.proofs.prepare_configure.Statement.{statement}
 use Rattle.phase.proofs.prepare_configure.Tie as tie
 
-sub-prepare-configure-context : tie.Need-sub-prepare-configure-context
-sub-prepare-configure-context c = search needs
+array-share-prefix-dcis : tie.Need-array-share-prefix-dcis
+array-share-prefix-dcis c = let start = c .before .before .before .before .before .before .before in let known : length (start .args .q .dcis) ≡ 30 = search needs in let few : start .args .q .count ≤ length (start .args .q .dcis) = omega (arith, known, start .pre .1 .0) in few
 
-part-prepare-configure-context-start : tie.Need-part-prepare-configure-context-start
-part-prepare-configure-context-start c = search needs
+slice-aggregate-prepare-configure-context : tie.Need-slice-aggregate-prepare-configure-context
+slice-aggregate-prepare-configure-context c = let start = c .before .before .before .before .before .before .before .before in let known : length (start .args .q .dcis) ≡ 30 = search needs in let few : start .args .q .count ≤ length (start .args .q .dcis) = omega (arith, known, start .pre .1 .0) in sym (length-take-le (start .args .q .count) (start .args .q .dcis) few)
 
-part-prepare-configure-context-end : tie.Need-part-prepare-configure-context-end
-part-prepare-configure-context-end c = let known : length (c .before .before .before .before .before .before .before .before .args .q .dcis) ≡ 30 = search needs in omega (arith, known)
+array-share-prefix-rings : tie.Need-array-share-prefix-rings
+array-share-prefix-rings c = let start = c .before .before .before .before .before .before .before .before in let known : length (start .args .q .rings) ≡ 30 = search needs in let few : start .args .q .count ≤ length (start .args .q .rings) = omega (arith, known, start .pre .1 .0) in few
 
-sub-prepare-configure-context-2 : tie.Need-sub-prepare-configure-context-2
-sub-prepare-configure-context-2 c = search needs
+slice-aggregate-prepare-configure-context-2 : tie.Need-slice-aggregate-prepare-configure-context-2
+slice-aggregate-prepare-configure-context-2 c = let start = c .before .before .before .before .before .before .before .before .before in let known : length (start .args .q .rings) ≡ 30 = search needs in let few : start .args .q .count ≤ length (start .args .q .rings) = omega (arith, known, start .pre .1 .0) in sym (length-take-le (start .args .q .count) (start .args .q .rings) few)
 
-part-prepare-configure-context-start-2 : tie.Need-part-prepare-configure-context-start-2
-part-prepare-configure-context-start-2 c = search needs
+array-share-prefix-endpoints : tie.Need-array-share-prefix-endpoints
+array-share-prefix-endpoints c = let start = c .before .before .before .before .before .before .before .before .before in let known : length (start .args .all .dcis) ≡ 30 = search needs in let few : start .args .all .count ≤ length (start .args .all .dcis) = omega (arith, known, start .pre .1 .1) in few
 
-part-prepare-configure-context-end-2 : tie.Need-part-prepare-configure-context-end-2
-part-prepare-configure-context-end-2 c = let known : length (c .before .before .before .before .before .before .before .before .before .before .args .q .rings) ≡ 30 = search needs in omega (arith, known)
-
-sub-prepare-configure-context-3 : tie.Need-sub-prepare-configure-context-3
-sub-prepare-configure-context-3 c = search needs
-
-part-prepare-configure-context-start-3 : tie.Need-part-prepare-configure-context-start-3
-part-prepare-configure-context-start-3 c = search needs
-
-part-prepare-configure-context-end-3 : tie.Need-part-prepare-configure-context-end-3
-part-prepare-configure-context-end-3 c = let known : length (c .before .before .before .before .before .before .before .before .before .before .before .before .args .all .dcis) ≡ 30 = search needs in omega (arith, known)
+slice-aggregate-prepare-configure-context-3 : tie.Need-slice-aggregate-prepare-configure-context-3
+slice-aggregate-prepare-configure-context-3 c = let start = c .before .before .before .before .before .before .before .before .before .before in let known : length (start .args .all .dcis) ≡ 30 = search needs in let few : start .args .all .count ≤ length (start .args .all .dcis) = omega (arith, known, start .pre .1 .1) in sym (length-take-le (start .args .all .count) (start .args .all .dcis) few)
 
 prepare-configure-context-requires : tie.Need-prepare-configure-context-requires
 unfolding dcisIn
-prepare-configure-context-requires c κs = let pre = c .before .before .before .before .before .before .before .before .before .before .before .before .before .pre in (pre .0, simp sub-zero (pre .1 .2))
+prepare-configure-context-requires c κs = let pre = c .before .before .before .before .before .before .before .before .before .before .pre in (pre .0, pre .1 .2)
 
 same-length : tie.Need-same-length
 same-length c = search needs
 
 returns : tie.Need-returns
 unfolding queuesIn dcisIn ringsIn
-returns c = simp sub-zero at (c .before .before .prepare-configure-context .ensures)
+returns c = c .before .before .prepare-configure-context .ensures
 
 pub prepare-configure-spec : {M : Type 1} → statement M
 prepare-configure-spec =
     tie.close
     (tie.spec
-    sub-prepare-configure-context
-    part-prepare-configure-context-start
-    part-prepare-configure-context-end
-    sub-prepare-configure-context-2
-    part-prepare-configure-context-start-2
-    part-prepare-configure-context-end-2
-    sub-prepare-configure-context-3
-    part-prepare-configure-context-start-3
-    part-prepare-configure-context-end-3
+    array-share-prefix-dcis
+    slice-aggregate-prepare-configure-context
+    array-share-prefix-rings
+    slice-aggregate-prepare-configure-context-2
+    array-share-prefix-endpoints
+    slice-aggregate-prepare-configure-context-3
     prepare-configure-context-requires
     same-length
     returns)

@@ -1,47 +1,36 @@
+use Prim.Native.Nat.{_≤_}
+use mathlib.Core.Path.{_≡_, sym}
 use native.Mathlib.Omega.{arith}
-use mathlib.Core.Path.{_≡_}
 use lib.ListN.{length}
+use lib.Seq.{length-take-le}
 use Rattle.phase.specs.Arrays.{dcisIn, ringsIn, queuesIn}
-use native.Mathlib.Nat.{sub-zero}
 use borrow.Author.Needs.{needs}
 use Rattle.phase.proofs.publish_endpoint_routes.Statement.{statement}
 use Rattle.phase.proofs.publish_endpoint_routes.Tie as tie
 
-sub-replace-queues : tie.Need-sub-replace-queues
-sub-replace-queues c = search needs
+array-share-prefix-old-dcis : tie.Need-array-share-prefix-old-dcis
+array-share-prefix-old-dcis c = let start = c .before .before .before .before .before .before in let known : length (start .args .old .dcis) ≡ 30 = search needs in let few : start .args .old .count ≤ length (start .args .old .dcis) = omega (arith, known, start .pre .0) in few
 
-part-replace-queues-start : tie.Need-part-replace-queues-start
-part-replace-queues-start c = search needs
+slice-aggregate-replace-queues : tie.Need-slice-aggregate-replace-queues
+slice-aggregate-replace-queues c = let start = c .before .before .before .before .before .before .before in let known : length (start .args .old .dcis) ≡ 30 = search needs in let few : start .args .old .count ≤ length (start .args .old .dcis) = omega (arith, known, start .pre .0) in sym (length-take-le (start .args .old .count) (start .args .old .dcis) few)
 
-part-replace-queues-end : tie.Need-part-replace-queues-end
-part-replace-queues-end c = let known : length (c .before .before .before .before .before .before .before .args .old .dcis) ≡ 30 = search needs in omega (arith, known)
+array-share-prefix-old-rings : tie.Need-array-share-prefix-old-rings
+array-share-prefix-old-rings c = let start = c .before .before .before .before .before .before .before in let known : length (start .args .old .rings) ≡ 30 = search needs in let few : start .args .old .count ≤ length (start .args .old .rings) = omega (arith, known, start .pre .0) in few
 
-sub-replace-queues-2 : tie.Need-sub-replace-queues-2
-sub-replace-queues-2 c = search needs
+slice-aggregate-replace-queues-2 : tie.Need-slice-aggregate-replace-queues-2
+slice-aggregate-replace-queues-2 c = let start = c .before .before .before .before .before .before .before .before in let known : length (start .args .old .rings) ≡ 30 = search needs in let few : start .args .old .count ≤ length (start .args .old .rings) = omega (arith, known, start .pre .0) in sym (length-take-le (start .args .old .count) (start .args .old .rings) few)
 
-part-replace-queues-start-2 : tie.Need-part-replace-queues-start-2
-part-replace-queues-start-2 c = search needs
+array-share-prefix-new-dcis : tie.Need-array-share-prefix-new-dcis
+array-share-prefix-new-dcis c = let start = c .before .before .before .before .before .before .before .before in let known : length (start .args .new .dcis) ≡ 30 = search needs in let few : start .args .new .count ≤ length (start .args .new .dcis) = omega (arith, known, start .pre .1) in few
 
-part-replace-queues-end-2 : tie.Need-part-replace-queues-end-2
-part-replace-queues-end-2 c = let known : length (c .before .before .before .before .before .before .before .before .before .args .old .rings) ≡ 30 = search needs in omega (arith, known)
+slice-aggregate-replace-queues-3 : tie.Need-slice-aggregate-replace-queues-3
+slice-aggregate-replace-queues-3 c = let start = c .before .before .before .before .before .before .before .before .before in let known : length (start .args .new .dcis) ≡ 30 = search needs in let few : start .args .new .count ≤ length (start .args .new .dcis) = omega (arith, known, start .pre .1) in sym (length-take-le (start .args .new .count) (start .args .new .dcis) few)
 
-sub-replace-queues-3 : tie.Need-sub-replace-queues-3
-sub-replace-queues-3 c = search needs
+array-share-prefix-new-rings : tie.Need-array-share-prefix-new-rings
+array-share-prefix-new-rings c = let start = c .before .before .before .before .before .before .before .before .before in let known : length (start .args .new .rings) ≡ 30 = search needs in let few : start .args .new .count ≤ length (start .args .new .rings) = omega (arith, known, start .pre .1) in few
 
-part-replace-queues-start-3 : tie.Need-part-replace-queues-start-3
-part-replace-queues-start-3 c = search needs
-
-part-replace-queues-end-3 : tie.Need-part-replace-queues-end-3
-part-replace-queues-end-3 c = let known : length (c .before .before .before .before .before .before .before .before .before .before .before .args .new .dcis) ≡ 30 = search needs in omega (arith, known)
-
-sub-replace-queues-4 : tie.Need-sub-replace-queues-4
-sub-replace-queues-4 c = search needs
-
-part-replace-queues-start-4 : tie.Need-part-replace-queues-start-4
-part-replace-queues-start-4 c = search needs
-
-part-replace-queues-end-4 : tie.Need-part-replace-queues-end-4
-part-replace-queues-end-4 c = let known : length (c .before .before .before .before .before .before .before .before .before .before .before .before .before .args .new .rings) ≡ 30 = search needs in omega (arith, known)
+slice-aggregate-replace-queues-4 : tie.Need-slice-aggregate-replace-queues-4
+slice-aggregate-replace-queues-4 c = let start = c .before .before .before .before .before .before .before .before .before .before in let known : length (start .args .new .rings) ≡ 30 = search needs in let few : start .args .new .count ≤ length (start .args .new .rings) = omega (arith, known, start .pre .1) in sym (length-take-le (start .args .new .count) (start .args .new .rings) few)
 
 replace-queues-requires : tie.Need-replace-queues-requires
 replace-queues-requires c κs = search needs
@@ -51,24 +40,20 @@ same-length c = search needs
 
 returns : tie.Need-returns
 unfolding queuesIn dcisIn ringsIn
-returns c = simp sub-zero at (c .before .before .replace-queues .ensures)
+returns c = c .before .before .replace-queues .ensures
 
 pub publish-endpoint-routes-spec : {M : Type 1} → statement M
 publish-endpoint-routes-spec =
     tie.close
     (tie.spec
-    sub-replace-queues
-    part-replace-queues-start
-    part-replace-queues-end
-    sub-replace-queues-2
-    part-replace-queues-start-2
-    part-replace-queues-end-2
-    sub-replace-queues-3
-    part-replace-queues-start-3
-    part-replace-queues-end-3
-    sub-replace-queues-4
-    part-replace-queues-start-4
-    part-replace-queues-end-4
+    array-share-prefix-old-dcis
+    slice-aggregate-replace-queues
+    array-share-prefix-old-rings
+    slice-aggregate-replace-queues-2
+    array-share-prefix-new-dcis
+    slice-aggregate-replace-queues-3
+    array-share-prefix-new-rings
+    slice-aggregate-replace-queues-4
     replace-queues-requires
     same-length
     returns)

@@ -1,38 +1,86 @@
+use Prim.Native.Nat.{ℕ, _≤_, _-_, _+_}
+use mathlib.Core.Path.{_≡_, refl, ap, _∙_}
+use mathlib.Core.List.{List}
 use native.Mathlib.Omega.{arith}
-use mathlib.Core.Path.{_≡_}
-use lib.ListN.{length}
-use Rattle.phase.specs.Arrays.{dcisIn}
-use native.Mathlib.Nat.{sub-zero}
 use borrow.Author.Needs.{needs}
+use lib.ListN.{length, drop, take}
+use Rattle.command.specs.Course.{played}
+use Rattle.command.specs.Sweep.{resumeAll, resumeFrom}
+use Rattle.phase.specs.Arrays.{dcisIn}
+use Rattle.phase.proofs.Loops.{resume-start, resume-next, resume-left, resume-end}
 use Rattle.phase.proofs.resume_queues.Statement.{statement}
 use Rattle.phase.proofs.resume_queues.Tie as tie
 
-sub-resume-all : tie.Need-sub-resume-all
-sub-resume-all c = search needs
+abbrev Inv-loop : tie.InvT-loop
+Inv-loop log₀ outcomes n q i₀ log i =
+    (i ≤ q .count) × (length log ≡ length log₀) × (length (q .dcis) ≡ 30) × ((ctx : List ℕ) → played outcomes n (resumeAll ctx (dcisIn q)) log₀ ≡ played outcomes (n + i) (resumeFrom ctx i (drop i (dcisIn q))) log)
 
-part-resume-all-start : tie.Need-part-resume-all-start
-part-resume-all-start c = search needs
+abbrev μ-loop : tie.MeasureT-loop
+μ-loop log₀ outcomes n q i₀ log i = q .count - i
 
-part-resume-all-end : tie.Need-part-resume-all-end
-part-resume-all-end c = let known : length (c .before .before .before .before .before .args .q .dcis) ≡ 30 = search needs in omega (arith, known)
+loop-holds : tie.Need-loop-holds Inv-loop μ-loop
+loop-holds c = (search needs, search needs, search needs, λ ctx. resume-start _ _ _ ctx _)
 
-resume-all-requires : tie.Need-resume-all-requires
-resume-all-requires c κs = search needs
+add-send : tie.Need-add-send Inv-loop μ-loop
+add-send c = search needs
 
-same-length : tie.Need-same-length
+element-copy-out-t14 : tie.Need-element-copy-out-t14 Inv-loop μ-loop
+element-copy-out-t14 c = search needs
+
+send-requires : tie.Need-send-requires Inv-loop μ-loop
+send-requires c κs = search needs
+
+enum-told : tie.Need-enum-told Inv-loop μ-loop
+enum-told c = search needs
+
+add-i : tie.Need-add-i Inv-loop μ-loop
+add-i c = search needs
+
+loop-less : tie.Need-loop-less Inv-loop μ-loop
+loop-less c = search needs
+
+loop-again : tie.Need-loop-again Inv-loop μ-loop
+loop-again c = (search needs, search needs, search needs, λ ctx. c .before .before .before .before .before .before .before .before .loop .inv .3 ctx ∙ resume-next _ _ _ _ ctx _ _ _ (c .before .before .before .before .before .before .before .before .loop .inv .2) (c .before .before .before .before .before .before .before .before .before .before .before .pre .0) (c .before .before .before .before .before .before .before .loop-test .taken) (c .before .before .before .before .send .ensures .0) (c .before .before .before .before .send .ensures .1) (c .enum-told .given .1))
+
+add-t16 : tie.Need-add-t16 Inv-loop μ-loop
+add-t16 c = search needs
+
+add-t17 : tie.Need-add-t17 Inv-loop μ-loop
+add-t17 c = search needs
+
+same-length : tie.Need-same-length Inv-loop μ-loop
 same-length c = search needs
 
-returns : tie.Need-returns
-unfolding dcisIn
-returns c = λ ctx. simp sub-zero at (c .before .before .resume-all .ensures ctx)
+returns : tie.Need-returns Inv-loop μ-loop
+returns c = λ ctx. rw (c .before .before .before .before .before .before .before .loop .inv .3 ctx ∙ resume-left _ _ _ _ ctx _ _ _ (c .before .before .before .before .before .before .before .loop .inv .2) (c .before .before .before .before .before .before .before .before .before .before .pre .0) (c .before .before .before .before .before .before .loop-test .taken) (c .before .before .before .send .ensures .0) (c .before .before .before .send .ensures .1) (c .match .keys2)) (record { sent = refl; active = refl; count = refl; log = refl })
+
+add-t19 : tie.Need-add-t19 Inv-loop μ-loop
+add-t19 c = search needs
+
+same-length-2 : tie.Need-same-length-2 Inv-loop μ-loop
+same-length-2 c = search needs
+
+returns-2 : tie.Need-returns-2 Inv-loop μ-loop
+returns-2 c = λ ctx. rw (c .before .loop .inv .3 ctx ∙ resume-end _ _ _ ctx _ _ (c .loop-test .left)) (record { sent = refl; active = refl; count = refl; log = refl })
 
 pub resume-queues-spec : {M : Type 1} → statement M
 resume-queues-spec =
     tie.close
     (tie.spec
-    sub-resume-all
-    part-resume-all-start
-    part-resume-all-end
-    resume-all-requires
+    Inv-loop
+    μ-loop
+    loop-holds
+    add-send
+    element-copy-out-t14
+    send-requires
+    enum-told
+    add-i
+    loop-less
+    loop-again
+    add-t16
+    add-t17
     same-length
-    returns)
+    returns
+    add-t19
+    same-length-2
+    returns-2)

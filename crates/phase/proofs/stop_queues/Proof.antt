@@ -1,38 +1,120 @@
+use Prim.Native.Nat.{ℕ, _≤_, _-_, _+_}
+use mathlib.Core.Path.{_≡_, refl, ap, _∙_}
+use mathlib.Core.List.{List}
 use native.Mathlib.Omega.{arith}
-use mathlib.Core.Path.{_≡_}
-use lib.ListN.{length}
-use Rattle.phase.specs.Arrays.{dcisIn}
-use native.Mathlib.Nat.{sub-zero}
 use borrow.Author.Needs.{needs}
+use lib.ListN.{length, drop, take}
+use Rattle.command.specs.Course.{played}
+use Rattle.command.specs.Sweep.{orCode, undoStops, stopAll, stopFrom}
+use Rattle.command.proofs.Laws.{played-ends, played-then}
+use Rattle.phase.specs.Arrays.{dcisIn}
+use Rattle.phase.proofs.Loops.{stop-start, stop-next, stop-failed, stop-cut, stop-end}
 use Rattle.phase.proofs.stop_queues.Statement.{statement}
 use Rattle.phase.proofs.stop_queues.Tie as tie
 
-sub-stop-all : tie.Need-sub-stop-all
-sub-stop-all c = search needs
+abbrev Inv-loop : tie.InvT-loop
+Inv-loop log₀ outcomes n q i₀ log i =
+    (i ≤ q .count) × (length log ≡ length log₀) × (length (q .dcis) ≡ 30) × ((ctx : List ℕ) → played outcomes n (stopAll ctx (dcisIn q)) log₀ ≡ played outcomes (n + i) (stopFrom ctx (take i (dcisIn q)) (drop i (dcisIn q))) log)
 
-part-stop-all-start : tie.Need-part-stop-all-start
-part-stop-all-start c = search needs
+abbrev μ-loop : tie.MeasureT-loop
+μ-loop log₀ outcomes n q i₀ log i = q .count - i
 
-part-stop-all-end : tie.Need-part-stop-all-end
-part-stop-all-end c = let known : length (c .before .before .before .before .before .args .q .dcis) ≡ 30 = search needs in omega (arith, known)
+loop-holds : tie.Need-loop-holds Inv-loop μ-loop
+loop-holds c = (search needs, search needs, search needs, λ ctx. stop-start _ _ _ ctx _)
 
-stop-all-requires : tie.Need-stop-all-requires
-stop-all-requires c κs = search needs
+add-send : tie.Need-add-send Inv-loop μ-loop
+add-send c = search needs
 
-same-length : tie.Need-same-length
+element-copy-out-t18 : tie.Need-element-copy-out-t18 Inv-loop μ-loop
+element-copy-out-t18 c = search needs
+
+send-requires : tie.Need-send-requires Inv-loop μ-loop
+send-requires c κs = search needs
+
+enum-told : tie.Need-enum-told Inv-loop μ-loop
+enum-told c = search needs
+
+add-i : tie.Need-add-i Inv-loop μ-loop
+add-i c = search needs
+
+loop-less : tie.Need-loop-less Inv-loop μ-loop
+loop-less c = search needs
+
+loop-again : tie.Need-loop-again Inv-loop μ-loop
+loop-again c = (search needs, search needs, search needs, λ ctx. c .before .before .before .before .before .before .before .before .loop .inv .3 ctx ∙ stop-next _ _ _ _ ctx _ _ _ (c .before .before .before .before .before .before .before .before .loop .inv .2) (c .before .before .before .before .before .before .before .before .before .before .before .pre .0) (c .before .before .before .before .before .before .before .loop-test .taken) (c .before .before .before .before .send .ensures .0) (c .before .before .before .before .send .ensures .1) (c .enum-told .given .1))
+
+enum-known-code : tie.Need-enum-known-code Inv-loop μ-loop
+enum-known-code c = search needs
+
+add-resume-queues : tie.Need-add-resume-queues Inv-loop μ-loop
+add-resume-queues c = search needs
+
+add-resume-queues-2 : tie.Need-add-resume-queues-2 Inv-loop μ-loop
+add-resume-queues-2 c = search needs
+
+resume-queues-requires : tie.Need-resume-queues-requires Inv-loop μ-loop
+resume-queues-requires c κs = search needs
+
+or-code-requires : tie.Need-or-code-requires Inv-loop μ-loop
+or-code-requires c κs = search needs
+
+same-length : tie.Need-same-length Inv-loop μ-loop
 same-length c = search needs
 
-returns : tie.Need-returns
-unfolding dcisIn
-returns c = λ ctx. simp sub-zero at (c .before .before .stop-all .ensures ctx)
+returns : tie.Need-returns Inv-loop μ-loop
+unfolding undoStops dcisIn
+returns c = λ ctx. rw (c .before .before .before .before .before .before .before .before .before .before .before .before .before .before .before .before .loop .inv .3 ctx ∙ stop-failed (c .before .before .before .before .before .before .before .before .before .before .before .before .before .before .before .before .before .before .before .args .t4) _ _ _ ctx _ _ _ (c .before .before .before .before .before .before .before .before .before .before .before .before .before .before .before .before .loop .inv .2) (c .before .before .before .before .before .before .before .before .before .before .before .before .before .before .before .before .before .before .before .pre .0) (c .before .before .before .before .before .before .before .before .before .before .before .before .before .before .before .loop-test .taken) (c .before .before .before .before .before .before .before .before .before .before .before .before .send .ensures .0) (c .before .before .before .before .before .before .before .before .before .before .before .before .send .ensures .1) _ (c .before .before .before .before .before .before .before .before .code .given .1), played-then, played-ends) (record { sent = c .or-code .ensures ∙ ap (orCode _) (c .before .before .before .resume-queues .ensures ctx .sent); active = c .before .before .before .resume-queues .ensures ctx .active; count = c .before .before .before .resume-queues .ensures ctx .count; log = c .before .before .before .resume-queues .ensures ctx .log })
+
+enum-told-2 : tie.Need-enum-told-2 Inv-loop μ-loop
+enum-told-2 c = search needs
+
+add-t28 : tie.Need-add-t28 Inv-loop μ-loop
+add-t28 c = search needs
+
+add-t29 : tie.Need-add-t29 Inv-loop μ-loop
+add-t29 c = search needs
+
+same-length-2 : tie.Need-same-length-2 Inv-loop μ-loop
+same-length-2 c = search needs
+
+returns-2 : tie.Need-returns-2 Inv-loop μ-loop
+returns-2 c = λ ctx. rw (c .before .before .before .before .before .before .before .before .loop .inv .3 ctx ∙ stop-cut _ _ _ _ ctx _ _ _ (c .before .before .before .before .before .before .before .before .loop .inv .2) (c .before .before .before .before .before .before .before .before .before .before .before .pre .0) (c .before .before .before .before .before .before .before .loop-test .taken) (c .before .before .before .before .send .ensures .0) (c .before .before .before .before .send .ensures .1) (c .enum-told2 .given .1)) (record { sent = refl; active = refl; count = refl; log = refl })
+
+add-t31 : tie.Need-add-t31 Inv-loop μ-loop
+add-t31 c = search needs
+
+same-length-3 : tie.Need-same-length-3 Inv-loop μ-loop
+same-length-3 c = search needs
+
+returns-3 : tie.Need-returns-3 Inv-loop μ-loop
+returns-3 c = λ ctx. rw (c .before .loop .inv .3 ctx ∙ stop-end _ _ _ ctx _ _ (c .loop-test .left) _) (record { sent = refl; active = refl; count = refl; log = refl })
 
 pub stop-queues-spec : {M : Type 1} → statement M
 stop-queues-spec =
     tie.close
     (tie.spec
-    sub-stop-all
-    part-stop-all-start
-    part-stop-all-end
-    stop-all-requires
+    Inv-loop
+    μ-loop
+    loop-holds
+    add-send
+    element-copy-out-t18
+    send-requires
+    enum-told
+    add-i
+    loop-less
+    loop-again
+    enum-known-code
+    add-resume-queues
+    add-resume-queues-2
+    resume-queues-requires
+    or-code-requires
     same-length
-    returns)
+    returns
+    enum-told-2
+    add-t28
+    add-t29
+    same-length-2
+    returns-2
+    add-t31
+    same-length-3
+    returns-3)

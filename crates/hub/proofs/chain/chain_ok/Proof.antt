@@ -22,12 +22,12 @@ hub-at-requires c κs = search needs
 returns-3 : tie.Need-returns-3
 unfolding chainOk
 returns-3 c =
-    let a = c .before .before .before .before .before .args in
+    let a = c .before .before .before .before .before .before .args in
     rw (
-      le-leb (length (a .hubs .now)) 256 (c .before .before .before .if1 .left),
-      not-false (a .has-parent) (c .before .before .if2 .left),
-      ← c .before .hub-at .ensures,
-      lt-leb (c .before .hub-at .result .«depth_plus_one») 5 (c .if3 .taken),
+      le-leb (length (a .hubs .now)) 256 (c .before .before .before .before .if1 .left),
+      not-false (a .has-parent) (c .before .before .before .if2 .left),
+      ← c .before .before .hub-at .ensures,
+      lt-leb (c .before .before .hub-at .result .«depth_plus_one») 5 (c .if3 .taken),
     )
 
 chain-from-requires : tie.Need-chain-from-requires
@@ -36,12 +36,12 @@ chain-from-requires c κs = search needs
 returns-4 : tie.Need-returns-4
 unfolding chainOk
 returns-4 c =
-    let a = c .before .before .before .before .before .before .args in
+    let a = c .before .before .before .before .before .before .before .args in
     c .chain-from .ensures ∙ rw (
-      le-leb (length (a .hubs .now)) 256 (c .before .before .before .before .if1 .left),
-      not-false (a .has-parent) (c .before .before .before .if2 .left),
-      ← c .before .before .hub-at .ensures,
-      le-leb (c .before .before .hub-at .result .«depth_plus_one») 5 (c .before .if3 .left),
+      le-leb (length (a .hubs .now)) 256 (c .before .before .before .before .before .if1 .left),
+      not-false (a .has-parent) (c .before .before .before .before .if2 .left),
+      ← c .before .before .before .hub-at .ensures,
+      le-leb (c .before .before .before .hub-at .result .«depth_plus_one») 5 (c .before .if3 .left),
     )
 
 pub chain-ok-spec : {M : Type 1} → statement M

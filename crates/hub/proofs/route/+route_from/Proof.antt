@@ -1,16 +1,16 @@
+use mathlib.Core.Path.{_≡_}
 use mir.Syntax.{w32}
-use Rattle.hub.proofs.Laws.{ports-below}
-use Rattle.hub.specs.Route.{ports, routeOf}
-use Rattle.hub.proofs.Steps.{route-up}
-use borrow.Author.Needs.{needs, fits-under}
 use native.Mathlib.Omega.{arith}
-use Prim.Native.Nat.{ℕ, _<_, _^_}
+use Rattle.hub.specs.Route.{clamp, ports, routeOf}
+use Rattle.hub.proofs.Laws.{ports-below}
+use Rattle.hub.proofs.Steps.{route-up, nibble-right, scaled-below}
+use borrow.Author.Needs.{needs, fits-under}
+use Prim.Native.Nat.{ℕ, _-_, _<_, _^_}
 use borrow.Fn.Kinds.{In}
 use borrow.Fn.PlainCycle.{Measures, is, falls, and}
 use Rattle.hub.proofs.route.route_from.Reads as route-from
 use Rattle.hub.proofs.route.route_from.Kinds as route-from-kinds
 use Rattle.hub.proofs.route.+route_from.Lts-route_from as route-from-lts
-use Rattle.hub.proofs.route.nibble.Reads as nibble-reads
 use Rattle.hub.proofs.hub_word.hub_at.Reads as hub-at-reads
 use Rattle.hub.proofs.route.+route_from.{statement}
 use Rattle.hub.proofs.route.+route_from.Tie.{close}
@@ -31,8 +31,6 @@ route-from-returns : (t : ℕ) → route-from-lts.Need-returns (
   hub-at-reads.Learnt,
   route-from-below t,
   route-from.Post,
-  nibble-reads.Asked,
-  nibble-reads.Learnt,
 ) (route-from-at t) route-from.Post
 unfolding ports routeOf
 route-from-returns t c = rw (c .if1 .taken)
@@ -42,8 +40,6 @@ route-from-hub-at-requires : (t : ℕ) → route-from-lts.Need-hub-at-requires (
   hub-at-reads.Learnt,
   route-from-below t,
   route-from.Post,
-  nibble-reads.Asked,
-  nibble-reads.Learnt,
 ) (route-from-at t) route-from.Post
 route-from-hub-at-requires t c κs = search needs
 
@@ -52,8 +48,6 @@ route-from-sub-depth : (t : ℕ) → route-from-lts.Need-sub-depth (
   hub-at-reads.Learnt,
   route-from-below t,
   route-from.Post,
-  nibble-reads.Asked,
-  nibble-reads.Learnt,
 ) (route-from-at t) route-from.Post
 route-from-sub-depth t c = search needs
 
@@ -62,42 +56,82 @@ route-from-route-from-requires : (t : ℕ) → route-from-lts.Need-route-from-re
   hub-at-reads.Learnt,
   route-from-below t,
   route-from.Post,
-  nibble-reads.Asked,
-  nibble-reads.Learnt,
 ) (route-from-at t) route-from.Post
 route-from-route-from-requires t c κs = search needs
 
-route-from-nibble-requires : (t : ℕ) → route-from-lts.Need-nibble-requires (
+route-from-cast-i : (t : ℕ) → route-from-lts.Need-cast-i (
   hub-at-reads.Asked,
   hub-at-reads.Learnt,
   route-from-below t,
   route-from.Post,
-  nibble-reads.Asked,
-  nibble-reads.Learnt,
 ) (route-from-at t) route-from.Post
-route-from-nibble-requires t c κs = search needs
+route-from-cast-i t c = search needs
+
+route-from-mul-weight : (t : ℕ) → route-from-lts.Need-mul-weight (
+  hub-at-reads.Asked,
+  hub-at-reads.Learnt,
+  route-from-below t,
+  route-from.Post,
+) (route-from-at t) route-from.Post
+route-from-mul-weight t c = search needs
+
+route-from-array-read-weight : (t : ℕ) → route-from-lts.Need-array-read-weight (
+  hub-at-reads.Asked,
+  hub-at-reads.Learnt,
+  route-from-below t,
+  route-from.Post,
+) (route-from-at t) route-from.Post
+route-from-array-read-weight t c = search needs
+
+route-from-mul-result : (t : ℕ) → route-from-lts.Need-mul-result (
+  hub-at-reads.Asked,
+  hub-at-reads.Learnt,
+  route-from-below t,
+  route-from.Post,
+) (route-from-at t) route-from.Post
+route-from-mul-result t c = fits-under w32 _ 0x1000_0000 (scaled-below (c .before .before .before .before .before .args .depth-plus-one - 1) 15 (omega arith) (omega arith)) tt
 
 route-from-returns-2 : (t : ℕ) → route-from-lts.Need-returns-2 (
   hub-at-reads.Asked,
   hub-at-reads.Learnt,
   route-from-below t,
   route-from.Post,
-  nibble-reads.Asked,
-  nibble-reads.Learnt,
 ) (route-from-at t) route-from.Post
-route-from-returns-2 t c = route-up _ _ _ _ _ _ _ (c .before .before .before .if1 .left) (c .before .before .hub-at .ensures) (c .nibble .ensures) (c .before .route-from .ensures)
+unfolding clamp
+route-from-returns-2 t c = let m : clamp (c .before .before .before .before .before .args .port) ≡ 15 = omega arith in route-up _ _ _ _ _ _ _ (c .before .before .before .if1 .left) (c .before .before .hub-at .ensures) (nibble-right (c .before .before .before .before .before .args .port) (c .before .before .before .before .before .args .depth-plus-one - 1) _ (omega arith) m) (c .before .route-from .ensures)
 
 route-from-add-result : (t : ℕ) → route-from-lts.Need-add-result (
   hub-at-reads.Asked,
   hub-at-reads.Learnt,
   route-from-below t,
   route-from.Post,
-  nibble-reads.Asked,
-  nibble-reads.Learnt,
 ) (route-from-at t) route-from.Post
-route-from-add-result t c =
-    let b = ports-below (c .before .before .before .before .before .args .hubs .now) (c .before .before .before .before .before .args .at) (c .before .before .before .before .before .args .port) (c .before .before .before .before .before .args .depth-plus-one) 7 (omega arith) in
-    fits-under w32 _ (16 ^ 7) (rw (route-from-returns-2 t c) b) tt
+route-from-add-result t c = let b = ports-below (c .before .before .before .before .before .args .hubs .now) (c .before .before .before .before .before .args .at) (c .before .before .before .before .before .args .port) (c .before .before .before .before .before .args .depth-plus-one) 7 (omega arith) in fits-under w32 _ (16 ^ 7) (rw (route-from-returns-2 t c) b) tt
+
+route-from-mul-result-2 : (t : ℕ) → route-from-lts.Need-mul-result-2 (
+  hub-at-reads.Asked,
+  hub-at-reads.Learnt,
+  route-from-below t,
+  route-from.Post,
+) (route-from-at t) route-from.Post
+route-from-mul-result-2 t c = fits-under w32 _ 0x1000_0000 (scaled-below (c .before .before .before .before .before .args .depth-plus-one - 1) (c .before .before .before .before .before .args .port) (omega arith) (omega arith)) tt
+
+route-from-returns-3 : (t : ℕ) → route-from-lts.Need-returns-3 (
+  hub-at-reads.Asked,
+  hub-at-reads.Learnt,
+  route-from-below t,
+  route-from.Post,
+) (route-from-at t) route-from.Post
+unfolding clamp
+route-from-returns-3 t c = let m : clamp (c .before .before .before .before .before .args .port) ≡ c .before .before .before .before .before .args .port = omega arith in route-up _ _ _ _ _ _ _ (c .before .before .before .if1 .left) (c .before .before .hub-at .ensures) (nibble-right (c .before .before .before .before .before .args .port) (c .before .before .before .before .before .args .depth-plus-one - 1) _ (omega arith) m) (c .before .route-from .ensures)
+
+route-from-add-result-2 : (t : ℕ) → route-from-lts.Need-add-result-2 (
+  hub-at-reads.Asked,
+  hub-at-reads.Learnt,
+  route-from-below t,
+  route-from.Post,
+) (route-from-at t) route-from.Post
+route-from-add-result-2 t c = let b = ports-below (c .before .before .before .before .before .args .hubs .now) (c .before .before .before .before .before .args .at) (c .before .before .before .before .before .args .port) (c .before .before .before .before .before .args .depth-plus-one) 7 (omega arith) in fits-under w32 _ (16 ^ 7) (rw (route-from-returns-3 t c) b) tt
 
 pub +route-from-spec : {M : Type 1} → statement M
 +route-from-spec = close μ-route-from λ t. route-from-lts.spec (
@@ -105,8 +139,6 @@ pub +route-from-spec : {M : Type 1} → statement M
   hub-at-reads.Learnt,
   route-from-below t,
   route-from.Post,
-  nibble-reads.Asked,
-  nibble-reads.Learnt,
 )
     (route-from-at t)
     route-from.Post
@@ -114,6 +146,12 @@ pub +route-from-spec : {M : Type 1} → statement M
     (route-from-hub-at-requires t)
     (route-from-sub-depth t)
     (route-from-route-from-requires t)
-    (route-from-nibble-requires t)
+    (route-from-cast-i t)
+    (route-from-mul-weight t)
+    (route-from-array-read-weight t)
+    (route-from-mul-result t)
     (route-from-add-result t)
     (route-from-returns-2 t)
+    (route-from-mul-result-2 t)
+    (route-from-add-result-2 t)
+    (route-from-returns-3 t)

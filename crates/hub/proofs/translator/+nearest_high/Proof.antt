@@ -1,4 +1,3 @@
-use mathlib.Core.Path.{_∙_}
 use Rattle.hub.specs.Translator.{nearestHigh}
 use Rattle.hub.proofs.Steps.{high-here, high-up}
 use borrow.Author.Needs.{needs}
@@ -8,7 +7,6 @@ use borrow.Fn.PlainCycle.{Measures, is, falls, and}
 use Rattle.hub.proofs.translator.nearest_high.Reads as nearest-high
 use Rattle.hub.proofs.translator.nearest_high.Kinds as nearest-high-kinds
 use Rattle.hub.proofs.translator.+nearest_high.Lts-nearest_high as nearest-high-lts
-use Rattle.hub.proofs.translator.no_translator.Reads as no-translator-reads
 use Rattle.hub.proofs.hub_word.hub_at.Reads as hub-at-reads
 use Rattle.hub.proofs.translator.+nearest_high.{statement}
 use Rattle.hub.proofs.translator.+nearest_high.Tie.{close}
@@ -28,30 +26,16 @@ nearest-high-below t =
     (falls 1 nearest-high-kinds.ps _<_ μ-nearest-high t)
     nearest-high.Pre
 
-nearest-high-no-translator-requires : (t : ℕ) → nearest-high-lts.Need-no-translator-requires (
-  no-translator-reads.Asked,
-  no-translator-reads.Learnt,
-  hub-at-reads.Asked,
-  hub-at-reads.Learnt,
-  nearest-high-below t,
-  nearest-high.Post,
-) (nearest-high-at t) nearest-high.Post
-nearest-high-no-translator-requires t c κs = search needs
-
 nearest-high-returns : (t : ℕ) → nearest-high-lts.Need-returns (
-  no-translator-reads.Asked,
-  no-translator-reads.Learnt,
   hub-at-reads.Asked,
   hub-at-reads.Learnt,
   nearest-high-below t,
   nearest-high.Post,
 ) (nearest-high-at t) nearest-high.Post
 unfolding nearestHigh
-nearest-high-returns t c = c .no-translator .ensures ∙ rw (c .before .if1 .taken)
+nearest-high-returns t c = rw (c .if1 .taken)
 
 nearest-high-hub-at-requires : (t : ℕ) → nearest-high-lts.Need-hub-at-requires (
-  no-translator-reads.Asked,
-  no-translator-reads.Learnt,
   hub-at-reads.Asked,
   hub-at-reads.Learnt,
   nearest-high-below t,
@@ -60,8 +44,6 @@ nearest-high-hub-at-requires : (t : ℕ) → nearest-high-lts.Need-hub-at-requir
 nearest-high-hub-at-requires t c κs = search needs
 
 nearest-high-returns-2 : (t : ℕ) → nearest-high-lts.Need-returns-2 (
-  no-translator-reads.Asked,
-  no-translator-reads.Learnt,
   hub-at-reads.Asked,
   hub-at-reads.Learnt,
   nearest-high-below t,
@@ -70,8 +52,6 @@ nearest-high-returns-2 : (t : ℕ) → nearest-high-lts.Need-returns-2 (
 nearest-high-returns-2 t c = high-here _ _ _ _ _ (c .before .before .before .if1 .left) (c .before .before .hub-at .ensures) (c .if2 .taken)
 
 nearest-high-sub-nearest-high : (t : ℕ) → nearest-high-lts.Need-sub-nearest-high (
-  no-translator-reads.Asked,
-  no-translator-reads.Learnt,
   hub-at-reads.Asked,
   hub-at-reads.Learnt,
   nearest-high-below t,
@@ -80,8 +60,6 @@ nearest-high-sub-nearest-high : (t : ℕ) → nearest-high-lts.Need-sub-nearest-
 nearest-high-sub-nearest-high t c = search needs
 
 nearest-high-nearest-high-requires : (t : ℕ) → nearest-high-lts.Need-nearest-high-requires (
-  no-translator-reads.Asked,
-  no-translator-reads.Learnt,
   hub-at-reads.Asked,
   hub-at-reads.Learnt,
   nearest-high-below t,
@@ -90,8 +68,6 @@ nearest-high-nearest-high-requires : (t : ℕ) → nearest-high-lts.Need-nearest
 nearest-high-nearest-high-requires t c κs = search needs
 
 nearest-high-returns-3 : (t : ℕ) → nearest-high-lts.Need-returns-3 (
-  no-translator-reads.Asked,
-  no-translator-reads.Learnt,
   hub-at-reads.Asked,
   hub-at-reads.Learnt,
   nearest-high-below t,
@@ -101,8 +77,6 @@ nearest-high-returns-3 t c = high-up _ _ _ _ _ (c .before .before .before .befor
 
 pub +nearest-high-spec : {M : Type 1} → statement M
 +nearest-high-spec = close μ-nearest-high λ t. nearest-high-lts.spec (
-  no-translator-reads.Asked,
-  no-translator-reads.Learnt,
   hub-at-reads.Asked,
   hub-at-reads.Learnt,
   nearest-high-below t,
@@ -110,7 +84,6 @@ pub +nearest-high-spec : {M : Type 1} → statement M
 )
     (nearest-high-at t)
     nearest-high.Post
-    (nearest-high-no-translator-requires t)
     (nearest-high-returns t)
     (nearest-high-hub-at-requires t)
     (nearest-high-returns-2 t)

@@ -9,14 +9,11 @@ use borrow.Author.Needs.{needs}
 use Rattle.hub.proofs.translator.transaction_translator.Statement.{statement}
 use Rattle.hub.proofs.translator.transaction_translator.Tie as tie
 
-no-translator-requires : tie.Need-no-translator-requires
-no-translator-requires c κs = search needs
-
 returns : tie.Need-returns
 unfolding translatorOf
 returns c =
-    let speed = c .before .before .before .before .args .speed in
-    c .no-translator .ensures ∙ rw (ne-eqb speed FULL (c .before .before .if1 .taken), not-true (eqb speed LOW) (c .before .if2 .taken))
+    let speed = c .before .before .before .args .speed in
+    rw (ne-eqb speed FULL (c .before .if1 .taken), not-true (eqb speed LOW) (c .if2 .taken))
 
 -- What holds past the test of the speed.
 low-or-full : (c : tie.Joined1) → (eqb (c .before .before .args .speed) FULL || eqb (c .before .before .args .speed) LOW) ≡ true
@@ -26,13 +23,9 @@ low-or-full c =
     (λ w. rw (eq-eqb (c .before .before .args .speed) FULL (w .left)))
     (c .if1 .came)
 
-no-translator-requires-2 : tie.Need-no-translator-requires-2
-no-translator-requires-2 c κs = search needs
-
 returns-2 : tie.Need-returns-2
 unfolding translatorOf
-returns-2 c =
-    c .no-translator2 .ensures ∙ rw (low-or-full (c .before .before), not-true (c .before .before .before .before .args .has-parent) (c .before .if3 .taken))
+returns-2 c = rw (low-or-full (c .before), not-true (c .before .before .before .args .has-parent) (c .if3 .taken))
 
 hub-at-requires : tie.Need-hub-at-requires
 hub-at-requires c κs = search needs
@@ -50,9 +43,7 @@ pub transaction-translator-spec : {M : Type 1} → statement M
 transaction-translator-spec =
     tie.close
     (tie.spec
-    no-translator-requires
     returns
-    no-translator-requires-2
     returns-2
     hub-at-requires
     nearest-high-requires
