@@ -20,10 +20,7 @@ same-length c = search needs
 returns : tie.Need-returns
 unfolding releaseResume
 returns c =
-    let c4 = c .before .before .before .before in
-    let c11 = c4 .before .before .before .before .before .before .before in
-    let a = c4 .resume-queues .ensures (c11 .args .ctx .now) in rw
-    (dcis-in, played-then, ← a .sent, ← a .active, ← a .count, ← a .log, played-ends, c .stays .ensures, c .before .configure-failed .ensures)
+    λ words ctx routes. let a = c .before .before .before .before .resume-queues .ensures ctx in rw (dcis-in, played-then, ← a .sent, ← a .active, ← a .count, ← a .log, played-ends, c .stays .ensures, c .before .configure-failed .ensures)
 
 pub resume-spec : {M : Type 1} → statement M
 resume-spec =
