@@ -1,12 +1,12 @@
 use Rattle.command.proofs.Laws.{played-ends, played-sends}
 use Rattle.command.specs.Course.{onSent}
-use Rattle.claim.specs.Claim.{claimConfigure}
+use Rattle.claim.specs.Claim.{claimContext, claimConfigure}
 use borrow.Author.Needs.{needs}
 use Rattle.claim.proofs.configure.Statement.{statement}
 use Rattle.claim.proofs.configure.Tie as tie
 
-prepare-claim-requires : tie.Need-prepare-claim-requires
-prepare-claim-requires c κs = search needs
+prepare-configure-requires : tie.Need-prepare-configure-requires
+prepare-configure-requires c κs = search needs
 
 send-requires : tie.Need-send-requires
 send-requires c κs = search needs
@@ -42,14 +42,9 @@ same-length-3 : tie.Need-same-length-3
 same-length-3 c = search needs
 
 returns : tie.Need-returns
-unfolding claimConfigure onSent
+unfolding claimConfigure claimContext onSent
 returns c =
-    let c6 = c .before .before .before .before .before .before in
-    let c10 = c6 .before .before .before .before in
-    let c14 = c10 .before .before .before .before in
-    let c18 = c14 .before .before .before .before in
-    rw (played-sends, ← c14 .send .ensures .1, ← c14 .send .ensures .0, c10 .enum-told .given .1, ← c18 .prepare-claim .ensures)
-    (c6 .switch .ensures)
+    rw (played-sends, ← c .before .before .before .before .before .before .before .before .before .before .before .before .before .before .send .ensures .1, ← c .before .before .before .before .before .before .before .before .before .before .before .before .before .before .send .ensures .0, c .before .before .before .before .before .before .before .before .before .before .enum-told .given .1, ← c .before .before .before .before .before .before .before .before .before .before .before .before .before .before .before .before .before .before .prepare-configure .ensures) (c .before .before .before .before .before .before .switch .ensures)
 
 same-length-4 : tie.Need-same-length-4
 same-length-4 c = search needs
@@ -58,13 +53,9 @@ same-length-5 : tie.Need-same-length-5
 same-length-5 c = search needs
 
 returns-2 : tie.Need-returns-2
-unfolding claimConfigure onSent
+unfolding claimConfigure claimContext onSent
 returns-2 c =
-    let c5 = c .before .before .before .before .before in
-    let c9 = c5 .before .before .before .before in
-    let c13 = c9 .before .before .before .before in
-    rw (played-sends, ← c9 .send .ensures .1, ← c9 .send .ensures .0, c5 .s .given .1, ← c13 .prepare-claim .ensures)
-    (c .before .before .resume .ensures _ _ _ _)
+    rw (played-sends, ← c .before .before .before .before .before .before .before .before .before .send .ensures .1, ← c .before .before .before .before .before .before .before .before .before .send .ensures .0, c .before .before .before .before .before .s .given .1, ← c .before .before .before .before .before .before .before .before .before .before .before .before .before .prepare-configure .ensures) (c .before .before .resume .ensures _ _ _ _)
 
 same-length-6 : tie.Need-same-length-6
 same-length-6 c = search needs
@@ -73,18 +64,15 @@ same-length-7 : tie.Need-same-length-7
 same-length-7 c = search needs
 
 returns-3 : tie.Need-returns-3
-unfolding claimConfigure onSent
+unfolding claimConfigure claimContext onSent
 returns-3 c =
-    let c5 = c .before .before .before .before .before in
-    let c9 = c5 .before .before .before .before in
-    rw
-    (played-sends, ← c5 .send .ensures .1, ← c5 .send .ensures .0, c .before .enum-told2 .given .1, ← c9 .prepare-claim .ensures, played-ends, c .stays .ensures)
+    rw (played-sends, ← c .before .before .before .before .before .send .ensures .1, ← c .before .before .before .before .before .send .ensures .0, c .before .enum-told2 .given .1, ← c .before .before .before .before .before .before .before .before .before .prepare-configure .ensures, played-ends, c .stays .ensures)
 
 pub configure-spec : {M : Type 1} → statement M
 configure-spec =
     tie.close
     (tie.spec
-    prepare-claim-requires
+    prepare-configure-requires
     send-requires
     add-next
     enum-told
