@@ -13,7 +13,7 @@ ghost use lib.ListN.{length, take};
 ghost use Rattle.command.specs.Course.{played};
 ghost use Rattle.phase.specs.Arrays.{leaves, Room};
 ghost use Rattle.settings.specs.Held.{settingWords};
-ghost use Rattle.release.specs.Release.{releaseOf, releasePublish, releaseResume, releaseConfigure, releaseCourse};
+ghost use Rattle.release.specs.Release.{releaseOf, releasePublish, releaseConfigure, releaseCourse};
 
 // The interface's setting (alternate 0 where it holds none), its endpoints, and all endpoints of the record.
 pub struct ReleaseArgs {
@@ -38,17 +38,6 @@ fn publish(routes: &mut [u64], n: usize, a: ReleaseArgs) -> Ended
             phase::stays(Answer::InvalidEndpoint, n, 0)
         }
     }
-}
-
-// After a failed Configure.
-fn resume(log: &mut [u32], outcomes: &[u8], n: usize, a: ReleaseArgs, code: u8) -> Ended
-    requires { ⌜ (a .old .count ≤ 30) × (n + a .old .count ≤ length (now log)) ⌝ }
-    ensures { λ r. ⌜ ((words ctx routes : List ℕ) → leaves r ctx routes (now (log .exit)) ≡ played (now (outcomes .entry)) n (releaseResume (releaseOf a words) code ctx routes) (now (log .entry))) ⌝ }
-{
-    let back = phase::resume_queues(log, outcomes, n, a.old);
-    let s = back.sent;
-    let answer = phase::configure_failed(code, s);
-    phase::stays(answer, back.count, back.active)
 }
 
 fn configure(
@@ -80,7 +69,12 @@ fn configure(
     let next = n + 1;
     match s {
         Sent::Done => publish(routes, next, a),
-        Sent::Failed(code) => resume(log, outcomes, next, a, code),
+        Sent::Failed(code) => {
+            let back = phase::resume_queues(log, outcomes, next, a.old);
+            let resumed = back.sent;
+            let answer = phase::configure_failed(code, resumed);
+            phase::stays(answer, back.count, back.active)
+        }
         Sent::Cut => phase::stays(Answer::Cut, next, 0),
     }
 }
