@@ -14,7 +14,7 @@ ghost use lib.ListN.{length, take};
 ghost use Rattle.command.specs.Course.{played};
 ghost use Rattle.settings.specs.Held.{settingWords};
 ghost use Rattle.phase.specs.Arrays.{leaves, queuesIn, Room};
-ghost use Rattle.claim.specs.Claim.{claimOf, claimPublish, claimUndone, claimUndo, claimSwitch, claimResume, claimConfigure, claimCourse};
+ghost use Rattle.claim.specs.Claim.{claimOf, claimPublish, claimUndone, claimUndo, claimSwitch, claimConfigure, claimCourse};
 
 // The interface's old setting, if it holds one, with its endpoints; the setting to be held, with its rings; and all endpoints of the record.
 pub struct ClaimArgs {
@@ -65,15 +65,6 @@ fn switch_back(log: &mut [u32], outcomes: &[u8], n: usize, a: ClaimArgs, code: u
     }
 }
 
-fn rollback_alternate(held: bool, old_alternate: u8) -> u8
-    ensures { λ r. ⌜ r ≡ cond held «old_alternate» 0 ⌝ }
-{
-    if held {
-        return old_alternate;
-    }
-    0
-}
-
 // After a failed SetInterface: new endpoints dropped, old ones added again.
 fn undo(
     ctx: &mut [u8],
@@ -89,7 +80,7 @@ fn undo(
     requires { ⌜ n + 2 ≤ length (now log) ⌝ }
     ensures { λ r. ⌜ ((routes : List ℕ) → leaves r (now (ctx .exit)) routes (now (log .exit)) ≡ played (now (outcomes .entry)) n (claimUndo (claimOf a (now («old_words» .entry)) (now («new_words» .entry))) code (now (ctx .entry)) routes) (now (log .entry))) ⌝ }
 {
-    let alternate = rollback_alternate(a.held, a.old_alternate);
+    let alternate = if a.held { a.old_alternate } else { 0 };
     phase::prepare_configure(
         ctx,
         a.spacing,
@@ -139,18 +130,6 @@ fn switch(
     }
 }
 
-// After a failed Configure: a failed resume's code is the answer.
-fn resume(log: &mut [u32], outcomes: &[u8], n: usize, a: ClaimArgs, code: u8) -> Ended
-    requires { ⌜ (a .old .count ≤ 30) × (n + a .old .count ≤ length (now log)) ⌝ }
-    ensures { λ r. ⌜ ((old new ctx routes : List ℕ) → leaves r ctx routes (now (log .exit)) ≡ played (now (outcomes .entry)) n (claimResume (claimOf a old new) code ctx routes) (now (log .entry))) ⌝ }
-{
-    let back = phase::resume_queues(log, outcomes, n, a.old);
-    let b = back.sent;
-    let s = command::or_code(code, b);
-    let answer = phase::answer_of(s);
-    phase::stays(answer, back.count, back.active)
-}
-
 fn configure(
     ctx: &mut [u8],
     routes: &mut [u64],
@@ -181,7 +160,12 @@ fn configure(
     let next = n + 1;
     match s {
         Sent::Done => switch(ctx, routes, log, outcomes, next, a, old_words, new_words),
-        Sent::Failed(code) => resume(log, outcomes, next, a, code),
+        Sent::Failed(code) => {
+            let back = phase::resume_queues(log, outcomes, next, a.old);
+            let resumed = back.sent;
+            let answer = phase::answer_of(command::or_code(code, resumed));
+            phase::stays(answer, back.count, back.active)
+        }
         Sent::Cut => phase::stays(Answer::Cut, next, 0),
     }
 }
