@@ -14,7 +14,7 @@ ghost use lib.ListN.{length, take};
 ghost use Rattle.command.specs.Course.{played};
 ghost use Rattle.settings.specs.Held.{settingWords};
 ghost use Rattle.phase.specs.Arrays.{leaves, queuesIn, Room};
-ghost use Rattle.claim.specs.Claim.{claimOf, claimContext, undoContext, claimPublish, claimSwitchBack, claimUndone, claimUndo, claimSwitch, claimResume, claimConfigure, claimCourse};
+ghost use Rattle.claim.specs.Claim.{claimOf, claimPublish, claimUndone, claimUndo, claimSwitch, claimConfigure, claimCourse};
 
 // The interface's old setting, if it holds one, with its endpoints; the setting to be held, with its rings; and all endpoints of the record.
 pub struct ClaimArgs {
@@ -37,16 +37,20 @@ fn publish(routes: &mut [u64], n: usize, a: ClaimArgs) -> Ended
     let r = phase::publish_endpoint_routes(routes, a.slot, a.old, a.pending);
     match r {
         Replaced::Done => phase::moves(Answer::Accepted, n),
-        Replaced::InvalidEndpoint => phase::stays(Answer::InterfaceBroken, n, 0),
-        Replaced::QueueFull => phase::stays(Answer::InterfaceBroken, n, 0),
+        Replaced::InvalidEndpoint | Replaced::QueueFull => {
+            phase::stays(Answer::InterfaceBroken, n, 0)
+        }
     }
 }
 
-// The device back at its old setting, after the controller is.
+// The device back at its old setting, if it held one, after the controller is.
 fn switch_back(log: &mut [u32], outcomes: &[u8], n: usize, a: ClaimArgs, code: u8) -> Ended
     requires { ⌜ (length (queuesIn (a .old)) ≡ a .old .count) × (n + 1 ≤ length (now log)) ⌝ }
-    ensures { λ r. ⌜ ((old new ctx routes : List ℕ) → leaves r ctx routes (now (log .exit)) ≡ played (now (outcomes .entry)) n (claimSwitchBack (claimOf a old new) code ctx routes) (now (log .entry))) ⌝ }
+    ensures { λ r. ⌜ ((old new ctx routes : List ℕ) → leaves r ctx routes (now (log .exit)) ≡ played (now (outcomes .entry)) n (claimUndone (claimOf a old new) code ctx routes) (now (log .entry))) ⌝ }
 {
+    if !a.held {
+        return phase::stays(Answer::Failed(code), n, a.old.count);
+    }
     let s = command::send(
         log,
         outcomes,
@@ -59,43 +63,6 @@ fn switch_back(log: &mut [u32], outcomes: &[u8], n: usize, a: ClaimArgs, code: u
         Sent::Failed(_) => phase::stays(Answer::InterfaceBroken, count, 0),
         Sent::Cut => phase::stays(Answer::Cut, count, 0),
     }
-}
-
-fn undone(log: &mut [u32], outcomes: &[u8], n: usize, a: ClaimArgs, code: u8) -> Ended
-    requires { ⌜ (length (queuesIn (a .old)) ≡ a .old .count) × (n + 1 ≤ length (now log)) ⌝ }
-    ensures { λ r. ⌜ ((old new ctx routes : List ℕ) → leaves r ctx routes (now (log .exit)) ≡ played (now (outcomes .entry)) n (claimUndone (claimOf a old new) code ctx routes) (now (log .entry))) ⌝ }
-{
-    if a.held {
-        return switch_back(log, outcomes, n, a, code);
-    }
-    phase::stays(Answer::Failed(code), n, a.old.count)
-}
-
-fn rollback_alternate(held: bool, old_alternate: u8) -> u8
-    ensures { λ r. ⌜ r ≡ cond held «old_alternate» 0 ⌝ }
-{
-    if held {
-        return old_alternate;
-    }
-    0
-}
-
-fn prepare_undo(ctx: &mut [u8], a: ClaimArgs, old_words: &[u32], new_words: &[u32])
-    requires { ⌜ Room (a .spacing) (length (now ctx)) (a .old) (a .all) ⌝ }
-    ensures { λ r. ⌜ now (ctx .exit) ≡ undoContext (claimOf a (now («old_words» .entry)) (now («new_words» .entry))) (now (ctx .entry)) ⌝ }
-{
-    let alternate = rollback_alternate(a.held, a.old_alternate);
-    phase::prepare_configure(
-        ctx,
-        a.spacing,
-        a.speed,
-        a.interface,
-        alternate,
-        new_words,
-        old_words,
-        a.old,
-        a.all,
-    );
 }
 
 // After a failed SetInterface: new endpoints dropped, old ones added again.
@@ -113,11 +80,22 @@ fn undo(
     requires { ⌜ n + 2 ≤ length (now log) ⌝ }
     ensures { λ r. ⌜ ((routes : List ℕ) → leaves r (now (ctx .exit)) routes (now (log .exit)) ≡ played (now (outcomes .entry)) n (claimUndo (claimOf a (now («old_words» .entry)) (now («new_words» .entry))) code (now (ctx .entry)) routes) (now (log .entry))) ⌝ }
 {
-    prepare_undo(ctx, a, old_words, new_words);
+    let alternate = if a.held { a.old_alternate } else { 0 };
+    phase::prepare_configure(
+        ctx,
+        a.spacing,
+        a.speed,
+        a.interface,
+        alternate,
+        new_words,
+        old_words,
+        a.old,
+        a.all,
+    );
     let s = command::send(log, outcomes, n, Command::Configure);
     let next = n + 1;
     match s {
-        Sent::Done => undone(log, outcomes, next, a, code),
+        Sent::Done => switch_back(log, outcomes, next, a, code),
         Sent::Failed(_) => phase::stays(Answer::InterfaceBroken, next, 0),
         Sent::Cut => phase::stays(Answer::Cut, next, 0),
     }
@@ -152,36 +130,6 @@ fn switch(
     }
 }
 
-// After a failed Configure: a failed resume's code is the answer.
-fn resume(log: &mut [u32], outcomes: &[u8], n: usize, a: ClaimArgs, code: u8) -> Ended
-    requires { ⌜ (a .old .count ≤ 30) × (n + a .old .count ≤ length (now log)) ⌝ }
-    ensures { λ r. ⌜ ((old new ctx routes : List ℕ) → leaves r ctx routes (now (log .exit)) ≡ played (now (outcomes .entry)) n (claimResume (claimOf a old new) code ctx routes) (now (log .entry))) ⌝ }
-{
-    let back = phase::resume_queues(log, outcomes, n, a.old);
-    let b = back.sent;
-    let s = command::or_code(code, b);
-    let answer = phase::answer_of(s);
-    phase::stays(answer, back.count, back.active)
-}
-
-fn prepare_claim(ctx: &mut [u8], a: ClaimArgs, old_words: &[u32], new_words: &[u32])
-    requires { ⌜ Room (a .spacing) (length (now ctx)) (a .old) (a .all) ⌝ }
-    requires { ⌜ a .pending .count ≤ 30 ⌝ }
-    ensures { λ r. ⌜ now (ctx .exit) ≡ claimContext (claimOf a (now («old_words» .entry)) (now («new_words» .entry))) (now (ctx .entry)) ⌝ }
-{
-    phase::prepare_configure(
-        ctx,
-        a.spacing,
-        a.speed,
-        a.interface,
-        a.alternate,
-        old_words,
-        new_words,
-        a.pending,
-        a.all,
-    );
-}
-
 fn configure(
     ctx: &mut [u8],
     routes: &mut [u64],
@@ -197,38 +145,28 @@ fn configure(
     requires { ⌜ n + a .old .count + 4 ≤ length (now log) ⌝ }
     ensures { λ r. ⌜ leaves r (now (ctx .exit)) (now (routes .exit)) (now (log .exit)) ≡ played (now (outcomes .entry)) n (claimConfigure (claimOf a (now («old_words» .entry)) (now («new_words» .entry))) (now (ctx .entry)) (now (routes .entry))) (now (log .entry)) ⌝ }
 {
-    prepare_claim(ctx, a, old_words, new_words);
+    phase::prepare_configure(
+        ctx,
+        a.spacing,
+        a.speed,
+        a.interface,
+        a.alternate,
+        old_words,
+        new_words,
+        a.pending,
+        a.all,
+    );
     let s = command::send(log, outcomes, n, Command::Configure);
     let next = n + 1;
     match s {
         Sent::Done => switch(ctx, routes, log, outcomes, next, a, old_words, new_words),
-        Sent::Failed(code) => resume(log, outcomes, next, a, code),
+        Sent::Failed(code) => {
+            let back = phase::resume_queues(log, outcomes, next, a.old);
+            let resumed = back.sent;
+            let answer = phase::answer_of(command::or_code(code, resumed));
+            phase::stays(answer, back.count, back.active)
+        }
         Sent::Cut => phase::stays(Answer::Cut, next, 0),
-    }
-}
-
-// Claims an interface after the checks.
-fn run_claim(
-    ctx: &mut [u8],
-    routes: &mut [u64],
-    log: &mut [u32],
-    outcomes: &[u8],
-    a: ClaimArgs,
-    old_words: &[u32],
-    new_words: &[u32],
-) -> Ended
-    requires { ⌜ Room (a .spacing) (length (now ctx)) (a .old) (a .all) ⌝ }
-    requires { ⌜ a .pending .count ≤ 30 ⌝ }
-    requires { ⌜ 64 ≤ length (now log) ⌝ }
-    ensures { λ r. ⌜ leaves r (now (ctx .exit)) (now (routes .exit)) (now (log .exit)) ≡ played (now (outcomes .entry)) 0 (claimCourse (claimOf a (now («old_words» .entry)) (now («new_words» .entry))) (now (ctx .entry)) (now (routes .entry))) (now (log .entry)) ⌝ }
-{
-    let stop = phase::stop_queues(log, outcomes, 0, a.old);
-    let s = stop.sent;
-    let n = stop.count;
-    match s {
-        Sent::Done => configure(ctx, routes, log, outcomes, n, a, old_words, new_words),
-        Sent::Failed(code) => phase::stays(Answer::Failed(code), n, a.old.count),
-        Sent::Cut => phase::stays(Answer::Cut, n, stop.active),
     }
 }
 
@@ -242,7 +180,7 @@ fn held_words<'a>(list: &'a [u32], held: bool, interface: u8, alternate: u8) -> 
     &list[0..0]
 }
 
-// The same where the words are those that lookup finds in a list, the first n words of an array.
+// Claims an interface after the checks. The endpoint words of its settings are those that lookup finds in a list, the first n words of an array.
 pub fn claim_interface(
     ctx: &mut [u8],
     routes: &mut [u64],
@@ -257,8 +195,25 @@ pub fn claim_interface(
     requires { ⌜ (64 ≤ length (now log)) × (n ≤ 256) ⌝ }
     ensures { λ r. ⌜ leaves r (now (ctx .exit)) (now (routes .exit)) (now (log .exit)) ≡ played (now (outcomes .entry)) 0 (claimCourse (claimOf a (cond (a .held) (settingWords (take n list) (a .interface) (a .«old_alternate»)) []) (settingWords (take n list) (a .interface) (a .alternate))) (now (ctx .entry)) (now (routes .entry))) (now (log .entry)) ⌝ }
 {
-    let words = &list[0..n];
-    let old_words = held_words(words, a.held, a.interface, a.old_alternate);
-    let new_words = settings::setting_words(words, a.interface, a.alternate);
-    run_claim(ctx, routes, log, outcomes, a, old_words, new_words)
+    let stop = phase::stop_queues(log, outcomes, 0, a.old);
+    let s = stop.sent;
+    match s {
+        Sent::Done => {
+            let words = &list[0..n];
+            let old_words = held_words(words, a.held, a.interface, a.old_alternate);
+            let new_words = settings::setting_words(words, a.interface, a.alternate);
+            configure(
+                ctx,
+                routes,
+                log,
+                outcomes,
+                stop.count,
+                a,
+                old_words,
+                new_words,
+            )
+        }
+        Sent::Failed(code) => phase::stays(Answer::Failed(code), stop.count, a.old.count),
+        Sent::Cut => phase::stays(Answer::Cut, stop.count, stop.active),
+    }
 }

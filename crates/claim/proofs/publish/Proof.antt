@@ -1,9 +1,30 @@
-use Rattle.transfer.specs.Routes.{withReplaced, moved}
+use Prim.Native.Nat.{ℕ}
+use mathlib.Core.Path.{_≡_, refl}
+use mathlib.Core.List.{List, [], _∷_}
+use types.Run.{OneOf, miss}
+use denote.Enum.Declared.{tagOf}
+use Rattle.answer.specs.declared.Answer.the-variants as answer
+use Rattle.transfer.specs.declared.Replaced.{Replaced}
+use Rattle.transfer.specs.declared.Replaced.the-variants as replace
+use Rattle.transfer.proofs.Replaced.{the-type}
+use Rattle.transfer.specs.Routes.{moved, withReplaced}
 use Rattle.command.proofs.Laws.{played-ends}
-use Rattle.claim.specs.Claim.{claimPublished, claimPublish}
+use Rattle.phase.specs.End.{stays}
+use Rattle.claim.specs.Claim.{Claim, claimPublished, claimPublish}
 use borrow.Author.Needs.{needs}
 use Rattle.claim.proofs.publish.Statement.{statement}
 use Rattle.claim.proofs.publish.Tie as tie
+
+-- The variants of the second arm, by their places in the enum.
+abbrev keys : List ℕ
+keys = 1 ∷ 2 ∷ []
+
+kept : (a : Claim) (ctx routes : List ℕ) (r : Replaced) → OneOf keys (tagOf the-type r) →
+    claimPublished r a ctx routes ≡ stays answer.InterfaceBroken 0 ctx (moved r routes (a .slot) (a .old) (a .pending))
+unfolding claimPublished moved
+kept a ctx routes replace.Done h = absurd (miss keys 0 tt h)
+kept a ctx routes replace.InvalidEndpoint h = refl
+kept a ctx routes replace.QueueFull h = refl
 
 publish-endpoint-routes-requires : tie.Need-publish-endpoint-routes-requires
 publish-endpoint-routes-requires c κs = search needs
@@ -14,38 +35,24 @@ enum-told c = search needs
 moves-requires : tie.Need-moves-requires
 moves-requires c κs = search needs
 
-enum-told-2 : tie.Need-enum-told-2
-enum-told-2 c = search needs
-
 stays-requires : tie.Need-stays-requires
 stays-requires c κs = search needs
-
-enum-told-3 : tie.Need-enum-told-3
-enum-told-3 c = search needs
-
-stays-requires-2 : tie.Need-stays-requires-2
-stays-requires-2 c κs = search needs
 
 same-length : tie.Need-same-length
 same-length c = search needs
 
 returns : tie.Need-returns
 unfolding claimPublish claimPublished
-returns c = λ old new o ctx log. rw (played-ends, c .moves .ensures, c .before .before .before .before .before .publish-endpoint-routes .ensures .1, ← c .before .before .before .before .before .publish-endpoint-routes .ensures .0, c .before .enum-told .given .1)
+returns c =
+    let e = c .before .before .before .before .before .publish-endpoint-routes .ensures in λ old new o ctx log. rw (played-ends, c .moves .ensures, e .1, ← e .0, c .before .enum-told .given .1)
 
 same-length-2 : tie.Need-same-length-2
 same-length-2 c = search needs
 
 returns-2 : tie.Need-returns-2
-unfolding claimPublish claimPublished withReplaced moved
-returns-2 c = λ old new o ctx log. rw (played-ends, c .stays .ensures, c .before .before .before .before .before .publish-endpoint-routes .ensures .1, ← c .before .before .before .before .before .publish-endpoint-routes .ensures .0, c .before .enum-told2 .given .1)
-
-same-length-3 : tie.Need-same-length-3
-same-length-3 c = search needs
-
-returns-3 : tie.Need-returns-3
-unfolding claimPublish claimPublished withReplaced moved
-returns-3 c = λ old new o ctx log. rw (played-ends, c .stays2 .ensures, c .before .before .before .before .before .publish-endpoint-routes .ensures .1, ← c .before .before .before .before .before .publish-endpoint-routes .ensures .0, c .before .enum-told3 .given .1)
+unfolding claimPublish withReplaced
+returns-2 c =
+    let e = c .before .before .before .before .publish-endpoint-routes .ensures in λ old new o ctx log. rw (played-ends, c .stays .ensures, e .1, ← e .0, kept _ _ _ _ (c .before .match .keys2))
 
 pub publish-spec : {M : Type 1} → statement M
 publish-spec =
@@ -54,13 +61,8 @@ publish-spec =
     publish-endpoint-routes-requires
     enum-told
     moves-requires
-    enum-told-2
     stays-requires
-    enum-told-3
-    stays-requires-2
     same-length
     returns
     same-length-2
-    returns-2
-    same-length-3
-    returns-3)
+    returns-2)

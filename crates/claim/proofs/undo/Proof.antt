@@ -1,12 +1,67 @@
+use Prim.Native.Nat.{ℕ, _+_}
+use mathlib.Core.Path.{_≡_}
+use mathlib.Core.Bool.{cond, false}
+use mathlib.Core.List.{List}
+use mathlib.Core.Logic.{⊎-elim}
+use lib.ListN.{set}
+use Rattle.answer.specs.declared.Answer.the-variants as answer
+use Rattle.command.specs.declared.Command.the-variants as command
+use Rattle.command.specs.declared.Sent.{Sent}
+use Rattle.command.specs.declared.Sent.the-variants as sent
+use Rattle.command.specs.Command.{commandWord, outcomeAt}
+use Rattle.command.specs.Course.{onSent, ends, Played, played}
 use Rattle.command.proofs.Laws.{played-ends, played-sends}
-use Rattle.command.specs.Course.{onSent}
-use Rattle.claim.specs.Claim.{claimUndo}
+use Rattle.context.specs.Place.{written}
+use Rattle.context.specs.Steps.{configureWrites}
+use Rattle.phase.specs.declared.Ended.{Ended}
+use Rattle.phase.specs.End.{End, stays}
+use Rattle.phase.specs.Arrays.{dcisIn, queuesIn, leaves}
+use Rattle.claim.specs.declared.ClaimArgs.{ClaimArgs}
+use Rattle.claim.specs.Claim.{claimOf, undoContext, claimUndone, claimUndo}
 use borrow.Author.Needs.{needs}
 use Rattle.claim.proofs.undo.Statement.{statement}
 use Rattle.claim.proofs.undo.Tie as tie
 
-prepare-undo-requires : tie.Need-prepare-undo-requires
-prepare-undo-requires c κs = search needs
+module _ (a : ClaimArgs) (alternate : ℕ) (old new ctx next routes o log left : List ℕ) (n code : ℕ) (s : Sent) where
+  -- the Configure is sent, with the new endpoints dropped and the old ones added
+  Configured : Type 0
+  Configured =
+      played o n (claimUndo (claimOf a old new) code ctx routes) log
+      ≡ played o (n + 1)
+      (onSent s
+      (claimUndone (claimOf a old new) code next routes)
+      (λ later. ends (stays answer.InterfaceBroken 0 next routes))
+      (ends (stays answer.Cut 0 next routes)))
+      left
+
+  configured : alternate ≡ cond (a .held) (a .«old_alternate») 0 →
+      next ≡ written (a .spacing) (configureWrites (a .speed) (a .interface) alternate new old (queuesIn (a .old)) (dcisIn (a .all))) ctx →
+      s ≡ outcomeAt o n → left ≡ set log n (commandWord command.Configure) → Configured
+  unfolding Configured claimUndo undoContext
+  configured q p e l = let made = rw q at p in rw (played-sends, ← l, ← e, ← made)
+
+  done : {x : Played End} → Configured → s ≡ sent.Done → x ≡ played o (n + 1) (claimUndone (claimOf a old new) code next routes) left →
+      x ≡ played o n (claimUndo (claimOf a old new) code ctx routes) log
+  unfolding Configured onSent
+  done g d x = rw (g, d) x
+
+  failed : (later : ℕ) {r : Ended} → Configured → s ≡ sent.Failed later →
+      r ≡ record { answer = answer.InterfaceBroken; count = n + 1; active = 0; moved = false } →
+      leaves r next routes left ≡ played o n (claimUndo (claimOf a old new) code ctx routes) log
+  unfolding Configured onSent
+  failed later g d r = rw (g, d, played-ends, r)
+
+  cut : {r : Ended} → Configured → s ≡ sent.Cut → r ≡ record { answer = answer.Cut; count = n + 1; active = 0; moved = false } →
+      leaves r next routes left ≡ played o n (claimUndo (claimOf a old new) code ctx routes) log
+  unfolding Configured onSent
+  cut g d r = rw (g, d, played-ends, r)
+
+-- the alternate of an interface that holds none is 0
+rolled : (c : tie.Joined1) → c .if1 .alternate ≡ cond (c .before .before .before .before .before .before .args .a .held) (c .before .before .before .before .before .before .args .a .«old_alternate») 0
+rolled c = ⊎-elim (λ w. rw (w .0 .taken) (w .1)) (λ w. rw (w .0 .left) (w .1)) (c .if1 .came)
+
+prepare-configure-requires : tie.Need-prepare-configure-requires
+prepare-configure-requires c κs = search needs
 
 send-requires : tie.Need-send-requires
 send-requires c κs = search needs
@@ -17,8 +72,8 @@ add-next c = search needs
 enum-told : tie.Need-enum-told
 enum-told c = search needs
 
-undone-requires : tie.Need-undone-requires
-undone-requires c κs = search needs
+switch-back-requires : tie.Need-switch-back-requires
+switch-back-requires c κs = search needs
 
 enum-told-2 : tie.Need-enum-told-2
 enum-told-2 c = search needs
@@ -39,13 +94,8 @@ same-length-2 : tie.Need-same-length-2
 same-length-2 c = search needs
 
 returns : tie.Need-returns
-unfolding claimUndo onSent
 returns c =
-    let c4 = c .before .before .before .before in
-    let c8 = c4 .before .before .before .before in
-    let c12 = c8 .before .before .before .before in
-    λ routes. rw (played-sends, ← c8 .send .ensures .1, ← c8 .send .ensures .0, c4 .enum-told .given .1, ← c12 .prepare-undo .ensures)
-    (c .before .before .undone .ensures _ _ _ _)
+    λ routes. done _ _ _ _ _ _ _ _ _ _ _ _ _ (configured _ _ _ _ _ _ _ _ _ _ _ _ _ (rolled (c .before .before .before .before .before .before .before .before .before .before .before .before .before .before)) (c .before .before .before .before .before .before .before .before .before .before .before .before .prepare-configure .ensures) (c .before .before .before .before .before .before .before .before .send .ensures .0) (c .before .before .before .before .before .before .before .before .send .ensures .1)) (c .before .before .before .before .enum-told .given .1) (c .before .before .switch-back .ensures _ _ _ _)
 
 same-length-3 : tie.Need-same-length-3
 same-length-3 c = search needs
@@ -54,12 +104,8 @@ same-length-4 : tie.Need-same-length-4
 same-length-4 c = search needs
 
 returns-2 : tie.Need-returns-2
-unfolding claimUndo onSent
 returns-2 c =
-    let c5 = c .before .before .before .before .before in
-    let c9 = c5 .before .before .before .before in
-    λ routes. rw
-    (played-sends, ← c5 .send .ensures .1, ← c5 .send .ensures .0, c .before .enum-told2 .given .1, ← c9 .prepare-undo .ensures, played-ends, c .stays .ensures)
+    λ routes. failed _ _ _ _ _ _ _ _ _ _ _ _ _ _ (configured _ _ _ _ _ _ _ _ _ _ _ _ _ (rolled (c .before .before .before .before .before .before .before .before .before .before .before)) (c .before .before .before .before .before .before .before .before .before .prepare-configure .ensures) (c .before .before .before .before .before .send .ensures .0) (c .before .before .before .before .before .send .ensures .1)) (c .before .enum-told2 .given .1) (c .stays .ensures)
 
 same-length-5 : tie.Need-same-length-5
 same-length-5 c = search needs
@@ -68,22 +114,18 @@ same-length-6 : tie.Need-same-length-6
 same-length-6 c = search needs
 
 returns-3 : tie.Need-returns-3
-unfolding claimUndo onSent
 returns-3 c =
-    let c5 = c .before .before .before .before .before in
-    let c9 = c5 .before .before .before .before in
-    λ routes. rw
-    (played-sends, ← c5 .send .ensures .1, ← c5 .send .ensures .0, c .before .enum-told3 .given .1, ← c9 .prepare-undo .ensures, played-ends, c .stays2 .ensures)
+    λ routes. cut _ _ _ _ _ _ _ _ _ _ _ _ _ (configured _ _ _ _ _ _ _ _ _ _ _ _ _ (rolled (c .before .before .before .before .before .before .before .before .before .before .before)) (c .before .before .before .before .before .before .before .before .before .prepare-configure .ensures) (c .before .before .before .before .before .send .ensures .0) (c .before .before .before .before .before .send .ensures .1)) (c .before .enum-told3 .given .1) (c .stays2 .ensures)
 
 pub undo-spec : {M : Type 1} → statement M
 undo-spec =
     tie.close
     (tie.spec
-    prepare-undo-requires
+    prepare-configure-requires
     send-requires
     add-next
     enum-told
-    undone-requires
+    switch-back-requires
     enum-told-2
     stays-requires
     enum-told-3
