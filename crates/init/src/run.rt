@@ -132,22 +132,22 @@ fn read_header(log: &mut [u32], outcomes: &[u8], a: BringUpArgs) -> Ended
         }
     }
     let header = command::send(log, outcomes, 1, Command::ReadHeader);
-    let e = before_reading(header, 2);
     match header {
-        Sent::Done => {
-            if a.header != 8 {
-                return Ended {
-                    answer: Answer::ShortHeader,
-                    count: 2,
-                    configured: false,
-                    value: 0,
-                    configurations: 0,
-                };
-            }
-            e
+        Sent::Done => {}
+        _ => {
+            return before_reading(header, 2);
         }
-        _ => e,
     }
+    if a.header != 8 {
+        return Ended {
+            answer: Answer::ShortHeader,
+            count: 2,
+            configured: false,
+            value: 0,
+            configurations: 0,
+        };
+    }
+    before_reading(header, 2)
 }
 
 // Sends Evaluate with the packet size, and reads the value of the configuration that is set now, the device descriptor and each configuration descriptor.
@@ -173,9 +173,12 @@ fn read_descriptors(log: &mut [u32], outcomes: &[u8], a: BringUpArgs, list: &[u3
     }
     let device = command::send(log, outcomes, 4, Command::ReadDevice);
     match device {
-        Sent::Done => read_configs(log, outcomes, a, list),
-        _ => after_reading(device, 5, a.value, 0),
+        Sent::Done => {}
+        _ => {
+            return after_reading(device, 5, a.value, 0);
+        }
     }
+    read_configs(log, outcomes, a, list)
 }
 
 // Reads each configuration descriptor.
@@ -248,8 +251,8 @@ fn set_first(
     match answer {
         Answer::Accepted => {
             r.value = value;
-            r
         }
-        _ => r,
+        _ => {}
     }
+    r
 }

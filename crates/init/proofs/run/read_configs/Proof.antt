@@ -15,11 +15,6 @@ use Rattle.init.specs.declared.run.Ended.{Ended}
 use native.Mathlib.Omega.{arith}
 use Rattle.init.proofs.run.read_configs.Statement.{statement}
 use Rattle.init.proofs.run.read_configs.Tie as tie
-use Rattle.init.proofs.run.read_configs.Reads as reads
-use Rattle.init.proofs.run.read_configs.Lts as lts
-use Rattle.command.proofs.send.Reads as send-reads
-use Rattle.configuration.proofs.count_configurations.Reads as count-configurations-reads
-use Rattle.init.proofs.run.after_reading.Reads as after-reading-reads
 
 abbrev Inv-loop : tie.InvT-loop
 Inv-loop log₀ outcomes a list all i₀ log i =
@@ -28,70 +23,54 @@ Inv-loop log₀ outcomes a list all i₀ log i =
 abbrev μ-loop : tie.MeasureT-loop
 μ-loop log₀ outcomes a list all i₀ log i = all - i
 
--- src/run.rt:174:9
 count-configurations-requires : tie.Need-count-configurations-requires Inv-loop μ-loop
 count-configurations-requires c κs = search needs
 
--- src/run.rt:176:5
 loop-holds : tie.Need-loop-holds Inv-loop μ-loop
 loop-holds c = (search needs, omega (arith, valid-configurations _ (c .before .before .before .before .pre .1), c .count-configurations .ensures), search needs, λ z. refl, λ hubs ctx routes spacing. rw sub-zero)
 
--- src/run.rt:177:46
 add-send : tie.Need-add-send Inv-loop μ-loop
 add-send c = search needs
 
--- src/run.rt:177:73
 cast-t12 : tie.Need-cast-t12 Inv-loop μ-loop
 cast-t12 c = search needs
 
--- src/run.rt:177:13
 send-requires : tie.Need-send-requires Inv-loop μ-loop
 send-requires c κs = search needs
 
 enum-told : tie.Need-enum-told Inv-loop μ-loop
 enum-told c = search needs
 
--- src/run.rt:181:41
 add-after-reading : tie.Need-add-after-reading Inv-loop μ-loop
 add-after-reading c = search needs
 
--- src/run.rt:181:17
 after-reading-requires : tie.Need-after-reading-requires Inv-loop μ-loop
 after-reading-requires c κs = search needs
 
--- src/run.rt:181:17
 same-length : tie.Need-same-length Inv-loop μ-loop
 same-length c = search needs
 
--- src/run.rt:181:17
 returns : tie.Need-returns Inv-loop μ-loop
 returns c = (λ t. none-accepted _ _ (c .before .match .keys2) (ap (λ (e : Ended). e .answer) (c .after-reading .ensures)) t, λ hubs ctx routes spacing. let n : 0 < configurations (c .before .before .before .before .before .before .before .before .before .before .before .before .args .list .now) = omega (arith, c .before .before .before .before .before .before .loop-test .taken, c .before .before .before .before .before .before .before .before .count-configurations .ensures) in rw (rest-some (bringUpOf (c .before .before .before .before .before .before .before .before .before .before .before .before .args .a) hubs (c .before .before .before .before .before .before .before .before .before .before .before .before .args .list .now)) spacing ctx routes (c .before .before .before .before .before .before .before .before .before .before .before .before .args .outcomes .now) (c .before .before .before .before .before .before .before .before .before .before .before .before .args .log .now) n, ← c .before .before .before .before .before .before .before .before .count-configurations .ensures) (c .before .before .before .before .before .before .before .loop .inv .4 hubs ctx routes spacing ∙ configs-stopped _ _ _ _ _ _ _ _ _ _ (c .before .before .before .before .before .before .loop-test .taken) (c .before .before .before .before .send .ensures) _ _ (c .before .match .keys2) (c .after-reading .ensures)))
 
--- src/run.rt:184:9
 add-i : tie.Need-add-i Inv-loop μ-loop
 add-i c = search needs
 
--- src/run.rt:176:5
 loop-less : tie.Need-loop-less Inv-loop μ-loop
 loop-less c = search needs
 
--- src/run.rt:176:5
 loop-again : tie.Need-loop-again Inv-loop μ-loop
 loop-again c = (search needs, search needs, search needs, λ z. absurd (omega (arith, z)), λ hubs ctx routes spacing. c .before .before .before .before .before .before .before .loop .inv .4 hubs ctx routes spacing ∙ configs-next _ _ _ _ _ _ _ _ _ _ (c .before .before .before .before .before .before .loop-test .taken) (c .before .before .before .before .send .ensures) (c .enum-told .given .1))
 
--- src/run.rt:186:31
 add-after-reading-2 : tie.Need-add-after-reading-2 Inv-loop μ-loop
 add-after-reading-2 c = search needs
 
--- src/run.rt:186:5
 after-reading-requires-2 : tie.Need-after-reading-requires-2 Inv-loop μ-loop
 after-reading-requires-2 c κs = search needs
 
--- src/run.rt:168:1
 same-length-2 : tie.Need-same-length-2 Inv-loop μ-loop
 same-length-2 c = search needs
 
--- src/run.rt:168:1
 returns-2 : tie.Need-returns-2 Inv-loop μ-loop
 unfolding answerOf
 returns-2 c = (λ t. let e = c .after-reading2 .ensures in record { few = rw e (omega (arith, c .before .before .loop .inv .0, c .before .before .loop .inv .1)); whole = rw e (omega (arith, c .before .loop-test .left, c .before .before .loop .inv .0, c .before .before .before .count-configurations .ensures)) }, λ hubs ctx routes spacing. let l = c .before .before .before .count-configurations .ensures in rest-read (bringUpOf (c .before .before .before .before .before .before .before .args .a) hubs (c .before .before .before .before .before .before .before .args .list .now)) spacing ctx routes (c .before .before .before .before .before .before .before .args .outcomes .now) _ (c .before .before .before .before .before .before .before .args .log .now) _ _ (omega (arith, l, c .before .before .loop .inv .0)) (omega (arith, l, c .before .loop-test .left)) (c .before .before .loop .inv .3) (c .after-reading2 .ensures) (rw (← l) (c .before .before .loop .inv .4 hubs ctx routes spacing)))

@@ -7,85 +7,63 @@ use mathlib.Core.Path.{ap, _∙_}
 use borrow.Author.Needs.{needs}
 use Rattle.init.proofs.run.read_descriptors.Statement.{statement}
 use Rattle.init.proofs.run.read_descriptors.Tie as tie
-use Rattle.init.proofs.run.read_descriptors.Reads as reads
-use Rattle.init.proofs.run.read_descriptors.Lts as lts
-use Rattle.command.proofs.send.Reads as send-reads
-use Rattle.init.proofs.run.after_reading.Reads as after-reading-reads
-use Rattle.init.proofs.run.before_reading.Reads as before-reading-reads
-use Rattle.init.proofs.run.read_configs.Reads as read-configs-reads
 
--- src/run.rt:153:9
 send-requires : tie.Need-send-requires
 send-requires c κs = search needs
 
 enum-told : tie.Need-enum-told
 enum-told c = search needs
 
--- src/run.rt:157:13
 before-reading-requires : tie.Need-before-reading-requires
 before-reading-requires c κs = search needs
 
--- src/run.rt:157:13
 same-length : tie.Need-same-length
 same-length c = search needs
 
--- src/run.rt:157:13
 returns : tie.Need-returns
 returns c = (λ t. none-accepted _ _ (c .before .match .keys2) (ap (λ (e : Ended). e .answer) (c .before-reading .ensures)) t, λ hubs ctx routes spacing. stopped-before _ _ _ _ _ _ (c .before .before .before .before .send .ensures) ctx routes _ _ _ (c .before .match .keys2) _ (c .before .before .before .before .before .before .before .before .before .pre .1) (c .before-reading .ensures))
 
--- src/run.rt:160:9
 send-requires-2 : tie.Need-send-requires-2
 send-requires-2 c κs = search needs
 
 enum-told-2 : tie.Need-enum-told-2
 enum-told-2 c = search needs
 
--- src/run.rt:164:13
 before-reading-requires-2 : tie.Need-before-reading-requires-2
 before-reading-requires-2 c κs = search needs
 
--- src/run.rt:164:13
 same-length-2 : tie.Need-same-length-2
 same-length-2 c = search needs
 
--- src/run.rt:164:13
 returns-2 : tie.Need-returns-2
 unfolding bringUpConfiguration
 returns-2 c = (λ t. none-accepted _ _ (c .before .match2 .keys2) (ap (λ (e : Ended). e .answer) (c .before-reading2 .ensures)) t, λ hubs ctx routes spacing. done _ _ _ _ _ _ (c .before .before .before .before .before .before .before .before .before .before .send .ensures) _ ctx routes _ (c .before .before .before .before .before .before .enum-told .given .1) ∙ stopped-before _ _ _ _ _ _ (c .before .before .before .before .send2 .ensures) ctx routes _ _ _ (c .before .match2 .keys2) _ (c .before .before .before .before .before .before .before .before .before .before .before .before .before .before .before .pre .1) (c .before-reading2 .ensures))
 
--- src/run.rt:167:9
 send-requires-3 : tie.Need-send-requires-3
 send-requires-3 c κs = search needs
 
--- src/run.rt:169:36
 enum-told-3 : tie.Need-enum-told-3
 enum-told-3 c = search needs
 
--- src/run.rt:169:23
-read-configs-requires : tie.Need-read-configs-requires
-read-configs-requires c κs = search needs
-
--- src/run.rt:170:14
 after-reading-requires : tie.Need-after-reading-requires
 after-reading-requires c κs = search needs
 
--- src/run.rt:147:1
 same-length-3 : tie.Need-same-length-3
 same-length-3 c = search needs
 
--- src/run.rt:147:1
 returns-3 : tie.Need-returns-3
-unfolding bringUpConfiguration bringUpDevice bringUpRest
-returns-3 c = (c .before .before .read-configs .ensures .0, λ hubs ctx routes spacing. done _ _ _ _ _ _ (c .before .before .before .before .before .before .before .before .before .before .before .before .before .before .before .before .before .before .before .before .send .ensures) _ ctx routes _ (c .before .before .before .before .before .before .before .before .before .before .before .before .before .before .before .before .enum-told .given .1) ∙ done _ _ _ _ _ _ (c .before .before .before .before .before .before .before .before .before .before .before .before .before .before .send2 .ensures) _ ctx routes _ (c .before .before .before .before .before .before .before .before .before .before .enum-told2 .given .1) ∙ done _ _ _ _ _ _ (c .before .before .before .before .before .before .before .before .send3 .ensures) _ ctx routes _ (c .before .before .before .before .enum-told3 .given .1) ∙ c .before .before .read-configs .ensures .1 hubs ctx routes spacing)
+unfolding bringUpConfiguration bringUpDevice
+returns-3 c = (λ t. none-accepted _ _ (c .before .match3 .keys2) (ap (λ (e : Ended). e .answer) (c .after-reading .ensures)) t, λ hubs ctx routes spacing. done _ _ _ _ _ _ (c .before .before .before .before .before .before .before .before .before .before .before .before .before .before .before .before .send .ensures) _ ctx routes _ (c .before .before .before .before .before .before .before .before .before .before .before .before .enum-told .given .1) ∙ done _ _ _ _ _ _ (c .before .before .before .before .before .before .before .before .before .before .send2 .ensures) _ ctx routes _ (c .before .before .before .before .before .before .enum-told2 .given .1) ∙ stopped-after _ _ _ _ _ _ (c .before .before .before .before .send3 .ensures) ctx routes _ _ _ (c .before .match3 .keys2) (bringUpOf (c .before .before .before .before .before .before .before .before .before .before .before .before .before .before .before .before .before .before .before .before .before .args .a) hubs (c .before .before .before .before .before .before .before .before .before .before .before .before .before .before .before .before .before .before .before .before .before .args .list .now)) 0 (c .after-reading .ensures))
 
--- src/run.rt:147:1
+read-configs-requires : tie.Need-read-configs-requires
+read-configs-requires c κs = search needs
+
 same-length-4 : tie.Need-same-length-4
 same-length-4 c = search needs
 
--- src/run.rt:147:1
 returns-4 : tie.Need-returns-4
-unfolding bringUpConfiguration bringUpDevice
-returns-4 c = (λ t. none-accepted _ _ (c .before .match3 .keys2) (ap (λ (e : Ended). e .answer) (c .after-reading .ensures)) t, λ hubs ctx routes spacing. done _ _ _ _ _ _ (c .before .before .before .before .before .before .before .before .before .before .before .before .before .before .before .before .send .ensures) _ ctx routes _ (c .before .before .before .before .before .before .before .before .before .before .before .before .enum-told .given .1) ∙ done _ _ _ _ _ _ (c .before .before .before .before .before .before .before .before .before .before .send2 .ensures) _ ctx routes _ (c .before .before .before .before .before .before .enum-told2 .given .1) ∙ stopped-after _ _ _ _ _ _ (c .before .before .before .before .send3 .ensures) ctx routes _ _ _ (c .before .match3 .keys2) (bringUpOf (c .before .before .before .before .before .before .before .before .before .before .before .before .before .before .before .before .before .before .before .before .before .args .a) hubs (c .before .before .before .before .before .before .before .before .before .before .before .before .before .before .before .before .before .before .before .before .before .args .list .now)) 0 (c .after-reading .ensures))
+unfolding bringUpConfiguration bringUpDevice bringUpRest
+returns-4 c = (c .before .before .read-configs .ensures .0, λ hubs ctx routes spacing. done _ _ _ _ _ _ (c .before .before .before .before .before .before .before .before .before .before .before .before .before .before .before .before .before .before .before .before .send .ensures) _ ctx routes _ (c .before .before .before .before .before .before .before .before .before .before .before .before .before .before .before .before .enum-told .given .1) ∙ done _ _ _ _ _ _ (c .before .before .before .before .before .before .before .before .before .before .before .before .before .before .send2 .ensures) _ ctx routes _ (c .before .before .before .before .before .before .before .before .before .before .enum-told2 .given .1) ∙ done _ _ _ _ _ _ (c .before .before .before .before .before .before .before .before .send3 .ensures) _ ctx routes _ (c .before .before .before .before .enum-told3 .given .1) ∙ c .before .before .read-configs .ensures .1 hubs ctx routes spacing)
 
 pub read-descriptors-spec : {M : Type 1} → statement M
 read-descriptors-spec =
@@ -103,9 +81,9 @@ read-descriptors-spec =
     returns-2
     send-requires-3
     enum-told-3
-    read-configs-requires
     after-reading-requires
     same-length-3
     returns-3
+    read-configs-requires
     same-length-4
     returns-4)

@@ -8,68 +8,54 @@ use borrow.Author.Tests.{eq-eqb, ne-eqb}
 use borrow.Author.Needs.{needs}
 use Rattle.init.proofs.run.read_header.Statement.{statement}
 use Rattle.init.proofs.run.read_header.Tie as tie
-use Rattle.init.proofs.run.read_header.Reads as reads
-use Rattle.init.proofs.run.read_header.Lts as lts
-use Rattle.command.proofs.send.Reads as send-reads
-use Rattle.init.proofs.run.before_reading.Reads as before-reading-reads
 
--- src/run.rt:127:9
 send-requires : tie.Need-send-requires
 send-requires c κs = search needs
 
 enum-told : tie.Need-enum-told
 enum-told c = search needs
 
--- src/run.rt:131:13
 before-reading-requires : tie.Need-before-reading-requires
 before-reading-requires c κs = search needs
 
--- src/run.rt:131:13
 same-length : tie.Need-same-length
 same-length c = search needs
 
--- src/run.rt:131:13
 returns : tie.Need-returns
 returns c = λ hubs list ctx routes spacing v. stopped-before _ _ _ _ _ _ (c .before .before .before .before .send .ensures) ctx routes _ _ _ (c .before .match .keys2) list v (c .before-reading .ensures)
 
--- src/run.rt:134:9
 send-requires-2 : tie.Need-send-requires-2
 send-requires-2 c κs = search needs
 
--- src/run.rt:135:9
-before-reading-requires-2 : tie.Need-before-reading-requires-2
-before-reading-requires-2 c κs = search needs
-
--- src/run.rt:138:16
 enum-told-2 : tie.Need-enum-told-2
 enum-told-2 c = search needs
 
--- src/run.rt:139:17
+before-reading-requires-2 : tie.Need-before-reading-requires-2
+before-reading-requires-2 c κs = search needs
+
 same-length-2 : tie.Need-same-length-2
 same-length-2 c = search needs
 
--- src/run.rt:139:17
 returns-2 : tie.Need-returns-2
 unfolding bringUpHeader
-returns-2 c = λ hubs list ctx routes spacing v. done _ _ _ _ _ _ (c .before .before .before .before .before .before .before .before .before .before .before .before .before .send .ensures) _ ctx routes _ (c .before .before .before .before .before .before .before .before .before .enum-told .given .1) ∙ done _ _ _ _ _ _ (c .before .before .before .before .before .before .before .send2 .ensures) _ ctx routes _ (c .before .before .enum-told2 .given .1) ∙ short-header _ list ctx routes _ _ _ _ v (ne-eqb (c .before .before .before .before .before .before .before .before .before .before .before .before .before .before .before .before .before .args .a .header) 8 (λ e. omega (arith, e, c .if1 .taken)))
+returns-2 c = λ hubs list ctx routes spacing v. done _ _ _ _ _ _ (c .before .before .before .before .before .before .before .before .before .before .send .ensures) _ ctx routes _ (c .before .before .before .before .before .before .enum-told .given .1) ∙ stopped-before _ _ _ _ _ _ (c .before .before .before .before .send2 .ensures) ctx routes _ _ _ (c .before .match2 .keys2) list v (c .before-reading2 .ensures)
 
--- src/run.rt:123:1
 same-length-3 : tie.Need-same-length-3
 same-length-3 c = search needs
 
--- src/run.rt:123:1
 returns-3 : tie.Need-returns-3
-unfolding bringUpHeader answerOf
-returns-3 c = λ hubs list ctx routes spacing v. done _ _ _ _ _ _ (c .before .before .before .before .before .before .before .before .before .before .before .before .before .send .ensures) _ ctx routes _ (c .before .before .before .before .before .before .before .before .before .enum-told .given .1) ∙ done _ _ _ _ _ _ (c .before .before .before .before .before .before .before .send2 .ensures) _ ctx routes _ (c .before .before .enum-told2 .given .1) ∙ leads-on _ list ctx routes _ _ (ap (λ (e : Ended). e .answer) (c .before .before .before .before .before-reading2 .ensures) ∙ rw (c .before .before .enum-told2 .given .1)) (rw (eq-eqb (c .before .before .before .before .before .before .before .before .before .before .before .before .before .before .before .before .before .args .a .header) 8 (omega (arith, c .if1 .left))))
+unfolding bringUpHeader
+returns-3 c = λ hubs list ctx routes spacing v. done _ _ _ _ _ _ (c .before .before .before .before .before .before .before .before .before .before .before .before .send .ensures) _ ctx routes _ (c .before .before .before .before .before .before .before .before .enum-told .given .1) ∙ done _ _ _ _ _ _ (c .before .before .before .before .before .before .send2 .ensures) _ ctx routes _ (c .before .before .enum-told2 .given .1) ∙ short-header _ list ctx routes _ _ _ _ v (ne-eqb (c .before .before .before .before .before .before .before .before .before .before .before .before .before .before .before .before .args .a .header) 8 (λ e. omega (arith, e, c .if1 .taken)))
 
--- src/run.rt:123:1
+before-reading-requires-3 : tie.Need-before-reading-requires-3
+before-reading-requires-3 c κs = search needs
+
 same-length-4 : tie.Need-same-length-4
 same-length-4 c = search needs
 
--- src/run.rt:123:1
 returns-4 : tie.Need-returns-4
-unfolding bringUpHeader
-returns-4 c = λ hubs list ctx routes spacing v. done _ _ _ _ _ _ (c .before .before .before .before .before .before .before .before .before .before .send .ensures) _ ctx routes _ (c .before .before .before .before .before .before .enum-told .given .1) ∙ stopped-before _ _ _ _ _ _ (c .before .before .before .before .send2 .ensures) ctx routes _ _ _ (c .match2 .keys2) list v (c .before .before-reading2 .ensures)
+unfolding bringUpHeader answerOf
+returns-4 c = λ hubs list ctx routes spacing v. done _ _ _ _ _ _ (c .before .before .before .before .before .before .before .before .before .before .before .before .before .send .ensures) _ ctx routes _ (c .before .before .before .before .before .before .before .before .before .enum-told .given .1) ∙ done _ _ _ _ _ _ (c .before .before .before .before .before .before .before .send2 .ensures) _ ctx routes _ (c .before .before .before .enum-told2 .given .1) ∙ leads-on _ list ctx routes _ _ (ap (λ (e : Ended). e .answer) (c .before-reading3 .ensures) ∙ rw (c .before .before .before .enum-told2 .given .1)) (rw (eq-eqb (c .before .before .before .before .before .before .before .before .before .before .before .before .before .before .before .before .before .args .a .header) 8 (omega (arith, c .before .if1 .left))))
 
 pub read-header-spec : {M : Type 1} → statement M
 read-header-spec =
@@ -81,11 +67,12 @@ read-header-spec =
     same-length
     returns
     send-requires-2
-    before-reading-requires-2
     enum-told-2
+    before-reading-requires-2
     same-length-2
     returns-2
     same-length-3
     returns-3
+    before-reading-requires-3
     same-length-4
     returns-4)
