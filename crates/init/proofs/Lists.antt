@@ -5,10 +5,11 @@ use mathlib.Core.Bool.{Bool, true, false, cond}
 use mathlib.Core.List.{List, [], _∷_, _++_, append-assoc, append-nil}
 use native.Mathlib.Numerals.{add-one}
 use native.Mathlib.Omega.{arith}
+use borrow.Author.Tests.{eqb-true, ne-eqb}
 use lib.Dec.{eqb}
 use lib.ListN.{length, getD, take, drop, drop-of-length-le}
 use lib.Seq.{take-suc, drop-cons}
-use Rattle.descriptor.specs.Word.{kind, CONFIGURATION, configurationValue}
+use Rattle.descriptor.specs.Word.{kind, CONFIGURATION}
 use Rattle.configuration.specs.Valid.{beginsWithConfiguration, configurations, validList}
 use Rattle.configuration.proofs.Laws.{valid-begins}
 use Rattle.init.specs.Reading.{firstConfigurations}
@@ -103,11 +104,17 @@ begun-none (w ∷ l) e = first-none w l e
 pub valid-none : (l : List ℕ) → validList l ≡ true → firstConfigurations 0 l ≡ []
 valid-none l v = begun-none l (valid-begins l v)
 
--- the first word of a list with none
-pub value-none : (l : List ℕ) → length l ≡ 0 → 0 ≡ configurationValue (getD l 0 0)
-unfolding configurationValue
-value-none [] e = refl
-value-none (w ∷ l) e = absurd (omega arith)
+-- a list with configurations has words
+pub some-words : (l : List ℕ) → 0 < configurations l → eqb (length l) 0 ≡ false
+unfolding configurations
+some-words [] h = absurd (omega arith)
+some-words (w ∷ l) h = ne-eqb (suc (length l)) 0 (λ e. omega (arith, e))
+
+-- and one without words has none
+pub none-of : (l : List ℕ) → eqb (length l) 0 ≡ true → configurations l ≡ 0
+unfolding configurations
+none-of [] e = refl
+none-of (w ∷ l) e = absurd (omega (arith, eqb-true (suc (length l)) 0 e))
 
 -- a list without words
 pub first-empty : (k : ℕ) (l : List ℕ) → length l ≡ 0 → firstConfigurations k l ≡ l

@@ -1,2 +1,3 @@
 pub mod Init
+pub mod Parts
 pub mod Reading

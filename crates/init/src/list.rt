@@ -1,8 +1,7 @@
 // The configurations of a descriptor list.
 ghost use mathlib.Core.Path.{_≡_};
 ghost use Prim.Native.Nat.{_≤_};
-ghost use lib.ListN.{length, getD, take};
-ghost use Rattle.descriptor.specs.Word.{configurationValue};
+ghost use lib.ListN.{length, take};
 ghost use Rattle.init.specs.Reading.{firstConfigurations};
 
 // How many words the first k configurations have.
@@ -22,14 +21,4 @@ pub fn count_words(list: &[u32], k: usize) -> usize
         }
     }
     i
-}
-
-// The value of the first word's configuration.
-pub fn first_value(list: &[u32]) -> u8
-    ensures { λ r. ⌜ r ≡ configurationValue (getD (now (list .entry)) 0 0) ⌝ }
-{
-    if list.len() == 0 {
-        return 0;
-    }
-    descriptor::configuration_value(list[0])
 }

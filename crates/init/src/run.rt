@@ -1,23 +1,23 @@
 // The phases of a bring-up, each with its one command; what comes after a done command is the next phase.
-use super::list;
 use answer::Answer;
 use command::Command;
 use command::Sent;
 use def::SlotId;
 use set_configuration::SettingsArgs;
 ghost use mathlib.Core.Path.{_≡_};
-ghost use mathlib.Core.Bool.{true, false, cond};
-ghost use mathlib.Core.List.{List, []};
-ghost use Prim.Native.Nat.{ℕ, _+_, _≤_};
+ghost use mathlib.Core.Bool.{true, false};
+ghost use mathlib.Core.List.{List};
+ghost use Prim.Native.Nat.{ℕ, _+_, _<_, _≤_};
 ghost use lib.ListN.{length};
-ghost use Rattle.configuration.specs.Valid.{configurations, validList};
+ghost use Rattle.configuration.specs.Valid.{validList};
+ghost use Rattle.answer.specs.Answer.{isAccepted};
 ghost use Rattle.command.specs.Course.{played};
 ghost use Rattle.context.specs.Place.{Spaced};
-ghost use Rattle.phase.specs.Arrays.{queuesIn};
-ghost use Rattle.set_configuration.specs.SetConfiguration.{settingsOf};
-ghost use Rattle.answer.specs.Answer.{isAccepted};
-ghost use Rattle.init.specs.Reading.{bringUpOf, leavesRead};
-ghost use Rattle.init.specs.Init.{bringUpSet, bringUpConfigs, bringUpDevice, bringUpConfiguration, bringUpPacket, bringUpHeader, bringUpAddress};
+ghost use Rattle.command.specs.declared.Command.the-variants as commands;
+ghost use Rattle.phase.specs.End.{answerOf};
+ghost use Rattle.init.specs.Reading.{bringUpOf, nothingRead, leavesRead};
+ghost use Rattle.init.specs.Init.{step, bringUpSet, bringUpConfiguration, bringUpPacket, bringUpHeader, bringUpAddress};
+ghost use Rattle.init.specs.Parts.{orEnded, bringUpRest, afterRead, AllRead};
 
 // The device's place, its control ring, and what is read from it: `header` bytes with the packet size, and the configuration value.
 pub struct BringUpArgs {
@@ -43,25 +43,12 @@ pub struct Ended {
     pub configurations: usize,
 }
 
-// How it ended once the value was read.
-fn after_reading(answer: Answer, count: usize, value: u8, configurations: usize) -> Ended
-    ensures { λ r. ⌜ r ≡ record { answer = answer; count = count; configured = true; value = value; configurations = configurations } ⌝ }
+// How it stands after a command before anything was read.
+fn before_reading(s: Sent, count: usize) -> Ended
+    ensures { λ r. ⌜ r ≡ record { answer = answerOf s; count = count; configured = false; value = 0; configurations = 0 } ⌝ }
 {
     Ended {
-        answer,
-        count,
-        configured: true,
-        value,
-        configurations,
-    }
-}
-
-// How it ended where nothing was read yet.
-fn before_reading(answer: Answer, count: usize) -> Ended
-    ensures { λ r. ⌜ r ≡ record { answer = answer; count = count; configured = false; value = 0; configurations = 0 } ⌝ }
-{
-    Ended {
-        answer,
+        answer: phase::answer_of(s),
         count,
         configured: false,
         value: 0,
@@ -69,7 +56,20 @@ fn before_reading(answer: Answer, count: usize) -> Ended
     }
 }
 
-// Addresses the device, whose control route is registered.
+// How it stands after a command once the value was read.
+fn after_reading(s: Sent, count: usize, value: u8, configurations: usize) -> Ended
+    ensures { λ r. ⌜ r ≡ record { answer = answerOf s; count = count; configured = true; value = value; configurations = configurations } ⌝ }
+{
+    Ended {
+        answer: phase::answer_of(s),
+        count,
+        configured: true,
+        value,
+        configurations,
+    }
+}
+
+// Addresses the device, whose control route is registered, reads it and sets its first configuration, if it has one.
 pub fn address(
     ctx: &mut [u8],
     routes: &mut [u64],
@@ -96,177 +96,111 @@ pub fn address(
         a.root_port,
         a.ring,
     );
-    let s = command::send(log, outcomes, 0, Command::Address);
-    match s {
-        Sent::Done => read_header(ctx, routes, log, outcomes, a, spacing, list),
-        Sent::Failed(code) => before_reading(Answer::Failed(code), 1),
-        Sent::Cut => before_reading(Answer::Cut, 1),
-    }
-}
-
-// Reads eight bytes of the device descriptor, the packet size among them.
-fn read_header(
-    ctx: &mut [u8],
-    routes: &mut [u64],
-    log: &mut [u32],
-    outcomes: &[u8],
-    a: BringUpArgs,
-    spacing: usize,
-    list: &[u32],
-) -> Ended
-    requires { ⌜ Spaced spacing (length (now ctx)) ⌝ }
-    requires { ⌜ 64 ≤ length (now log) ⌝ }
-    requires { ⌜ validList (now list) ≡ true ⌝ }
-    ensures { λ r. ⌜ ((hubs : List ℕ) → leavesRead r (now (list .entry)) (now (ctx .exit)) (now (routes .exit)) (now (log .exit)) ≡ played (now (outcomes .entry)) 1 (bringUpHeader (bringUpOf a hubs (now (list .entry))) spacing (now (ctx .entry)) (now (routes .entry))) (now (log .entry))) ⌝ }
-{
-    let s = command::send(log, outcomes, 1, Command::ReadHeader);
-    match s {
-        Sent::Done => {
-            if a.header != 8 {
-                return before_reading(Answer::ShortHeader, 2);
-            }
-            max_packet(ctx, routes, log, outcomes, a, spacing, list)
+    let addressed = read_header(log, outcomes, a);
+    let answer = addressed.answer;
+    match answer {
+        Answer::Accepted => {}
+        _ => {
+            return addressed;
         }
-        Sent::Failed(code) => before_reading(Answer::Failed(code), 2),
-        Sent::Cut => before_reading(Answer::Cut, 2),
     }
-}
-
-// Tells the controller the control endpoint's packet size.
-fn max_packet(
-    ctx: &mut [u8],
-    routes: &mut [u64],
-    log: &mut [u32],
-    outcomes: &[u8],
-    a: BringUpArgs,
-    spacing: usize,
-    list: &[u32],
-) -> Ended
-    requires { ⌜ Spaced spacing (length (now ctx)) ⌝ }
-    requires { ⌜ 64 ≤ length (now log) ⌝ }
-    requires { ⌜ validList (now list) ≡ true ⌝ }
-    ensures { λ r. ⌜ ((hubs : List ℕ) → leavesRead r (now (list .entry)) (now (ctx .exit)) (now (routes .exit)) (now (log .exit)) ≡ played (now (outcomes .entry)) 2 (bringUpPacket (bringUpOf a hubs (now (list .entry))) spacing (now (ctx .entry)) (now (routes .entry))) (now (log .entry))) ⌝ }
-{
     address_context::setup_max_packet(ctx, spacing, a.packet);
-    let s = command::send(log, outcomes, 2, Command::Evaluate);
-    match s {
-        Sent::Done => read_configuration(ctx, routes, log, outcomes, a, spacing, list),
-        Sent::Failed(code) => before_reading(Answer::Failed(code), 3),
-        Sent::Cut => before_reading(Answer::Cut, 3),
-    }
-}
-
-// Reads the value of the configuration that is set now.
-fn read_configuration(
-    ctx: &mut [u8],
-    routes: &mut [u64],
-    log: &mut [u32],
-    outcomes: &[u8],
-    a: BringUpArgs,
-    spacing: usize,
-    list: &[u32],
-) -> Ended
-    requires { ⌜ Spaced spacing (length (now ctx)) ⌝ }
-    requires { ⌜ 64 ≤ length (now log) ⌝ }
-    requires { ⌜ validList (now list) ≡ true ⌝ }
-    ensures { λ r. ⌜ ((hubs : List ℕ) → leavesRead r (now (list .entry)) (now (ctx .exit)) (now (routes .exit)) (now (log .exit)) ≡ played (now (outcomes .entry)) 3 (bringUpConfiguration (bringUpOf a hubs (now (list .entry))) spacing (now (ctx .entry)) (now (routes .entry))) (now (log .entry))) ⌝ }
-{
-    let s = command::send(log, outcomes, 3, Command::ReadConfiguration);
-    match s {
-        Sent::Done => read_device(ctx, routes, log, outcomes, a, spacing, list),
-        Sent::Failed(code) => before_reading(Answer::Failed(code), 4),
-        Sent::Cut => before_reading(Answer::Cut, 4),
-    }
-}
-
-// Reads the device descriptor; a device without configurations is brought up then.
-fn read_device(
-    ctx: &mut [u8],
-    routes: &mut [u64],
-    log: &mut [u32],
-    outcomes: &[u8],
-    a: BringUpArgs,
-    spacing: usize,
-    list: &[u32],
-) -> Ended
-    requires { ⌜ Spaced spacing (length (now ctx)) ⌝ }
-    requires { ⌜ 64 ≤ length (now log) ⌝ }
-    requires { ⌜ validList (now list) ≡ true ⌝ }
-    ensures { λ r. ⌜ ((hubs : List ℕ) → leavesRead r (now (list .entry)) (now (ctx .exit)) (now (routes .exit)) (now (log .exit)) ≡ played (now (outcomes .entry)) 4 (bringUpDevice (bringUpOf a hubs (now (list .entry))) spacing (now (ctx .entry)) (now (routes .entry))) (now (log .entry))) ⌝ }
-{
-    let s = command::send(log, outcomes, 4, Command::ReadDevice);
-    match s {
-        Sent::Done => {
-            if list.len() == 0 {
-                return after_reading(Answer::Accepted, 5, a.value, 0);
-            }
-            read_configs(ctx, routes, log, outcomes, a, spacing, list)
+    let read = read_descriptors(log, outcomes, a, list);
+    let answer = read.answer;
+    match answer {
+        Answer::Accepted => {}
+        _ => {
+            return read;
         }
-        Sent::Failed(code) => after_reading(Answer::Failed(code), 5, a.value, 0),
-        Sent::Cut => after_reading(Answer::Cut, 5, a.value, 0),
     }
+    if list.len() == 0 {
+        return read;
+    }
+    set_first(ctx, routes, log, outcomes, read, a, spacing, list)
+}
+
+// Sends Address, and reads eight bytes of the device descriptor, the packet size among them.
+fn read_header(log: &mut [u32], outcomes: &[u8], a: BringUpArgs) -> Ended
+    requires { ⌜ 64 ≤ length (now log) ⌝ }
+    ensures { λ r. ⌜ ((hubs list ctx routes : List ℕ) (spacing : ℕ) → validList list ≡ true → played (now (outcomes .entry)) 0 (step commands.Address nothingRead ctx routes (bringUpHeader (bringUpOf a hubs list) spacing ctx routes)) (now (log .entry)) ≡ orEnded r list ctx routes (now (log .exit)) (played (now (outcomes .entry)) 2 (bringUpPacket (bringUpOf a hubs list) spacing ctx routes) (now (log .exit)))) ⌝ }
+{
+    let address = command::send(log, outcomes, 0, Command::Address);
+    match address {
+        Sent::Done => {}
+        _ => {
+            return before_reading(address, 1);
+        }
+    }
+    let header = command::send(log, outcomes, 1, Command::ReadHeader);
+    match header {
+        Sent::Done => {}
+        _ => {
+            return before_reading(header, 2);
+        }
+    }
+    if a.header != 8 {
+        return Ended {
+            answer: Answer::ShortHeader,
+            count: 2,
+            configured: false,
+            value: 0,
+            configurations: 0,
+        };
+    }
+    before_reading(header, 2)
+}
+
+// Sends Evaluate with the packet size, and reads the value of the configuration that is set now, the device descriptor and each configuration descriptor.
+fn read_descriptors(log: &mut [u32], outcomes: &[u8], a: BringUpArgs, list: &[u32]) -> Ended
+    requires { ⌜ 64 ≤ length (now log) ⌝ }
+    requires { ⌜ validList (now list) ≡ true ⌝ }
+    ensures { λ r. ⌜ (isAccepted (r .answer) ≡ true → AllRead r (now (list .entry))) ⌝ }
+    ensures { λ r. ⌜ ((hubs ctx routes : List ℕ) (spacing : ℕ) → played (now (outcomes .entry)) 2 (step commands.Evaluate nothingRead ctx routes (bringUpConfiguration (bringUpOf a hubs (now (list .entry))) spacing ctx routes)) (now (log .entry)) ≡ orEnded r (now (list .entry)) ctx routes (now (log .exit)) (afterRead r (now (outcomes .entry)) (bringUpOf a hubs (now (list .entry))) spacing ctx routes (now (log .exit)))) ⌝ }
+{
+    let packet = command::send(log, outcomes, 2, Command::Evaluate);
+    match packet {
+        Sent::Done => {}
+        _ => {
+            return before_reading(packet, 3);
+        }
+    }
+    let value = command::send(log, outcomes, 3, Command::ReadConfiguration);
+    match value {
+        Sent::Done => {}
+        _ => {
+            return before_reading(value, 4);
+        }
+    }
+    let device = command::send(log, outcomes, 4, Command::ReadDevice);
+    match device {
+        Sent::Done => {}
+        _ => {
+            return after_reading(device, 5, a.value, 0);
+        }
+    }
+    read_configs(log, outcomes, a, list)
 }
 
 // Reads each configuration descriptor.
-fn read_configs(
-    ctx: &mut [u8],
-    routes: &mut [u64],
-    log: &mut [u32],
-    outcomes: &[u8],
-    a: BringUpArgs,
-    spacing: usize,
-    list: &[u32],
-) -> Ended
-    requires { ⌜ Spaced spacing (length (now ctx)) ⌝ }
+fn read_configs(log: &mut [u32], outcomes: &[u8], a: BringUpArgs, list: &[u32]) -> Ended
     requires { ⌜ 64 ≤ length (now log) ⌝ }
     requires { ⌜ validList (now list) ≡ true ⌝ }
-    ensures { λ r. ⌜ ((hubs : List ℕ) → leavesRead r (now (list .entry)) (now (ctx .exit)) (now (routes .exit)) (now (log .exit)) ≡ played (now (outcomes .entry)) 5 (bringUpConfigs (bringUpOf a hubs (now (list .entry))) spacing (configurations (now (list .entry))) 0 (now (ctx .entry)) (now (routes .entry))) (now (log .entry))) ⌝ }
+    ensures { λ r. ⌜ (isAccepted (r .answer) ≡ true → AllRead r (now (list .entry))) ⌝ }
+    ensures { λ r. ⌜ ((hubs ctx routes : List ℕ) (spacing : ℕ) → played (now (outcomes .entry)) 5 (bringUpRest (bringUpOf a hubs (now (list .entry))) spacing ctx routes) (now (log .entry)) ≡ orEnded r (now (list .entry)) ctx routes (now (log .exit)) (afterRead r (now (outcomes .entry)) (bringUpOf a hubs (now (list .entry))) spacing ctx routes (now (log .exit)))) ⌝ }
 {
     let all = configuration::count_configurations(list);
     let mut i = 0;
     while i < all {
-        let read = i;
         let s = command::send(log, outcomes, 5 + i, Command::ReadConfig(i as u8));
-        i += 1;
         match s {
             Sent::Done => {}
-            Sent::Failed(code) => {
-                return after_reading(Answer::Failed(code), 5 + i, a.value, read);
-            }
-            Sent::Cut => {
-                return after_reading(Answer::Cut, 5 + i, a.value, read);
+            _ => {
+                return after_reading(s, 6 + i, a.value, i);
             }
         }
+        i += 1;
     }
-    set_first(ctx, routes, log, outcomes, 5 + i, a, spacing, list)
-}
-
-// The configuration value after an answer: the first configuration's once it is set, else the one that was read.
-fn value_after(answer: Answer, first: u8, read: u8) -> u8
-    ensures { λ r. ⌜ r ≡ cond (isAccepted answer) first read ⌝ }
-{
-    if answer::answer_number(answer) == 0 {
-        return first;
-    }
-    read
-}
-
-// A set configuration where no interface holds a setting.
-fn first_settings(a: BringUpArgs, spacing: usize, value: u8) -> SettingsArgs
-    ensures { λ r. ⌜ ((list : List ℕ) → settingsOf r list ≡ record { slot = a .slot .0; spacing = spacing; speed = a .speed; value = value; words = []; old = [] }) × (r .spacing ≡ spacing) × (r .held ≡ 0) × (r .old .count ≡ 0) × (queuesIn (r .old) ≡ []) ⌝ }
-{
-    let slot = a.slot;
-    let none = phase::no_queues();
-    SettingsArgs {
-        slot,
-        spacing,
-        speed: a.speed,
-        value,
-        interfaces: [0; 32],
-        alternates: [0; 32],
-        held: 0,
-        old: none,
-    }
+    after_reading(Sent::Done, 5 + i, a.value, i)
 }
 
 // Sets the first configuration; no interface holds a setting yet.
@@ -275,20 +209,50 @@ fn set_first(
     routes: &mut [u64],
     log: &mut [u32],
     outcomes: &[u8],
-    n: usize,
+    read: Ended,
     a: BringUpArgs,
     spacing: usize,
     list: &[u32],
 ) -> Ended
     requires { ⌜ Spaced spacing (length (now ctx)) ⌝ }
-    requires { ⌜ n + 3 ≤ length (now log) ⌝ }
-    ensures { λ r. ⌜ ((hubs : List ℕ) → leavesRead r (now (list .entry)) (now (ctx .exit)) (now (routes .exit)) (now (log .exit)) ≡ played (now (outcomes .entry)) n (bringUpSet (bringUpOf a hubs (now (list .entry))) spacing (now (ctx .entry)) (now (routes .entry))) (now (log .entry))) ⌝ }
+    requires { ⌜ (0 < length (now list)) × (64 ≤ length (now log)) × AllRead read (now list) ⌝ }
+    ensures { λ r. ⌜ ((hubs : List ℕ) → leavesRead r (now (list .entry)) (now (ctx .exit)) (now (routes .exit)) (now (log .exit)) ≡ played (now (outcomes .entry)) (read .count) (bringUpSet (bringUpOf a hubs (now (list .entry))) spacing (now (ctx .entry)) (now (routes .entry))) (now (log .entry))) ⌝ }
 {
-    let first = list::first_value(list);
-    let settings = first_settings(a, spacing, first);
-    let e = set_configuration::run_set_configuration(ctx, routes, log, outcomes, n, settings, list);
+    let value = descriptor::configuration_value(list[0]);
+    let none = phase::no_queues();
+    let slot = a.slot;
+    let settings = SettingsArgs {
+        slot,
+        spacing,
+        speed: a.speed,
+        value,
+        interfaces: [0; 32],
+        alternates: [0; 32],
+        held: 0,
+        old: none,
+    };
+    let e = set_configuration::run_set_configuration(
+        ctx,
+        routes,
+        log,
+        outcomes,
+        read.count,
+        settings,
+        list,
+    );
     let answer = e.answer;
-    let value = value_after(answer, first, a.value);
-    let all = configuration::count_configurations(list);
-    after_reading(answer, e.count, value, all)
+    let mut r = Ended {
+        answer,
+        count: e.count,
+        configured: true,
+        value: a.value,
+        configurations: read.configurations,
+    };
+    match answer {
+        Answer::Accepted => {
+            r.value = value;
+        }
+        _ => {}
+    }
+    r
 }

@@ -1,5 +1,6 @@
-use Rattle.init.proofs.Steps.{spaced-same, done, failed-before, cut-before}
-use Rattle.init.specs.Init.{bringUpAddress}
+use Rattle.init.proofs.Steps.{spaced-same, accepted, not-addressed, not-read, none-to-set, first-set}
+use Rattle.init.specs.Reading.{bringUpOf}
+use mathlib.Core.Path.{_∙_}
 use native.Mathlib.Omega.{arith}
 use borrow.Author.Needs.{needs}
 use Rattle.init.proofs.run.address.Statement.{statement}
@@ -14,30 +15,11 @@ transaction-translator-requires c κs = search needs
 address-context-requires : tie.Need-address-context-requires
 address-context-requires c κs = search needs
 
-send-requires : tie.Need-send-requires
-send-requires c κs = search needs
+read-header-requires : tie.Need-read-header-requires
+read-header-requires c κs = search needs
 
 enum-told : tie.Need-enum-told
 enum-told c = search needs
-
-read-header-requires : tie.Need-read-header-requires
-read-header-requires c κs =
-    let c7 = c .before .before .before .before .before .before .before in
-    let c11 = c7 .before .before .before .before in
-    let c21 = c11 .before .before .before .before .before .before .before .before .before .before in
-    (spaced-same (c21 .pre .0) (c11 .address-context .kept .0), (omega (arith, c7 .send .kept .0, c21 .pre .1 .0), c21 .pre .1 .1))
-
-enum-known-s : tie.Need-enum-known-s
-enum-known-s c = search needs
-
-before-reading-requires : tie.Need-before-reading-requires
-before-reading-requires c κs = search needs
-
-enum-told-2 : tie.Need-enum-told-2
-enum-told-2 c = search needs
-
-before-reading-requires-2 : tie.Need-before-reading-requires-2
-before-reading-requires-2 c κs = search needs
 
 same-length : tie.Need-same-length
 same-length c = search needs
@@ -45,55 +27,50 @@ same-length c = search needs
 same-length-2 : tie.Need-same-length-2
 same-length-2 c = search needs
 
+returns : tie.Need-returns
+returns c = not-addressed (bringUpOf (c .before .before .before .before .before .before .before .before .before .before .before .before .before .before .before .before .before .args .a) (c .before .before .before .before .before .before .before .before .before .before .before .before .before .before .before .before .before .args .hubs .now) (c .before .before .before .before .before .before .before .before .before .before .before .before .before .before .before .before .before .args .list .now)) (c .before .before .before .before .before .before .before .before .before .before .before .before .before .before .before .before .before .args .spacing) (c .before .before .before .before .before .before .before .before .before .before .before .before .before .before .before .before .before .args .outcomes .now) (c .before .before .before .before .before .before .before .before .before .before .before .before .before .before .before .before .before .args .ctx .now) (c .before .before .before .before .before .before .before .before .before .before .before .before .before .before .before .before .before .args .routes .now) (c .before .before .before .before .before .before .before .before .before .before .before .before .before .before .before .before .before .args .log .now) (c .before .before .before .before .before .before .before .address-context .last .0) (c .before .before .before .read-header .last .0) (c .before .before .before .read-header .result) (c .before .before .before .before .before .before .before .address-context .ensures ∙ rw (c .before .before .before .before .before .before .before .before .before .before .route-string .ensures, c .before .before .before .before .before .before .before .before .before .transaction-translator .ensures)) (c .before .before .before .read-header .ensures (c .before .before .before .before .before .before .before .before .before .before .before .before .before .before .before .before .before .args .hubs .now) (c .before .before .before .before .before .before .before .before .before .before .before .before .before .before .before .before .before .args .list .now) (c .before .before .before .before .before .before .before .address-context .last .0) (c .before .before .before .before .before .before .before .before .before .before .before .before .before .before .before .before .before .args .routes .now) (c .before .before .before .before .before .before .before .before .before .before .before .before .before .before .before .before .before .args .spacing) (c .before .before .before .before .before .before .before .before .before .before .before .before .before .before .before .before .before .pre .1 .1)) (c .match .keys2)
+
+setup-max-packet-requires : tie.Need-setup-max-packet-requires
+setup-max-packet-requires c κs = spaced-same (c .before .before .before .before .before .before .before .before .before .before .before .before .before .before .before .before .before .before .before .pre .0) (c .before .before .before .before .before .before .before .before .before .address-context .kept .0)
+
+read-descriptors-requires : tie.Need-read-descriptors-requires
+read-descriptors-requires c κs = (omega (arith, c .before .before .before .before .before .before .before .before .before .read-header .kept .0, c .before .before .before .before .before .before .before .before .before .before .before .before .before .before .before .before .before .before .before .before .before .before .before .pre .1 .0), c .before .before .before .before .before .before .before .before .before .before .before .before .before .before .before .before .before .before .before .before .before .before .before .pre .1 .1)
+
+enum-told-2 : tie.Need-enum-told-2
+enum-told-2 c = search needs
+
 same-length-3 : tie.Need-same-length-3
 same-length-3 c = search needs
-
-returns : tie.Need-returns
-unfolding bringUpAddress
-returns c =
-    let c6 = c .before .before .before .before .before .before in
-    let c10 = c6 .before .before .before .before in
-    let c14 = c10 .before .before .before .before in
-    let c18 = c14 .before .before .before .before in
-    let c20 = c18 .before .before in
-    let c21 = c20 .before in
-    let c28 = c21 .before .before .before .before .before .before .before in
-    rw (← c21 .route-string .ensures, ← c20 .transaction-translator .ensures, ← c18 .address-context .ensures)
-    (done _ _ _ _ (c14 .send .ensures) _ _ _ _ (c10 .enum-told .given .1) (c6 .read-header .ensures (c28 .args .hubs .now)))
 
 same-length-4 : tie.Need-same-length-4
 same-length-4 c = search needs
 
+returns-2 : tie.Need-returns-2
+returns-2 c = not-read (bringUpOf (c .before .before .before .before .before .before .before .before .before .before .before .before .before .before .before .before .before .before .before .before .before .before .before .before .before .before .before .args .a) (c .before .before .before .before .before .before .before .before .before .before .before .before .before .before .before .before .before .before .before .before .before .before .before .before .before .before .before .args .hubs .now) (c .before .before .before .before .before .before .before .before .before .before .before .before .before .before .before .before .before .before .before .before .before .before .before .before .before .before .before .args .list .now)) (c .before .before .before .before .before .before .before .before .before .before .before .before .before .before .before .before .before .before .before .before .before .before .before .before .before .before .before .args .spacing) (c .before .before .before .before .before .before .before .before .before .before .before .before .before .before .before .before .before .before .before .before .before .before .before .before .before .before .before .args .outcomes .now) (c .before .before .before .before .before .before .before .before .before .before .before .before .before .before .before .before .before .before .before .before .before .before .before .before .before .before .before .args .ctx .now) (c .before .before .before .before .before .before .before .before .before .before .before .before .before .before .before .before .before .before .before .before .before .before .before .before .before .before .before .args .routes .now) (c .before .before .before .before .before .before .before .before .before .before .before .before .before .before .before .before .before .before .before .before .before .before .before .before .before .before .before .args .log .now) (c .before .before .before .before .before .before .before .before .before .before .before .before .before .before .before .before .before .address-context .last .0) (c .before .before .before .before .before .before .before .before .before .before .before .before .before .read-header .last .0) (c .before .before .before .before .before .before .before .before .before .before .before .before .before .read-header .result) (c .before .before .before .before .before .before .before .before .before .before .before .before .before .before .before .before .before .address-context .ensures ∙ rw (c .before .before .before .before .before .before .before .before .before .before .before .before .before .before .before .before .before .before .before .before .route-string .ensures, c .before .before .before .before .before .before .before .before .before .before .before .before .before .before .before .before .before .before .before .transaction-translator .ensures)) (c .before .before .before .before .before .before .before .before .before .before .before .before .before .read-header .ensures (c .before .before .before .before .before .before .before .before .before .before .before .before .before .before .before .before .before .before .before .before .before .before .before .before .before .before .before .args .hubs .now) (c .before .before .before .before .before .before .before .before .before .before .before .before .before .before .before .before .before .before .before .before .before .before .before .before .before .before .before .args .list .now) (c .before .before .before .before .before .before .before .before .before .before .before .before .before .before .before .before .before .address-context .last .0) (c .before .before .before .before .before .before .before .before .before .before .before .before .before .before .before .before .before .before .before .before .before .before .before .before .before .before .before .args .routes .now) (c .before .before .before .before .before .before .before .before .before .before .before .before .before .before .before .before .before .before .before .before .before .before .before .before .before .before .before .args .spacing) (c .before .before .before .before .before .before .before .before .before .before .before .before .before .before .before .before .before .before .before .before .before .before .before .before .before .before .before .pre .1 .1)) (c .before .before .before .before .before .before .before .before .before .enum-told .given .1) (c .before .before .before .before .before .before .before .setup-max-packet .last .0) (c .before .before .before .read-descriptors .last .0) (c .before .before .before .read-descriptors .result) (c .before .before .before .before .before .before .before .setup-max-packet .ensures) (c .before .before .before .read-descriptors .ensures .1 (c .before .before .before .before .before .before .before .before .before .before .before .before .before .before .before .before .before .before .before .before .before .before .before .before .before .before .before .args .hubs .now) (c .before .before .before .before .before .before .before .setup-max-packet .last .0) (c .before .before .before .before .before .before .before .before .before .before .before .before .before .before .before .before .before .before .before .before .before .before .before .before .before .before .before .args .routes .now) (c .before .before .before .before .before .before .before .before .before .before .before .before .before .before .before .before .before .before .before .before .before .before .before .before .before .before .before .args .spacing)) (c .match2 .keys2)
+
 same-length-5 : tie.Need-same-length-5
 same-length-5 c = search needs
-
-returns-2 : tie.Need-returns-2
-unfolding bringUpAddress
-returns-2 c =
-    let c6 = c .before .before .before .before .before .before in
-    let c10 = c6 .before .before .before .before in
-    let c12 = c10 .before .before in
-    let c13 = c12 .before in
-    let c20 = c13 .before .before .before .before .before .before .before in
-    rw (← c13 .route-string .ensures, ← c12 .transaction-translator .ensures, ← c10 .address-context .ensures)
-    (failed-before _ _ _ _ (c6 .send .ensures) _ _ (c20 .pre .1 .1) (c .before .before .s .given .1) (c .before-reading .ensures))
 
 same-length-6 : tie.Need-same-length-6
 same-length-6 c = search needs
 
-same-length-7 : tie.Need-same-length-7
-same-length-7 c = search needs
-
 returns-3 : tie.Need-returns-3
-unfolding bringUpAddress
-returns-3 c =
-    let c5 = c .before .before .before .before .before in
-    let c9 = c5 .before .before .before .before in
-    let c11 = c9 .before .before in
-    let c12 = c11 .before in
-    let c19 = c12 .before .before .before .before .before .before .before in
-    rw (← c12 .route-string .ensures, ← c11 .transaction-translator .ensures, ← c9 .address-context .ensures)
-    (cut-before _ _ _ _ (c5 .send .ensures) _ _ (c19 .pre .1 .1) (c .before .enum-told2 .given .1) (c .before-reading2 .ensures))
+returns-3 c = none-to-set (bringUpOf (c .before .before .before .before .before .before .before .before .before .before .before .before .before .before .before .before .before .before .before .before .before .before .before .before .before .before .before .before .before .args .a) (c .before .before .before .before .before .before .before .before .before .before .before .before .before .before .before .before .before .before .before .before .before .before .before .before .before .before .before .before .before .args .hubs .now) (c .before .before .before .before .before .before .before .before .before .before .before .before .before .before .before .before .before .before .before .before .before .before .before .before .before .before .before .before .before .args .list .now)) (c .before .before .before .before .before .before .before .before .before .before .before .before .before .before .before .before .before .before .before .before .before .before .before .before .before .before .before .before .before .args .spacing) (c .before .before .before .before .before .before .before .before .before .before .before .before .before .before .before .before .before .before .before .before .before .before .before .before .before .before .before .before .before .args .outcomes .now) (c .before .before .before .before .before .before .before .before .before .before .before .before .before .before .before .before .before .before .before .before .before .before .before .before .before .before .before .before .before .args .ctx .now) (c .before .before .before .before .before .before .before .before .before .before .before .before .before .before .before .before .before .before .before .before .before .before .before .before .before .before .before .before .before .args .routes .now) (c .before .before .before .before .before .before .before .before .before .before .before .before .before .before .before .before .before .before .before .before .before .before .before .before .before .before .before .before .before .args .log .now) (c .before .before .before .before .before .before .before .before .before .before .before .before .before .before .before .before .before .before .before .address-context .last .0) (c .before .before .before .before .before .before .before .before .before .before .before .before .before .before .before .read-header .last .0) (c .before .before .before .before .before .before .before .before .before .before .before .before .before .before .before .read-header .result) (c .before .before .before .before .before .before .before .before .before .before .before .before .before .before .before .before .before .before .before .address-context .ensures ∙ rw (c .before .before .before .before .before .before .before .before .before .before .before .before .before .before .before .before .before .before .before .before .before .before .route-string .ensures, c .before .before .before .before .before .before .before .before .before .before .before .before .before .before .before .before .before .before .before .before .before .transaction-translator .ensures)) (c .before .before .before .before .before .before .before .before .before .before .before .before .before .before .before .read-header .ensures (c .before .before .before .before .before .before .before .before .before .before .before .before .before .before .before .before .before .before .before .before .before .before .before .before .before .before .before .before .before .args .hubs .now) (c .before .before .before .before .before .before .before .before .before .before .before .before .before .before .before .before .before .before .before .before .before .before .before .before .before .before .before .before .before .args .list .now) (c .before .before .before .before .before .before .before .before .before .before .before .before .before .before .before .before .before .before .before .address-context .last .0) (c .before .before .before .before .before .before .before .before .before .before .before .before .before .before .before .before .before .before .before .before .before .before .before .before .before .before .before .before .before .args .routes .now) (c .before .before .before .before .before .before .before .before .before .before .before .before .before .before .before .before .before .before .before .before .before .before .before .before .before .before .before .before .before .args .spacing) (c .before .before .before .before .before .before .before .before .before .before .before .before .before .before .before .before .before .before .before .before .before .before .before .before .before .before .before .before .before .pre .1 .1)) (c .before .before .before .before .before .before .before .before .before .before .before .enum-told .given .1) (c .before .before .before .before .before .before .before .before .before .setup-max-packet .last .0) (c .before .before .before .before .before .read-descriptors .last .0) (c .before .before .before .before .before .read-descriptors .result) (c .before .before .before .before .before .before .before .before .before .setup-max-packet .ensures) (c .before .before .before .before .before .read-descriptors .ensures .1 (c .before .before .before .before .before .before .before .before .before .before .before .before .before .before .before .before .before .before .before .before .before .before .before .before .before .before .before .before .before .args .hubs .now) (c .before .before .before .before .before .before .before .before .before .setup-max-packet .last .0) (c .before .before .before .before .before .before .before .before .before .before .before .before .before .before .before .before .before .before .before .before .before .before .before .before .before .before .before .before .before .args .routes .now) (c .before .before .before .before .before .before .before .before .before .before .before .before .before .before .before .before .before .before .before .before .before .before .before .before .before .before .before .before .before .args .spacing)) (c .before .enum-told2 .given .1) (omega (arith, c .if1 .taken))
+
+set-first-requires : tie.Need-set-first-requires
+set-first-requires c κs = (spaced-same (spaced-same (c .before .before .before .before .before .before .before .before .before .before .before .before .before .before .before .before .before .before .before .before .before .before .before .before .before .before .before .before .before .before .before .before .pre .0) (c .before .before .before .before .before .before .before .before .before .before .before .before .before .before .before .before .before .before .before .before .before .before .address-context .kept .0)) (c .before .before .before .before .before .before .before .before .before .before .before .before .setup-max-packet .kept .0), (omega (arith, c .before .before .before .if1 .left), omega (arith, c .before .before .before .before .before .before .before .before .read-descriptors .kept .0, c .before .before .before .before .before .before .before .before .before .before .before .before .before .before .before .before .before .before .read-header .kept .0, c .before .before .before .before .before .before .before .before .before .before .before .before .before .before .before .before .before .before .before .before .before .before .before .before .before .before .before .before .before .before .before .before .pre .1 .0), c .before .before .before .before .before .before .before .before .read-descriptors .ensures .0 (accepted _ (c .before .before .before .before .enum-told2 .given .1))))
+
+same-length-7 : tie.Need-same-length-7
+same-length-7 c = c .before .before .before .before .before .before .set-first .kept .0 ∙ c .before .before .before .before .before .before .before .before .before .before .before .before .before .before .before .before .before .before .before .setup-max-packet .kept .0 ∙ c .before .before .before .before .before .before .before .before .before .before .before .before .before .before .before .before .before .before .before .before .before .before .before .before .before .before .before .before .before .address-context .kept .0
+
+same-length-8 : tie.Need-same-length-8
+same-length-8 c = search needs
+
+same-length-9 : tie.Need-same-length-9
+same-length-9 c = c .before .before .before .before .before .before .set-first .kept .1 .1 .0 ∙ c .before .before .before .before .before .before .before .before .before .before .before .before .before .before .before .read-descriptors .kept .0 ∙ c .before .before .before .before .before .before .before .before .before .before .before .before .before .before .before .before .before .before .before .before .before .before .before .before .before .read-header .kept .0
+
+returns-4 : tie.Need-returns-4
+returns-4 c = first-set (bringUpOf (c .before .before .before .before .before .before .before .before .before .before .before .before .before .before .before .before .before .before .before .before .before .before .before .before .before .before .before .before .before .before .before .before .before .before .before .before .before .before .before .args .a) (c .before .before .before .before .before .before .before .before .before .before .before .before .before .before .before .before .before .before .before .before .before .before .before .before .before .before .before .before .before .before .before .before .before .before .before .before .before .before .before .args .hubs .now) (c .before .before .before .before .before .before .before .before .before .before .before .before .before .before .before .before .before .before .before .before .before .before .before .before .before .before .before .before .before .before .before .before .before .before .before .before .before .before .before .args .list .now)) (c .before .before .before .before .before .before .before .before .before .before .before .before .before .before .before .before .before .before .before .before .before .before .before .before .before .before .before .before .before .before .before .before .before .before .before .before .before .before .before .args .spacing) (c .before .before .before .before .before .before .before .before .before .before .before .before .before .before .before .before .before .before .before .before .before .before .before .before .before .before .before .before .before .before .before .before .before .before .before .before .before .before .before .args .outcomes .now) (c .before .before .before .before .before .before .before .before .before .before .before .before .before .before .before .before .before .before .before .before .before .before .before .before .before .before .before .before .before .before .before .before .before .before .before .before .before .before .before .args .ctx .now) (c .before .before .before .before .before .before .before .before .before .before .before .before .before .before .before .before .before .before .before .before .before .before .before .before .before .before .before .before .before .before .before .before .before .before .before .before .before .before .before .args .routes .now) (c .before .before .before .before .before .before .before .before .before .before .before .before .before .before .before .before .before .before .before .before .before .before .before .before .before .before .before .before .before .before .before .before .before .before .before .before .before .before .before .args .log .now) (c .before .before .before .before .before .before .before .before .before .before .before .before .before .before .before .before .before .before .before .before .before .before .before .before .before .before .before .before .before .address-context .last .0) (c .before .before .before .before .before .before .before .before .before .before .before .before .before .before .before .before .before .before .before .before .before .before .before .before .before .read-header .last .0) (c .before .before .before .before .before .before .before .before .before .before .before .before .before .before .before .before .before .before .before .before .before .before .before .before .before .read-header .result) (c .before .before .before .before .before .before .before .before .before .before .before .before .before .before .before .before .before .before .before .before .before .before .before .before .before .before .before .before .before .address-context .ensures ∙ rw (c .before .before .before .before .before .before .before .before .before .before .before .before .before .before .before .before .before .before .before .before .before .before .before .before .before .before .before .before .before .before .before .before .route-string .ensures, c .before .before .before .before .before .before .before .before .before .before .before .before .before .before .before .before .before .before .before .before .before .before .before .before .before .before .before .before .before .before .before .transaction-translator .ensures)) (c .before .before .before .before .before .before .before .before .before .before .before .before .before .before .before .before .before .before .before .before .before .before .before .before .before .read-header .ensures (c .before .before .before .before .before .before .before .before .before .before .before .before .before .before .before .before .before .before .before .before .before .before .before .before .before .before .before .before .before .before .before .before .before .before .before .before .before .before .before .args .hubs .now) (c .before .before .before .before .before .before .before .before .before .before .before .before .before .before .before .before .before .before .before .before .before .before .before .before .before .before .before .before .before .before .before .before .before .before .before .before .before .before .before .args .list .now) (c .before .before .before .before .before .before .before .before .before .before .before .before .before .before .before .before .before .before .before .before .before .before .before .before .before .before .before .before .before .address-context .last .0) (c .before .before .before .before .before .before .before .before .before .before .before .before .before .before .before .before .before .before .before .before .before .before .before .before .before .before .before .before .before .before .before .before .before .before .before .before .before .before .before .args .routes .now) (c .before .before .before .before .before .before .before .before .before .before .before .before .before .before .before .before .before .before .before .before .before .before .before .before .before .before .before .before .before .before .before .before .before .before .before .before .before .before .before .args .spacing) (c .before .before .before .before .before .before .before .before .before .before .before .before .before .before .before .before .before .before .before .before .before .before .before .before .before .before .before .before .before .before .before .before .before .before .before .before .before .before .before .pre .1 .1)) (c .before .before .before .before .before .before .before .before .before .before .before .before .before .before .before .before .before .before .before .before .before .enum-told .given .1) (c .before .before .before .before .before .before .before .before .before .before .before .before .before .before .before .before .before .before .before .setup-max-packet .last .0) (c .before .before .before .before .before .before .before .before .before .before .before .before .before .before .before .read-descriptors .last .0) (c .before .before .before .before .before .before .before .before .before .before .before .before .before .before .before .read-descriptors .result) (c .before .before .before .before .before .before .before .before .before .before .before .before .before .before .before .before .before .before .before .setup-max-packet .ensures) (c .before .before .before .before .before .before .before .before .before .before .before .before .before .before .before .read-descriptors .ensures .1 (c .before .before .before .before .before .before .before .before .before .before .before .before .before .before .before .before .before .before .before .before .before .before .before .before .before .before .before .before .before .before .before .before .before .before .before .before .before .before .before .args .hubs .now) (c .before .before .before .before .before .before .before .before .before .before .before .before .before .before .before .before .before .before .before .setup-max-packet .last .0) (c .before .before .before .before .before .before .before .before .before .before .before .before .before .before .before .before .before .before .before .before .before .before .before .before .before .before .before .before .before .before .before .before .before .before .before .before .before .before .before .args .routes .now) (c .before .before .before .before .before .before .before .before .before .before .before .before .before .before .before .before .before .before .before .before .before .before .before .before .before .before .before .before .before .before .before .before .before .before .before .before .before .before .before .args .spacing)) (c .before .before .before .before .before .before .before .before .before .before .before .enum-told2 .given .1) (omega (arith, c .before .before .before .before .before .before .before .before .before .before .if1 .left)) (c .before .before .before .before .before .before .set-first .ensures (c .before .before .before .before .before .before .before .before .before .before .before .before .before .before .before .before .before .before .before .before .before .before .before .before .before .before .before .before .before .before .before .before .before .before .before .before .before .before .before .args .hubs .now))
 
 pub address-spec : {M : Type 1} → statement M
 address-spec =
@@ -102,20 +79,22 @@ address-spec =
     route-string-requires
     transaction-translator-requires
     address-context-requires
-    send-requires
-    enum-told
     read-header-requires
-    enum-known-s
-    before-reading-requires
-    enum-told-2
-    before-reading-requires-2
+    enum-told
     same-length
     same-length-2
-    same-length-3
     returns
+    setup-max-packet-requires
+    read-descriptors-requires
+    enum-told-2
+    same-length-3
     same-length-4
-    same-length-5
     returns-2
+    same-length-5
     same-length-6
+    returns-3
+    set-first-requires
     same-length-7
-    returns-3)
+    same-length-8
+    same-length-9
+    returns-4)
