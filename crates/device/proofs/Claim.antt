@@ -15,6 +15,7 @@ use Rattle.endpoint.specs.declared.pending.Queues.{Queues}
 use Rattle.endpoint.specs.Cells.{claimedCells, withActive, QueuesAs}
 use Rattle.settings.specs.Held.{isFound, settingWords, withSetting}
 use Rattle.settings.proofs.Laws.{with-fits}
+use Rattle.checks.specs.Offer.{offerCheck}
 use Rattle.phase.specs.declared.Ended.{Ended}
 use Rattle.phase.specs.Arrays as arrays
 use Rattle.phase.proofs.Laws.{queues-as, room-as}
@@ -23,21 +24,15 @@ use Rattle.claim.specs.Claim.{claimOf, claimCourse}
 use Rattle.device.specs.declared.record.Device.{Device}
 use Rattle.device.specs.declared.record.Called.{Called}
 use Rattle.device.specs.Device.{listOf, cellsIn, heldOf, quarantinedOf, withCells, withHeld}
-use Rattle.device.specs.Sound.{countsFit}
-use Rattle.device.specs.Left.{leaves, marked, ended}
+use Rattle.device.specs.Left.{leaves, ended}
 use Rattle.device.specs.Check.{recordCheck}
 use Rattle.device.specs.Calls.{onCheck}
 use Rattle.device.specs.Claim.{claimCheck, pendingOf, claimIn, ClaimAs, quarantines, claimRecord, claim}
-use Rattle.device.proofs.Counts.{sound-counts}
-use Rattle.device.proofs.Ends.{else-changed}
+use Rattle.device.proofs.Ends.{handed, else-quarantined}
 use Rattle.device.proofs.Facts.{none-quarantined}
-use Rattle.device.proofs.Laws.{pass-if, passed}
+use Rattle.device.proofs.Laws.{pass-if, passed, own-check}
 
-pub record ClaimFacts (d : Device) (i alt ctx log : ℕ) : Type 0 where
-  pub counts : countsFit d ≡ true
-  pub spaced : Spaced (d .spacing) ctx
-  pub room : 64 ≤ log
-  pub list : d .«list_len» ≤ 256
+pub record ClaimFacts (d : Device) (i alt : ℕ) : Type 0 where
   pub held : d .«held_count» ≤ 32
   pub fits : length (withSetting i alt (heldOf d)) ≤ 32
   pub free : quarantinedOf d ≡ []
@@ -55,19 +50,22 @@ module _ (d : Device) (i alt : ℕ) (rings : List ℕ) where
 
   -- what it says that the checks of a claim passed
   pub claim-passed : (ctx routes log : ℕ) (x : Check) → x ≡ recordCheck d ctx routes log (claimCheck d i alt rings) → x ≡ Pass →
-      ClaimFacts d i alt ctx log
+      ClaimFacts d i alt
   claim-passed ctx routes log x k e =
       let p = passed d ctx routes log (claimCheck d i alt rings) (sym k ∙ e) in
       let f = p .0 .facts in
       record {
-        counts = sound-counts d (p .0 .is-sound);
-        spaced = p .0 .spaced;
-        room = p .0 .room;
-        list = f .counts .list;
         held = f .counts .held;
         fits = with-fits (listOf d) (heldOf d) i alt (f .list) (f .settings) (found-if (p .1));
         free = none-quarantined d (p .0 .usable) (p .0 .is-sound);
       }
+
+  -- the call's own check, after the record's
+  pub claim-checked :
+      (ctx routes log : ℕ) (x y : Check) (c : Cells) → x ≡ recordCheck d ctx routes log Pass → x ≡ Pass → c ≡ cellsIn d →
+      y ≡ offerCheck (listOf d) i alt c rings (d .control) (quarantinedOf d) → y ≡ recordCheck d ctx routes log (claimCheck d i alt rings)
+  unfolding claimCheck
+  claim-checked ctx routes log x y c k p h e = own-check d ctx routes log x (claimCheck d i alt rings) k p y (e ∙ rw h)
 
   -- the claim that the code's arguments stand for
   claim-of : (a : ClaimArgs) (c : Cells) (by : List ℕ) → c ≡ cellsIn d → by ≡ pendingOf d i alt rings → ClaimAs a d c i alt by →
@@ -96,15 +94,15 @@ module _ (d : Device) (i alt : ℕ) (rings : List ℕ) where
   claim-left x a c by o ctx routes log ctx′ routes′ log′ e r k p h q s run m =
       m ∙ sym (rw (← k, p, ← claim-of a c by h q s, ← run))
 
-  -- the record that the end of the course makes, step by step
+  -- the record that the end of the course makes
   pub claim-made :
-      (x y r : Device) (c m : Cells) (q : Queues) (e : Ended) (by : List ℕ) → m ≡ claimedCells i by c →
-      x ≡ cond (e .moved) (withHeld (withSetting i alt (heldOf d)) (withCells m d)) (withCells (withActive (Interface i) (e .active) c) d) →
-      y ≡ cond (e .moved) x (quarantines (e .answer) (take (q .count) (q .rings)) x) → r ≡ marked (e .answer) y → c ≡ cellsIn d →
-      QueuesAs q by → by ≡ pendingOf d i alt rings → (ctx routes log : List ℕ) →
-      leaves (record { device = r; answer = e .answer; count = e .count }) ctx routes log
-      ≡ ended (claimRecord d i alt rings) (arrays.leaves e ctx routes log)
+      (y : Device) (c m : Cells) (q : Queues) (e : Ended) (by : List ℕ) (r : Called) → m ≡ claimedCells i by c →
+      y ≡ cond (e .moved) d (quarantines (e .answer) (take (q .count) (q .rings)) d) →
+      r ≡ handed e
+      (cond (e .moved) (withHeld (withSetting i alt (heldOf d)) (withCells m y)) (withCells (withActive (Interface i) (e .active) c) y)) →
+      c ≡ cellsIn d → QueuesAs q by → by ≡ pendingOf d i alt rings → (ctx routes log : List ℕ) →
+      leaves r ctx routes log ≡ ended (claimRecord d i alt rings) (arrays.leaves e ctx routes log)
   unfolding claimRecord ended
-  claim-made x y r c m q e by p ex ey er k s h ctx routes log =
-      let z = else-changed (e .moved) _ _ x y (quarantines (e .answer) (take (q .count) (q .rings))) ex ey in
+  claim-made y c m q e by r p ey er k s h ctx routes log =
+      let z = else-quarantined (e .moved) (e .answer) d y (withSetting i alt (heldOf d)) m (withActive (Interface i) (e .active) c) _ ey in
       rw (er, z, s .rings, p, k, h)

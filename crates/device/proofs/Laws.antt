@@ -1,6 +1,6 @@
 -- What a passed check says.
 use Prim.Native.Nat.{ℕ, _+_, _*_, _≤_}
-use mathlib.Core.Path.{_≡_, refl}
+use mathlib.Core.Path.{_≡_, refl, sym, _∙_}
 use mathlib.Core.Bool.{Bool, true, false, cond, _&&_}
 use native.Mathlib.Omega.{arith}
 use borrow.Author.Tests.{eqb-true, leb-true}
@@ -74,3 +74,17 @@ check-then d ctx routes log next =
     (then-if (eqb ctx (33 * d .spacing)) _ _ answer.ContextLength next
     (then-if (eqb routes (32 * (d .n + 1))) _ _ answer.RoutesLength next
     (then-if (leb 64 log) _ _ answer.LogTooShort next refl)))
+
+-- what it says that the record's own checks passed
+pub record-passed : (d : Device) (ctx routes log : ℕ) (x : Check) → x ≡ recordCheck d ctx routes log Pass → x ≡ Pass → Passed d ctx routes log
+record-passed d ctx routes log x k p = passed d ctx routes log Pass (sym k ∙ p) .0
+
+-- refused by the record's checks, or by the call's own after they passed
+module _ (d : Device) (ctx routes log : ℕ) (x next : Check) (k : x ≡ recordCheck d ctx routes log Pass) where
+  pub refused-first : (a : Answer) → x ≡ Refuse a → x ≡ recordCheck d ctx routes log next
+  unfolding andThen
+  refused-first a p = p ∙ sym (check-then d ctx routes log next ∙ rw (← k, p))
+
+  pub own-check : x ≡ Pass → (y : Check) → y ≡ next → y ≡ recordCheck d ctx routes log next
+  unfolding andThen
+  own-check p y e = e ∙ sym (check-then d ctx routes log next ∙ rw (← k, p))

@@ -1,7 +1,7 @@
--- What a release whose checks have passed may rely on, and what it leaves.
-use Prim.Native.Nat.{ℕ, _≤_}
-use mathlib.Core.Path.{_≡_, sym, _∙_}
-use mathlib.Core.Bool.{true, cond}
+-- What a release leaves whose checks have passed.
+use Prim.Native.Nat.{ℕ}
+use mathlib.Core.Path.{_≡_, sym}
+use mathlib.Core.Bool.{cond}
 use mathlib.Core.List.{List}
 use lib.ListN.{length, take, replicate}
 use Rattle.answer.specs.declared.Check.{Check}
@@ -10,57 +10,56 @@ use Rattle.command.specs.Course.{played}
 use Rattle.endpoint.specs.declared.cells.Owner.the-variants.{Interface}
 use Rattle.endpoint.specs.Order.{PLACES}
 use Rattle.endpoint.specs.declared.cells.Cells.{Cells}
+use Rattle.endpoint.specs.declared.pending.Queues.{Queues}
 use Rattle.endpoint.specs.Cells.{ownedRings, claimedCells, withActive, QueuesAs}
-use Rattle.settings.specs.Held.{settingWords, withoutSetting}
+use Rattle.settings.specs.Held.{alternateOf, settingWords, withoutSetting}
 use Rattle.phase.specs.declared.Ended.{Ended}
 use Rattle.phase.specs.Arrays as arrays
-use Rattle.phase.proofs.Laws.{room-as}
+use Rattle.phase.proofs.Laws.{queues-as}
 use Rattle.release.specs.declared.ReleaseArgs.{ReleaseArgs}
 use Rattle.release.specs.Release.{releaseOf, releaseCourse}
 use Rattle.device.specs.declared.record.Device.{Device}
 use Rattle.device.specs.declared.record.Called.{Called}
 use Rattle.device.specs.Device.{listOf, cellsIn, heldOf, withCells, withHeld}
-use Rattle.device.specs.Sound.{countsFit}
-use Rattle.device.specs.Left.{leaves, marked, ended}
+use Rattle.device.specs.Left.{leaves, ended}
 use Rattle.device.specs.Check.{recordCheck}
 use Rattle.device.specs.Calls.{onCheck}
 use Rattle.device.specs.Release.{releaseCheck, releaseIn, releaseRecord, release}
-use Rattle.device.proofs.Counts.{sound-counts}
-use Rattle.device.proofs.Laws.{passed}
+use Rattle.device.proofs.Ends.{handed}
 
-module _ (d : Device) (i : ℕ) (x : Check) where
-  -- the counts of a record that passed
-  pub release-counts : (ctx routes log : ℕ) → x ≡ recordCheck d ctx routes log (releaseCheck d i) → x ≡ Pass → countsFit d ≡ true
-  release-counts ctx routes log k p = sound-counts d (passed d ctx routes log (releaseCheck d i) (sym k ∙ p) .0 .is-sound)
+-- what the code hands to the course
+abbrev pub argsOf : Device → ℕ → ℕ → Queues → Queues → ReleaseArgs
+argsOf d i alt old all =
+    record {
+      slot = d .slot;
+      spacing = d .spacing;
+      speed = d .«port_speed»;
+      interface = i;
+      alternate = alt;
+      old = old;
+      all = all;
+    }
 
-  module _ (a : ReleaseArgs)
-      (s : (releaseOf a (settingWords (listOf d) (a .interface) (a .alternate)) ≡ releaseIn d i) × (a .spacing ≡ d .spacing)
-      × QueuesAs (a .old) (ownedRings (Interface i) (cellsIn d)) × QueuesAs (a .all) ((cellsIn d) .rings)) where
-    -- what its course asks
-    pub release-room : (ctx routes log : ℕ) → x ≡ recordCheck d ctx routes log (releaseCheck d i) → x ≡ Pass →
-        arrays.Room (a .spacing) ctx (a .old) (a .all) × ((64 ≤ log) × (d .«list_len» ≤ 256))
-    release-room ctx routes log k p =
-        let f = passed d ctx routes log (releaseCheck d i) (sym k ∙ p) .0 in
-        (rw (s .1) (room-as (d .spacing) ctx (a .old) (a .all) _ _ (f .spaced) (s .2) (s .3)), (f .room, f .facts .counts .list))
+-- the release that the code's arguments stand for
+release-of :
+    (d : Device) (i alt : ℕ) (c : Cells) (own : List ℕ) (old all : Queues) → c ≡ cellsIn d → alt ≡ alternateOf i (heldOf d) →
+    own ≡ ownedRings (Interface i) c → QueuesAs old own → QueuesAs all (c .rings) →
+    releaseOf (argsOf d i alt old all) (settingWords (listOf d) i alt) ≡ releaseIn d i
+unfolding releaseIn arrays.dcisIn
+release-of d i alt c own old all h p w s t = rw (queues-as old own s, t .dcis, w, h, p)
 
-    -- what it leaves is what the end of its course makes
-    pub release-left :
-        (o ctx routes log ctx′ routes′ log′ : List ℕ) (e : Ended) (r : Called) →
-        x ≡ recordCheck d (length ctx) (length routes) (length log) (releaseCheck d i) → x ≡ Pass →
-        arrays.leaves e ctx′ routes′ log′
-        ≡ played o 0 (releaseCourse (releaseOf a (settingWords (take (d .«list_len») (d .list)) (a .interface) (a .alternate))) ctx routes)
-        log →
-        leaves r ctx′ routes′ log′ ≡ ended (releaseRecord d i) (arrays.leaves e ctx′ routes′ log′) →
-        leaves r ctx′ routes′ log′ ≡ release d ctx routes log o i
-    unfolding release onCheck listOf
-    release-left o ctx routes log ctx′ routes′ log′ e r k p run m = m ∙ sym (rw (← k, p, ← s .0, ← run))
-
--- the record that the end of its course makes, step by step
-pub release-made :
-    (d x r : Device) (i : ℕ) (c m : Cells) (e : Ended) → m ≡ claimedCells i (replicate PLACES 0) c →
-    x ≡ cond (e .moved) (withHeld (withoutSetting i (heldOf d)) (withCells m d)) (withCells (withActive (Interface i) (e .active) c) d) →
-    r ≡ marked (e .answer) x → c ≡ cellsIn d → (ctx routes log : List ℕ) →
-    leaves (record { device = r; answer = e .answer; count = e .count }) ctx routes log
-    ≡ ended (releaseRecord d i) (arrays.leaves e ctx routes log)
-unfolding releaseRecord ended
-release-made d x r i c m e p ex er k ctx routes log = rw (er, ex, p, k)
+-- what a release leaves is what the end of its course makes of the record
+pub release-left :
+    (d : Device) (i alt : ℕ) (x : Check) (c m : Cells) (own : List ℕ) (old all : Queues) (o ctx routes log ctx′ routes′ log′ : List ℕ)
+    (e : Ended) (r : Called) →
+    x ≡ recordCheck d (length ctx) (length routes) (length log) (releaseCheck d i) → x ≡ Pass → c ≡ cellsIn d →
+    alt ≡ alternateOf i (heldOf d) → own ≡ ownedRings (Interface i) c → QueuesAs old own → QueuesAs all (c .rings) →
+    arrays.leaves e ctx′ routes′ log′
+    ≡ played o 0 (releaseCourse (releaseOf (argsOf d i alt old all) (settingWords (take (d .«list_len») (d .list)) i alt)) ctx routes) log →
+    m ≡ claimedCells i (replicate PLACES 0) c →
+    r ≡ handed e
+    (cond (e .moved) (withHeld (withoutSetting i (heldOf d)) (withCells m d)) (withCells (withActive (Interface i) (e .active) c) d)) →
+    leaves r ctx′ routes′ log′ ≡ release d ctx routes log o i
+unfolding release onCheck listOf releaseRecord ended
+release-left d i alt x c m own old all o ctx routes log ctx′ routes′ log′ e r k p h al w s t run em er =
+    rw (er, em, h) (sym (rw (← k, p, ← release-of d i alt c own old all h al w s t, ← run)))

@@ -1,10 +1,10 @@
-// The checks of the calls on a record, in 01's order.
+// The checks that every call on a record begins with.
 use super::record::Device;
 use answer::Answer;
 use answer::Check;
 ghost use mathlib.Core.Path.{_≡_};
 ghost use Rattle.answer.specs.declared.Check.the-variants.{Pass};
-ghost use Rattle.device.specs.Check.{recordCheck, hubCheck};
+ghost use Rattle.device.specs.Check.{recordCheck};
 
 impl Device {
     // 12, 1, 2, 3.
@@ -18,16 +18,5 @@ impl Device {
             return Check::Refuse(Answer::Unusable);
         }
         checks::lengths_check(self.spacing, self.n, ctx, routes, log)
-    }
-
-    // Then 7.
-    pub fn hub_check(self, ctx: usize, routes: usize, log: usize, ns: u32) -> Check
-        ensures { λ r. ⌜ r ≡ recordCheck self ctx routes log (hubCheck self ns) ⌝ }
-    {
-        let check = self.record_check(ctx, routes, log);
-        match check {
-            Check::Refuse(a) => Check::Refuse(a),
-            Check::Pass => checks::think_check(self.port_speed, ns),
-        }
     }
 }

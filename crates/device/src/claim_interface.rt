@@ -1,8 +1,8 @@
 // The claim of an interface's alternate setting.
-use super::cells;
 use super::record::Called;
 use super::record::Device;
 use super::update;
+use answer::Answer;
 use answer::Check;
 use claim::ClaimArgs;
 use endpoint::Cells;
@@ -20,42 +20,7 @@ ghost use Rattle.phase.specs.Arrays as arrays;
 ghost use Rattle.device.specs.Device.{cellsIn, heldOf, quarantinedOf};
 ghost use Rattle.device.specs.Sound.{countsFit};
 ghost use Rattle.device.specs.Left.{leaves, ended};
-ghost use Rattle.device.specs.Check.{recordCheck};
-ghost use Rattle.device.specs.Claim.{claimCheck, pendingOf, ClaimAs, quarantines, claimRecord, claim};
-
-// The checks, the last of them those of the setting and of the rings offered.
-fn claim_check(
-    d: Device,
-    ctx: usize,
-    routes: usize,
-    log: usize,
-    interface: u8,
-    alternate: u8,
-    rings: &[u64],
-) -> Check
-    ensures { λ r. ⌜ r ≡ recordCheck d ctx routes log (claimCheck d interface alternate (now (rings .entry))) ⌝ }
-{
-    let list = d.list;
-    let quarantined = d.quarantined;
-    let check = d.record_check(ctx, routes, log);
-    match check {
-        Check::Refuse(a) => Check::Refuse(a),
-        Check::Pass => {
-            let c = cells::cells_in(d);
-            checks::list_check(
-                list,
-                d.list_len,
-                interface,
-                alternate,
-                c,
-                rings,
-                d.control,
-                quarantined,
-                d.quarantined_count,
-            )
-        }
-    }
-}
+ghost use Rattle.device.specs.Claim.{pendingOf, ClaimAs, quarantines, claimRecord, claim};
 
 fn claim_args(d: Device, c: Cells, interface: u8, alternate: u8, pending: [u64; 30]) -> ClaimArgs
     requires { ⌜ countsFit d ≡ true ⌝ }
@@ -65,8 +30,8 @@ fn claim_args(d: Device, c: Cells, interface: u8, alternate: u8, pending: [u64; 
     let alternates = d.alternates;
     let n = d.held_count;
     let slot = d.slot;
-    let own = endpoint::owned_rings(Owner::Interface(interface), c);
     let rings = c.rings;
+    let own = endpoint::owned_rings(Owner::Interface(interface), c);
     ClaimArgs {
         slot: slot,
         spacing: d.spacing,
@@ -90,19 +55,21 @@ fn with_quarantined(mut d: Device, e: Ended, q: Queues) -> Device
         return d;
     }
     let a = e.answer;
-    if answer::answer_number(a) == 14 {
-        let rings = q.rings;
-        let quarantined = checks::quarantined_rings(rings, q.count);
-        d.quarantined = quarantined;
-        d.quarantined_count = q.count;
-        return d;
+    match a {
+        Answer::InterfaceBroken => {
+            let rings = q.rings;
+            let quarantined = checks::quarantined_rings(rings, q.count);
+            d.quarantined = quarantined;
+            d.quarantined_count = q.count;
+            d
+        }
+        _ => d,
     }
-    d
 }
 
 // The end of the course makes the record, and what the call hands back.
 fn claim_end(
-    mut d: Device,
+    d: Device,
     c: Cells,
     interface: u8,
     alternate: u8,
@@ -114,19 +81,12 @@ fn claim_end(
     requires { ⌜ (c ≡ cellsIn d) × (quarantinedOf d ≡ []) × QueuesAs q pending ⌝ }
     ensures { λ r. ⌜ ((ctx routes log rings : List ℕ) → pending ≡ pendingOf d interface alternate rings → leaves r ctx routes log ≡ ended (claimRecord d interface alternate rings) (arrays.leaves e ctx routes log)) ⌝ }
 {
-    let answer = e.answer;
     let interfaces = d.interfaces;
     let alternates = d.alternates;
-    let s = settings::with_setting(interfaces, alternates, d.held_count, interface, alternate);
+    let held = settings::with_setting(interfaces, alternates, d.held_count, interface, alternate);
     let claimed = endpoint::claimed_cells(interface, pending, c);
-    d = update::at_end(d, c, e, Owner::Interface(interface), claimed, s);
-    d = with_quarantined(d, e, q);
-    d = update::marked(d, answer);
-    Called {
-        device: d,
-        answer: answer,
-        count: e.count,
-    }
+    let left = with_quarantined(d, e, q);
+    update::at_end(left, c, e, Owner::Interface(interface), claimed, held)
 }
 
 impl Device {
@@ -143,31 +103,40 @@ impl Device {
     ) -> Called
         ensures { λ r. ⌜ leaves r (now (ctx .exit)) (now (routes .exit)) (now (log .exit)) ≡ claim self (now (ctx .entry)) (now (routes .entry)) (now (log .entry)) (now (outcomes .entry)) interface alternate (now (rings .entry)) ⌝ }
     {
-        let check = claim_check(
-            self,
-            ctx.len(),
-            routes.len(),
-            log.len(),
-            interface,
-            alternate,
-            rings,
-        );
-        match check {
-            Check::Refuse(a) => {
-                return Called {
-                    device: self,
-                    answer: a,
-                    count: 0,
-                };
-            }
-            Check::Pass => {}
+        let check = self.record_check(ctx.len(), routes.len(), log.len());
+        if let Check::Refuse(a) = check {
+            return Called {
+                device: self,
+                answer: a,
+                count: 0,
+            };
         }
         let list = self.list;
-        let c = cells::cells_in(self);
+        let eps = self.eps;
+        let owners = self.ep_interfaces;
+        let quarantined = self.quarantined;
+        let c = endpoint::cells_of(eps, owners, self.ep_count);
+        let offer = checks::list_check(
+            list,
+            self.list_len,
+            interface,
+            alternate,
+            c,
+            rings,
+            self.control,
+            quarantined,
+            self.quarantined_count,
+        );
+        if let Check::Refuse(a) = offer {
+            return Called {
+                device: self,
+                answer: a,
+                count: 0,
+            };
+        }
         let pending = checks::list_rings(list, self.list_len, interface, alternate, rings);
         let args = claim_args(self, c, interface, alternate, pending);
-        let q = args.pending;
         let e = claim::claim_interface(ctx, routes, log, outcomes, args, list, self.list_len);
-        claim_end(self, c, interface, alternate, pending, q, e)
+        claim_end(self, c, interface, alternate, pending, args.pending, e)
     }
 }

@@ -22,24 +22,28 @@ impl Device {
     ) -> Called
         ensures { λ r. ⌜ leaves r (now (ctx .exit)) (now (routes .exit)) (now (log .exit)) ≡ hubUpdate self (now (ctx .entry)) (now (routes .entry)) (now (log .entry)) (now (outcomes .entry)) ports multi ns ⌝ }
     {
-        let check = self.hub_check(ctx.len(), routes.len(), log.len(), ns);
-        match check {
-            Check::Refuse(a) => {
-                return Called {
-                    device: self,
-                    answer: a,
-                    count: 0,
-                };
-            }
-            Check::Pass => {}
+        let check = self.record_check(ctx.len(), routes.len(), log.len());
+        if let Check::Refuse(a) = check {
+            return Called {
+                device: self,
+                answer: a,
+                count: 0,
+            };
+        }
+        let known = checks::think_check(self.port_speed, ns);
+        if let Check::Refuse(a) = known {
+            return Called {
+                device: self,
+                answer: a,
+                count: 0,
+            };
         }
         let think = checks::think_value(ns);
         change_context::hub_context(ctx, self.spacing, self.port_speed, ports, multi, think);
         let s = command::send(log, outcomes, 0, Command::Evaluate);
         let answer = phase::answer_of(s);
-        self = update::marked(self, answer);
         Called {
-            device: self,
+            device: update::marked(self, answer),
             answer: answer,
             count: 1,
         }

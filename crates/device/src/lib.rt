@@ -1,5 +1,4 @@
 // The record of a device and the calls on it (device.rs of the original, and the lifecycle of src/device.rs above it).
-mod cells;
 mod check;
 mod claim_interface;
 mod hub_update;

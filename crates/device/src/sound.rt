@@ -1,13 +1,11 @@
 // Whether a record is sound, for any record whatsoever.
 use super::record::Device;
 ghost use mathlib.Core.Path.{_≡_};
-ghost use mathlib.Core.Bool.{true, _&&_};
-ghost use Rattle.device.specs.Sound.{countsFit, listsSound, ringsSound, sound};
+ghost use Rattle.device.specs.Sound.{sound};
 
 impl Device {
-    fn arrays_sound(self) -> bool
-        requires { ⌜ countsFit self ≡ true ⌝ }
-        ensures { λ r. ⌜ r ≡ listsSound self && ringsSound self ⌝ }
+    pub fn sound(self) -> bool
+        ensures { λ r. ⌜ r ≡ sound self ⌝ }
     {
         let list = self.list;
         let interfaces = self.interfaces;
@@ -15,34 +13,7 @@ impl Device {
         let eps = self.eps;
         let owners = self.ep_interfaces;
         let quarantined = self.quarantined;
-        let n = self.ep_count;
-        if !checks::lists_sound(
-            list,
-            self.list_len,
-            interfaces,
-            alternates,
-            self.held_count,
-            eps,
-            owners,
-            n,
-        ) {
-            return false;
-        }
-        checks::rings_sound(
-            self.usable,
-            eps,
-            n,
-            self.control,
-            quarantined,
-            self.quarantined_count,
-        )
-    }
-
-    pub fn sound(self) -> bool
-        ensures { λ r. ⌜ r ≡ sound self ⌝ }
-    {
-        let slot = self.slot.0;
-        if !checks::place_sound(slot, self.n, self.spacing, self.port_speed) {
+        if !checks::place_sound(self.slot.0, self.n, self.spacing, self.port_speed) {
             return false;
         }
         if !checks::counts_fit(
@@ -53,6 +24,25 @@ impl Device {
         ) {
             return false;
         }
-        self.arrays_sound()
+        if !checks::lists_sound(
+            list,
+            self.list_len,
+            interfaces,
+            alternates,
+            self.held_count,
+            eps,
+            owners,
+            self.ep_count,
+        ) {
+            return false;
+        }
+        checks::rings_sound(
+            self.usable,
+            eps,
+            self.ep_count,
+            self.control,
+            quarantined,
+            self.quarantined_count,
+        )
     }
 }

@@ -1,4 +1,5 @@
-// What a call makes of a record.
+// What the end of a course makes of a record.
+use super::record::Called;
 use super::record::Device;
 use answer::Answer;
 use endpoint::Cells;
@@ -17,9 +18,8 @@ ghost use Rattle.device.specs.Left.{marked};
 pub fn marked(mut d: Device, a: Answer) -> Device
     ensures { λ r. ⌜ r ≡ marked a d ⌝ }
 {
-    let n = answer::answer_number(a);
-    match n {
-        14..=15 => {
+    match a {
+        Answer::InterfaceBroken | Answer::Cut => {
             d.usable = false;
             d
         }
@@ -27,32 +27,36 @@ pub fn marked(mut d: Device, a: Answer) -> Device
     }
 }
 
-// Other endpoints.
-fn with_cells(mut d: Device, c: Cells) -> Device
-    ensures { λ r. ⌜ r ≡ withCells c d ⌝ }
+// The record with these endpoints, as a call hands it back.
+fn with_cells(mut d: Device, c: Cells, e: Ended) -> Called
+    ensures { λ r. ⌜ r ≡ record { device = marked (e .answer) (withCells c d); answer = e .answer; count = e .count } ⌝ }
 {
-    let e = endpoint::endpoints_of(c);
-    let eps = e.eps;
-    let owners = e.owners;
+    let live = endpoint::endpoints_of(c);
+    let eps = live.eps;
+    let owners = live.owners;
     d.eps = eps;
     d.ep_interfaces = owners;
-    d.ep_count = e.count;
-    d
+    d.ep_count = live.count;
+    let answer = e.answer;
+    Called {
+        device: marked(d, answer),
+        answer: answer,
+        count: e.count,
+    }
 }
 
 // Other endpoints and held settings where the course moved them, else the owner's endpoints as far as they were made active again.
-pub fn at_end(mut d: Device, c: Cells, e: Ended, who: Owner, moved: Cells, held: Settings) -> Device
-    ensures { λ r. ⌜ ((hs : List Held) → SettingsAs held hs → r ≡ cond (e .moved) (withHeld hs (withCells moved d)) (withCells (withActive who (e .active) c) d)) ⌝ }
+pub fn at_end(mut d: Device, c: Cells, e: Ended, who: Owner, moved: Cells, held: Settings) -> Called
+    ensures { λ r. ⌜ ((hs : List Held) → SettingsAs held hs → r ≡ record { device = marked (e .answer) (cond (e .moved) (withHeld hs (withCells moved d)) (withCells (withActive who (e .active) c) d)); answer = e .answer; count = e .count }) ⌝ }
 {
     if e.moved {
         let interfaces = held.interfaces;
         let alternates = held.alternates;
-        d = with_cells(d, moved);
         d.interfaces = interfaces;
         d.alternates = alternates;
         d.held_count = held.count;
-        return d;
+        return with_cells(d, moved, e);
     }
     let left = endpoint::with_active(who, e.active, c);
-    with_cells(d, left)
+    with_cells(d, left, e)
 }

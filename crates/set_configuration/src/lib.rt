@@ -4,4 +4,3 @@ mod run;
 
 pub use run::SettingsArgs;
 pub use run::run_set_configuration;
-pub use run::set_listed;

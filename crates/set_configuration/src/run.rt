@@ -10,7 +10,7 @@ use transfer::Replaced;
 ghost use mathlib.Core.Path.{_≡_};
 ghost use mathlib.Core.List.{List};
 ghost use Prim.Native.Nat.{ℕ, _+_, _*_, _≤_};
-ghost use lib.ListN.{length, take};
+ghost use lib.ListN.{length};
 ghost use Rattle.command.specs.Course.{played};
 ghost use Rattle.phase.specs.Arrays.{leaves, Room};
 ghost use Rattle.set_configuration.specs.SetConfiguration.{settingsOf, setEvaluate, setPublish, setRestored, setRestore, setSwitch, setResume, setConfigure, setCourse};
@@ -50,23 +50,6 @@ pub fn run_set_configuration(
         Sent::Failed(_) => phase::stays(Answer::InterfaceBroken, m, stop.active),
         Sent::Cut => phase::stays(Answer::Cut, m, stop.active),
     }
-}
-
-// The same from the first command on, where the list is the first n words of an array.
-pub fn set_listed(
-    ctx: &mut [u8],
-    routes: &mut [u64],
-    log: &mut [u32],
-    outcomes: &[u8],
-    a: SettingsArgs,
-    list: [u32; 256],
-    n: usize,
-) -> Ended
-    requires { ⌜ Room (a .spacing) (length (now ctx)) (a .old) (a .old) ⌝ }
-    requires { ⌜ (a .held ≤ 32) × (64 ≤ length (now log)) × (n ≤ 256) ⌝ }
-    ensures { λ r. ⌜ leaves r (now (ctx .exit)) (now (routes .exit)) (now (log .exit)) ≡ played (now (outcomes .entry)) 0 (setCourse (settingsOf a (take n list)) (now (ctx .entry)) (now (routes .entry))) (now (log .entry)) ⌝ }
-{
-    run_set_configuration(ctx, routes, log, outcomes, 0, a, &list[0..n])
 }
 
 fn configure(

@@ -1,7 +1,9 @@
 use mathlib.Core.Path.{sym, _∙_}
-use borrow.Author.Needs.{needs}
 use borrow.Author.Tests.{not-true, not-false}
-use Rattle.device.specs.Sound.{placeSound, countsFit, sound}
+use Rattle.device.specs.Device.{listOf, cellsIn, heldOf, quarantinedOf}
+use Rattle.device.specs.Sound.{placeSound, countsFit, listsSound, allRings, ringsSound, sound}
+use Rattle.device.proofs.Facts.{count-facts}
+use borrow.Author.Needs.{needs}
 use Rattle.device.proofs.record.Device.sound.Statement.{statement}
 use Rattle.device.proofs.record.Device.sound.Tie as tie
 
@@ -19,17 +21,21 @@ returns-2 : tie.Need-returns-2
 unfolding sound placeSound countsFit
 returns-2 c = rw (← c .before .before .before .place-sound .ensures, not-false (c .before .before .before .place-sound .result) (c .before .before .if1 .left), ← c .before .counts-fit .ensures, not-true (c .before .counts-fit .result) (c .if2 .taken))
 
-arrays-sound-requires : tie.Need-arrays-sound-requires
+lists-sound-requires : tie.Need-lists-sound-requires
 unfolding countsFit
-arrays-sound-requires c κs = sym (c .before .counts-fit .ensures) ∙ not-false _ (c .if2 .left)
+lists-sound-requires c κs = let f = count-facts (c .before .before .before .before .before .before .before .before .before .before .args .self) (sym (c .before .counts-fit .ensures) ∙ not-false _ (c .if2 .left)) in (f .list, f .held, f .endpoints)
 
 returns-3 : tie.Need-returns-3
-unfolding sound placeSound countsFit
-returns-3 c =
-    let c3 = c .before .before .before in
-    let c4 = c3 .before in
-    rw
-    (← c4 .place-sound .ensures, not-false (c4 .place-sound .result) (c3 .if1 .left), ← c .before .before .counts-fit .ensures, not-false (c .before .before .counts-fit .result) (c .before .if2 .left), c .arrays-sound .ensures)
+unfolding sound placeSound countsFit listsSound listOf cellsIn heldOf
+returns-3 c = rw (← c .before .before .before .before .before .place-sound .ensures, not-false (c .before .before .before .before .before .place-sound .result) (c .before .before .before .before .if1 .left), ← c .before .before .before .counts-fit .ensures, not-false (c .before .before .before .counts-fit .result) (c .before .before .if2 .left), ← c .before .lists-sound .ensures, not-true (c .before .lists-sound .result) (c .if3 .taken))
+
+rings-sound-requires : tie.Need-rings-sound-requires
+unfolding countsFit
+rings-sound-requires c κs = let f = count-facts (c .before .before .before .before .before .before .before .before .before .before .before .before .args .self) (sym (c .before .before .before .counts-fit .ensures) ∙ not-false _ (c .before .before .if2 .left)) in (f .endpoints, f .quarantined)
+
+returns-4 : tie.Need-returns-4
+unfolding sound placeSound countsFit listsSound listOf cellsIn heldOf ringsSound allRings quarantinedOf
+returns-4 c = rw (← c .before .before .before .before .before .before .place-sound .ensures, not-false (c .before .before .before .before .before .before .place-sound .result) (c .before .before .before .before .before .if1 .left), ← c .before .before .before .before .counts-fit .ensures, not-false (c .before .before .before .before .counts-fit .result) (c .before .before .before .if2 .left), ← c .before .before .lists-sound .ensures, not-false (c .before .before .lists-sound .result) (c .before .if3 .left), c .rings-sound .ensures)
 
 pub sound-spec : {M : Type 1} → statement M
 sound-spec =
@@ -39,5 +45,7 @@ sound-spec =
     returns
     counts-fit-requires
     returns-2
-    arrays-sound-requires
-    returns-3)
+    lists-sound-requires
+    returns-3
+    rings-sound-requires
+    returns-4)
