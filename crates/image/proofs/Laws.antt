@@ -1,25 +1,25 @@
 -- A record and its image.
-use Prim.Native.Nat.{ℕ, zero, suc, _+_, _%_, _≤_, _<_}
+use Prim.Native.Nat.{ℕ, zero, suc, _+_, _≤_, _<_}
 use mathlib.Core.Path.{_≡_, refl, sym, ap, subst, _∙_}
-use mathlib.Core.Bool.{Bool, true, false, cond, _&&_}
+use mathlib.Core.Bool.{Bool, true, false, cond}
 use mathlib.Core.List.{List, [], _∷_, map, flatten}
-use native.Mathlib.Nat.{zero-add, mod-eq-of-lt, mod-lt}
+use native.Mathlib.Nat.{zero-add}
 use native.Mathlib.Omega.{arith}
-use borrow.Author.Tests.{eq-eqb, eqb-true}
-use lib.Dec.{eqb}
+use borrow.Author.Tests.{eq-eqb}
 use mir.Val.{boolByte}
 use lib.ListN.{length, getD, take}
 use lib.Seq.{sets}
-use Rattle.laws.proofs.Tests.{and-left, and-right, and-true}
+use Rattle.laws.proofs.Tests.{and-true}
 use Rattle.endpoint.specs.Cells.{tabulated}
 use Rattle.endpoint.specs.Endpoint.{blank}
 use Rattle.endpoint.specs.declared.entry.Handle.{Handle}
 use Rattle.endpoint.specs.declared.entry.Handle.the-variants.{Active, Revoked}
 use Rattle.device.specs.declared.record.Device.{Device}
-use Rattle.image.specs.Image.{flag, revoked, handleWord, addressWord, ringWord, parts, encode, isSet, handleIn, byteAt, wordAt, numberAt, endpointIn, read, decode, stored, below, isImage}
+use Rattle.image.specs.Image.{flag, revoked, handleWord, addressWord, ringWord, parts, encode, isSet, handleIn, numberAt, endpointIn, read, decode, stored, below, isImage}
 use Rattle.image.specs.Fits.{Below, Fits}
-use Rattle.image.proofs.Steps.{mapped, length-mapped}
-use Rattle.image.proofs.Parts.{sum, map-size, laid-cuts, lay, length-joined, at-part, tabulated-list, tabulated-same, tabulated-map, tabulated-length, tabulated-at, cuts, cuts-joined, number-list, below-run, below-add, below-in}
+use Rattle.image.proofs.Steps.{mapped, length-mapped, image-flag, image-byte, image-word}
+use Rattle.image.proofs.Steps as steps
+use Rattle.image.proofs.Parts.{sum, map-size, laid-cuts, lay, length-joined, at-part, tabulated-list, tabulated-same, tabulated-map, tabulated-length, tabulated-at, cuts, cuts-joined, number-list, below-run, below-add}
 
 abbrev SIZES : List ℕ
 SIZES = 3 ∷ 30 ∷ 4 ∷ 30 ∷ 30 ∷ 32 ∷ 32 ∷ 256 ∷ 6 ∷ 30 ∷ 61 ∷ []
@@ -132,21 +132,18 @@ module _ (d : Device) (fits : Fits d) where
         subst (λ (m : ℕ). getD (encode d) (m + i) 0 ≡ getD p i 0) ea
         (at j i (rw ek h) ∙ ap (λ (q : List ℕ). getD q i 0) ep)
 
-    low : (bound : ℕ) → length p ≡ k → Below bound p → tabulated (λ i. getD (encode d) i 0 % bound) k a ≡ p
-    low bound el b =
-        tabulated-list (λ i. getD (encode d) i 0 % bound) p k a 0 el
-        (λ i h. ap (λ (w : ℕ). w % bound) (word i h) ∙ mod-eq-of-lt (b i (rw el h)))
+    back : length p ≡ k → tabulated (numberAt (encode d)) k a ≡ p
+    unfolding numberAt
+    back el = tabulated-list (numberAt (encode d)) p k a 0 el word
 
     run : (bound : ℕ) → length p ≡ k → Below bound p → below bound k a (encode d) ≡ true
     run bound el b = below-run bound k a (encode d) (λ i h. rw (word i h) (b i (rw el h)))
 
-  address-at : (i : ℕ) → i < 30 → byteAt (encode d) (37 + i) ≡ getD (d .eps) i blank .address
-  unfolding sum parts byteAt addressWord
+  address-at : (i : ℕ) → i < 30 → getD (encode d) (37 + i) 0 ≡ getD (d .eps) i blank .address
+  unfolding sum parts addressWord
   address-at i h =
-      let e : getD (map addressWord (d .eps)) i 0 ≡ getD (d .eps) i blank .address =
-      sym (mapped addressWord (d .eps) i blank (fits .eps .0) h) in
-      ap (λ (w : ℕ). w % 256) (word 3 30 37 (map addressWord (d .eps)) refl refl refl i h)
-      ∙ mod-eq-of-lt (fits .eps .1 i (rw (length-mapped addressWord (d .eps) (fits .eps .0)) h)) ∙ e
+      word 3 30 37 (map addressWord (d .eps)) refl refl refl i h
+      ∙ sym (mapped addressWord (d .eps) i blank (fits .eps .0) h)
 
   ring-at : (i : ℕ) → i < 30 → getD (encode d) (423 + i) 0 ≡ getD (d .eps) i blank .ring
   unfolding sum parts ringWord
@@ -169,38 +166,36 @@ module _ (d : Device) (fits : Fits d) where
       (λ i h. rw (zero-add, address-at i h, ring-at i h, handle-at i h) refl)
 
   quarantined-back : tabulated (numberAt (encode d)) 61 453 ≡ d .quarantined
-  unfolding sum parts numberAt
-  quarantined-back =
-      tabulated-list (numberAt (encode d)) (d .quarantined) 61 453 0 (fits .quarantined)
-      (λ i h. word 10 61 453 (d .quarantined) refl refl refl i h)
+  unfolding sum parts
+  quarantined-back = back 10 61 453 (d .quarantined) refl refl refl (fits .quarantined)
 
   flag-at : (i : ℕ) → i < 3 → getD (encode d) i 0 ≡ getD (flagsOf d) i 0
   unfolding sum parts
   flag-at i h = subst (λ (m : ℕ). getD (encode d) m 0 ≡ getD (flagsOf d) i 0) (zero-add i) (word 0 3 0 (flagsOf d) refl refl refl i h)
 
-  byte-at : (i : ℕ) → i < 4 → getD (bytesOf d) i 0 < 256 → byteAt (encode d) (33 + i) ≡ getD (bytesOf d) i 0
-  unfolding sum parts byteAt
-  byte-at i h b = ap (λ (w : ℕ). w % 256) (word 2 4 33 (bytesOf d) refl refl refl i h) ∙ mod-eq-of-lt b
+  byte-at : (i : ℕ) → i < 4 → getD (encode d) (33 + i) 0 ≡ getD (bytesOf d) i 0
+  unfolding sum parts
+  byte-at i h = word 2 4 33 (bytesOf d) refl refl refl i h
 
   count-at : (i : ℕ) → i < 6 → getD (encode d) (417 + i) 0 ≡ getD (countsOf d) i 0
   unfolding sum parts
   count-at i h = word 8 6 417 (countsOf d) refl refl refl i h
 
-  list-back : tabulated (wordAt (encode d)) 256 161 ≡ d .list
-  unfolding sum parts wordAt
-  list-back = low 7 256 161 (d .list) refl refl refl 4294967296 (fits .list .0) (fits .list .1)
+  list-back : tabulated (numberAt (encode d)) 256 161 ≡ d .list
+  unfolding sum parts
+  list-back = back 7 256 161 (d .list) refl refl refl (fits .list .0)
 
-  owners-back : tabulated (byteAt (encode d)) 30 67 ≡ d .«ep_interfaces»
-  unfolding sum parts byteAt
-  owners-back = low 4 30 67 (d .«ep_interfaces») refl refl refl 256 (fits .owners .0) (fits .owners .1)
+  owners-back : tabulated (numberAt (encode d)) 30 67 ≡ d .«ep_interfaces»
+  unfolding sum parts
+  owners-back = back 4 30 67 (d .«ep_interfaces») refl refl refl (fits .owners .0)
 
-  interfaces-back : tabulated (byteAt (encode d)) 32 97 ≡ d .interfaces
-  unfolding sum parts byteAt
-  interfaces-back = low 5 32 97 (d .interfaces) refl refl refl 256 (fits .interfaces .0) (fits .interfaces .1)
+  interfaces-back : tabulated (numberAt (encode d)) 32 97 ≡ d .interfaces
+  unfolding sum parts
+  interfaces-back = back 5 32 97 (d .interfaces) refl refl refl (fits .interfaces .0)
 
-  alternates-back : tabulated (byteAt (encode d)) 32 129 ≡ d .alternates
-  unfolding sum parts byteAt
-  alternates-back = low 6 32 129 (d .alternates) refl refl refl 256 (fits .alternates .0) (fits .alternates .1)
+  alternates-back : tabulated (numberAt (encode d)) 32 129 ≡ d .alternates
+  unfolding sum parts
+  alternates-back = back 6 32 129 (d .alternates) refl refl refl (fits .alternates .0)
 
   read-encode : read (encode d) ≡ d
   unfolding read
@@ -208,10 +203,10 @@ module _ (d : Device) (fits : Fits d) where
       let usable : isSet (getD (encode d) 0 0) ≡ d .usable = ap isSet (flag-at 0 (omega arith)) ∙ flag-back (d .usable) in
       let configured : isSet (getD (encode d) 1 0) ≡ d .configured = ap isSet (flag-at 1 (omega arith)) ∙ flag-back (d .configured) in
       let handle : handleIn (getD (encode d) 2 0) ≡ d .«control_handle» = ap handleIn (flag-at 2 (omega arith)) ∙ handle-back (d .«control_handle») in
-      let slot : byteAt (encode d) 33 ≡ d .slot .0 = byte-at 0 (omega arith) (fits .slot) in
-      let n : byteAt (encode d) 34 ≡ d .n = byte-at 1 (omega arith) (fits .n) in
-      let speed : byteAt (encode d) 35 ≡ d .«port_speed» = byte-at 2 (omega arith) (fits .speed) in
-      let value : byteAt (encode d) 36 ≡ d .«current_config_value» = byte-at 3 (omega arith) (fits .value) in
+      let slot : getD (encode d) 33 0 ≡ d .slot .0 = byte-at 0 (omega arith) in
+      let n : getD (encode d) 34 0 ≡ d .n = byte-at 1 (omega arith) in
+      let speed : getD (encode d) 35 0 ≡ d .«port_speed» = byte-at 2 (omega arith) in
+      let value : getD (encode d) 36 0 ≡ d .«current_config_value» = byte-at 3 (omega arith) in
       let spacing : getD (encode d) 417 0 ≡ d .spacing = count-at 0 (omega arith) in
       let words : getD (encode d) 418 0 ≡ d .«list_len» = count-at 1 (omega arith) in
       let endpoints : getD (encode d) 419 0 ≡ d .«ep_count» = count-at 2 (omega arith) in
@@ -226,11 +221,6 @@ module _ (d : Device) (fits : Fits d) where
   handles i h =
       rw (← mapped handleWord (d .eps) i blank (fits .eps .0) (rw (← length-mapped handleWord (d .eps) (fits .eps .0)) h))
       (revoked-below (getD (d .eps) i blank .handle))
-
-  -- The record is what its image says.
-  pub decode-encode : decode (encode d) ≡ d
-  unfolding decode
-  decode-encode = rw (eq-eqb (length (encode d)) 514 length-encode) read-encode
 
   -- The image of a record is one.
   pub image-encode : isImage (encode d) ≡ true
@@ -255,29 +245,18 @@ module _ (d : Device) (fits : Fits d) where
       (run 6 32 129 (d .alternates) refl refl refl 256 (fits .alternates .0) (fits .alternates .1))))))
       (run 7 256 161 (d .list) refl refl refl 4294967296 (fits .list .0) (fits .list .1))))
 
--- A list of words is an image exactly where it is what `encode` makes of the record that it says.
+  -- The record is what its image says.
+  pub decode-encode : decode (encode d) ≡ d
+  unfolding decode
+  decode-encode = rw image-encode read-encode
+
+-- The addresses and the rings of the endpoints that words say.
 module _ (l : List ℕ) where
-  bytes :
-      (k a : ℕ) → below 256 128 33 l ≡ true → 33 ≤ a → a + k ≤ 161 → tabulated (byteAt l) k a ≡ tabulated (numberAt l) k a
-  unfolding byteAt numberAt
-  bytes k a e g h =
-      tabulated-same (byteAt l) (numberAt l) k a a
-      (λ i q. mod-eq-of-lt (below-in 256 128 33 l e (a + i) (omega arith) (omega arith)))
-
-  handles-cut : below 2 33 0 l ≡ true → map handleWord (tabulated (endpointIn l) 30 0) ≡ tabulated (numberAt l) 30 3
-  unfolding handleWord endpointIn numberAt
-  handles-cut e =
-      tabulated-map handleWord (endpointIn l) 30 0
-      ∙ tabulated-same (λ i. handleWord (endpointIn l i)) (numberAt l) 30 0 3
-      (λ i q. rw zero-add (handle-word (getD l (3 + i) 0) (below-in 2 33 0 l e (3 + i) (omega arith) (omega arith))))
-
-  addresses-cut :
-      below 256 128 33 l ≡ true → map addressWord (tabulated (endpointIn l) 30 0) ≡ tabulated (numberAt l) 30 37
-  unfolding addressWord endpointIn byteAt numberAt
-  addresses-cut e =
+  addresses-cut : map addressWord (tabulated (endpointIn l) 30 0) ≡ tabulated (numberAt l) 30 37
+  unfolding addressWord endpointIn numberAt
+  addresses-cut =
       tabulated-map addressWord (endpointIn l) 30 0
-      ∙ tabulated-same (λ i. addressWord (endpointIn l i)) (numberAt l) 30 0 37
-      (λ i q. rw zero-add (mod-eq-of-lt (below-in 256 128 33 l e (37 + i) (omega arith) (omega arith))))
+      ∙ tabulated-same (λ i. addressWord (endpointIn l i)) (numberAt l) 30 0 37 (λ i q. rw zero-add refl)
 
   rings-cut : map ringWord (tabulated (endpointIn l) 30 0) ≡ tabulated (numberAt l) 30 423
   unfolding ringWord endpointIn numberAt
@@ -285,84 +264,65 @@ module _ (l : List ℕ) where
       tabulated-map ringWord (endpointIn l) 30 0
       ∙ tabulated-same (λ i. ringWord (endpointIn l i)) (numberAt l) 30 0 423 (λ i q. rw zero-add refl)
 
-  words-cut : below 4294967296 256 161 l ≡ true → tabulated (wordAt l) 256 161 ≡ tabulated (numberAt l) 256 161
-  unfolding wordAt numberAt
-  words-cut e =
-      tabulated-same (wordAt l) (numberAt l) 256 161 161
-      (λ i q. mod-eq-of-lt (below-in 4294967296 256 161 l e (161 + i) (omega arith) (omega arith)))
+-- A list of words is an image exactly where it is what `encode` makes of the record that it says.
+module _ (l : List ℕ) (image : isImage l ≡ true) where
+  handles-cut : map handleWord (tabulated (endpointIn l) 30 0) ≡ tabulated (numberAt l) 30 3
+  unfolding handleWord endpointIn numberAt
+  handles-cut =
+      tabulated-map handleWord (endpointIn l) 30 0
+      ∙ tabulated-same (λ i. handleWord (endpointIn l i)) (numberAt l) 30 0 3
+      (λ i q. rw zero-add (handle-word (getD l (3 + i) 0) (image-flag l image (3 + i) (omega arith))))
 
-  flags-cut : below 2 33 0 l ≡ true → flagsOf (read l) ≡ tabulated (numberAt l) 3 0
+  flags-cut : flagsOf (read l) ≡ tabulated (numberAt l) 3 0
   unfolding read tabulated numberAt
-  flags-cut e =
-      rw (flag-word (getD l 0 0) (below-in 2 33 0 l e 0 (omega arith) (omega arith)), flag-word (getD l 1 0) (below-in 2 33 0 l e 1 (omega arith) (omega arith)), handle-word (getD l 2 0) (below-in 2 33 0 l e 2 (omega arith) (omega arith)))
+  flags-cut =
+      rw (flag-word (getD l 0 0) (image-flag l image 0 (omega arith)), flag-word (getD l 1 0) (image-flag l image 1 (omega arith)), handle-word (getD l 2 0) (image-flag l image 2 (omega arith)))
       refl
 
-  numbers-cut : below 256 128 33 l ≡ true → bytesOf (read l) ≡ tabulated (byteAt l) 4 33
-  unfolding read tabulated
-  numbers-cut e = refl
+  parts-cut : parts (read l) ≡ cuts SIZES 0 l
+  unfolding parts read cuts tabulated numberAt
+  parts-cut = rw (flags-cut, handles-cut, addresses-cut l, rings-cut l) refl
 
-  counts-cut : countsOf (read l) ≡ tabulated (numberAt l) 6 417
-  unfolding read tabulated numberAt
-  counts-cut = refl
+  pub image-length : length l ≡ 514
+  image-length = steps.image-length l image
 
-  parts-cut :
-      below 2 33 0 l ≡ true → below 256 128 33 l ≡ true → below 4294967296 256 161 l ≡ true →
-      parts (read l) ≡ cuts SIZES 0 l
-  unfolding parts read cuts
-  parts-cut f b w =
-      rw (flags-cut f, handles-cut f, numbers-cut b, bytes 4 33 b (omega arith) (omega arith), addresses-cut b, bytes 30 67 b (omega arith) (omega arith), bytes 32 97 b (omega arith) (omega arith), bytes 32 129 b (omega arith) (omega arith), words-cut w, counts-cut, rings-cut)
-      refl
+  pub encode-decode : encode (decode l) ≡ l
+  unfolding encode decode sum
+  encode-decode = rw image (ap flatten parts-cut ∙ cuts-joined SIZES 0 l ∙ number-list l 514 image-length)
 
-  pub image-length : isImage l ≡ true → length l ≡ 514
-  unfolding isImage
-  image-length e = eqb-true (length l) 514 (and-left (eqb (length l) 514) _ e)
-
-  pub encode-decode : isImage l ≡ true → encode (decode l) ≡ l
-  unfolding isImage encode decode sum
-  encode-decode e =
-      let size : eqb (length l) 514 ≡ true = and-left (eqb (length l) 514) _ e in
-      let rest : (below 2 33 0 l && (below 256 128 33 l && below 4294967296 256 161 l)) ≡ true = and-right (eqb (length l) 514) _ e in
-      let more : (below 256 128 33 l && below 4294967296 256 161 l) ≡ true = and-right (below 2 33 0 l) _ rest in
-      rw size
-      (ap flatten (parts-cut (and-left (below 2 33 0 l) _ rest) (and-left (below 256 128 33 l) _ more) (and-right (below 256 128 33 l) _ more))
-      ∙ cuts-joined SIZES 0 l ∙ number-list l 514 (eqb-true (length l) 514 size))
-
--- What words say fits, whatever they are.
-module _ (l : List ℕ) where
+-- What words say fits, where they are of their widths.
+module _ (l : List ℕ) (byte : (i : ℕ) → 33 ≤ i → i < 161 → getD l i 0 < 256) (word : (i : ℕ) → 161 ≤ i → i < 417 → getD l i 0 < 4294967296) where
   narrow :
-      (bound k a : ℕ) (f : ℕ → ℕ) → ((i : ℕ) → f i < bound) →
-      (length (tabulated f k a) ≡ k) × Below bound (tabulated f k a)
-  narrow bound k a f h =
-      (tabulated-length f k a, λ i g. rw (tabulated-at f k a i 0 (rw (← tabulated-length f k a) g)) (h (a + i)))
+      (bound k a : ℕ) → ((i : ℕ) → i < k → getD l (a + i) 0 < bound) →
+      (length (tabulated (numberAt l) k a) ≡ k) × Below bound (tabulated (numberAt l) k a)
+  unfolding numberAt
+  narrow bound k a h =
+      let size = tabulated-length (numberAt l) k a in
+      (size, λ i g. rw (tabulated-at (numberAt l) k a i 0 (rw (← size) g)) (h i (rw (← size) g)))
 
-  byte-below : (i : ℕ) → byteAt l i < 256
-  unfolding byteAt
-  byte-below i = mod-lt (getD l i 0) (omega arith)
-
-  word-below : (i : ℕ) → wordAt l i < 4294967296
-  unfolding wordAt
-  word-below i = mod-lt (getD l i 0) (omega arith)
+  bytes : (k a : ℕ) → 33 ≤ a → a + k ≤ 161 → (length (tabulated (numberAt l) k a) ≡ k) × Below 256 (tabulated (numberAt l) k a)
+  bytes k a g h = narrow 256 k a (λ i q. byte (a + i) (omega arith) (omega arith))
 
   fits-read : Fits (read l)
-  unfolding read addressWord endpointIn
+  unfolding read
   fits-read =
       record {
-        slot = byte-below 33;
-        n = byte-below 34;
-        speed = byte-below 35;
-        value = byte-below 36;
-        list = narrow 4294967296 256 161 (wordAt l) word-below;
-        eps = (
-          tabulated-length (endpointIn l) 30 0,
-          rw (tabulated-map addressWord (endpointIn l) 30 0)
-              (narrow 256 30 0 (λ i. addressWord (endpointIn l i)) (λ i. byte-below (37 + i)) .1),
-        );
-        owners = narrow 256 30 67 (byteAt l) byte-below;
-        interfaces = narrow 256 32 97 (byteAt l) byte-below;
-        alternates = narrow 256 32 129 (byteAt l) byte-below;
+        slot = byte 33 (omega arith) (omega arith);
+        n = byte 34 (omega arith) (omega arith);
+        speed = byte 35 (omega arith) (omega arith);
+        value = byte 36 (omega arith) (omega arith);
+        list = narrow 4294967296 256 161 (λ i q. word (161 + i) (omega arith) (omega arith));
+        eps = (tabulated-length (endpointIn l) 30 0, rw (addresses-cut l) (bytes 30 37 (omega arith) (omega arith) .1));
+        owners = bytes 30 67 (omega arith) (omega arith);
+        interfaces = bytes 32 97 (omega arith) (omega arith);
+        alternates = bytes 32 129 (omega arith) (omega arith);
         quarantined = tabulated-length (numberAt l) 61 453;
       }
 
 pub fits-decode : (l : List ℕ) → Fits (decode l)
 unfolding decode
-fits-decode l = fits-read (cond (eqb (length l) 514) l [])
+fits-decode l = go (isImage l) refl
+  where
+    go : (b : Bool) → isImage l ≡ b → Fits (read (cond b l []))
+    go true e = fits-read l (image-byte l e) (image-word l e)
+    go false e = fits-read [] (λ i g h. omega arith) (λ i g h. omega arith)

@@ -1,7 +1,7 @@
 -- One turn of each loop, and what is known before and after.
-use Prim.Native.Nat.{ℕ, zero, suc, _+_, _-_, _%_, _≤_, _<_}
+use Prim.Native.Nat.{ℕ, zero, suc, _+_, _-_, _≤_, _<_}
 use mathlib.Core.Path.{_≡_, refl, sym, ap, _∙_}
-use mathlib.Core.Bool.{true, false, not}
+use mathlib.Core.Bool.{true, false, not, _&&_}
 use lib.Dec.{eqb}
 use mir.Val.{Val}
 use denote.Shadow.{shadow}
@@ -11,9 +11,10 @@ use mathlib.Core.List.{List, [], _∷_, _++_, map}
 use native.Mathlib.Numerals.{add-one}
 use native.Mathlib.Nat.{add-zero}
 use native.Mathlib.Omega.{arith}
-use borrow.Author.Tests.{lt-ltb, le-ltb}
+use borrow.Author.Tests.{lt-ltb, le-ltb, eqb-true}
 use lib.ListN.{length, getD, set, take, drop, length-set, length-drop, drop-of-length-le}
 use lib.Seq.{take-suc-set, take-all, drop-cons, set-comm, sets}
+use Rattle.laws.proofs.Tests.{and-left, and-right}
 use Rattle.endpoint.specs.Cells.{tabulated}
 use Rattle.endpoint.specs.declared.entry.Handle.{Handle}
 use Rattle.endpoint.specs.declared.entry.Endpoint.{Endpoint}
@@ -21,8 +22,9 @@ use Rattle.endpoint.specs.declared.entry.Endpoints.{Endpoints}
 use Rattle.endpoint.proofs.entry.Endpoint.{the-field}
 use Rattle.endpoint.specs.Endpoint.{blank}
 use Rattle.device.specs.declared.record.Device.{Device}
-use Rattle.image.specs.Image.{handleWord, addressWord, ringWord, isSet, handleIn, byteAt, wordAt, numberAt, endpointIn, read, below}
+use Rattle.image.specs.Image.{handleWord, addressWord, ringWord, isSet, handleIn, numberAt, endpointIn, read, below, isImage}
 use Rattle.image.specs.Fits.{Below}
+use Rattle.image.proofs.Parts.{below-in}
 
 tabulated-snoc : {A : Type 0} (f : ℕ → A) (k a : ℕ) → tabulated f (suc k) a ≡ tabulated f k a ++ (f (a + k) ∷ [])
 unfolding tabulated
@@ -207,22 +209,44 @@ pub below-none : (bound k i : ℕ) (l : List ℕ) → k ≤ i → below bound (k
 unfolding below
 below-none bound k i l h = let e : k - i ≡ 0 = omega arith in rw e
 
+-- What an image is.
+module _ (l : List ℕ) (e : isImage l ≡ true) where
+  bounds : (below 2 33 0 l && (below 256 128 33 l && below 4294967296 256 161 l)) ≡ true
+  unfolding isImage
+  bounds = and-right (eqb (length l) 514) _ e
+
+  numbers : (below 256 128 33 l && below 4294967296 256 161 l) ≡ true
+  numbers = and-right (below 2 33 0 l) _ bounds
+
+  pub image-length : length l ≡ 514
+  unfolding isImage
+  image-length = eqb-true (length l) 514 (and-left (eqb (length l) 514) _ e)
+
+  pub image-flag : (i : ℕ) → i < 33 → getD l i 0 < 2
+  image-flag i h = below-in 2 33 0 l (and-left (below 2 33 0 l) _ bounds) i (omega arith) (omega arith)
+
+  pub image-byte : (i : ℕ) → 33 ≤ i → i < 161 → getD l i 0 < 256
+  image-byte i g h = below-in 256 128 33 l (and-left (below 256 128 33 l) _ numbers) i g (omega arith)
+
+  pub image-word : (i : ℕ) → 161 ≤ i → i < 417 → getD l i 0 < 4294967296
+  image-word i g h = below-in 4294967296 256 161 l (and-right (below 256 128 33 l) _ numbers) i g (omega arith)
+
 -- A record of what was read.
 pub read-of :
     (l : List ℕ) {list interfaces alternates quarantined : List ℕ} {e : Endpoints} {handle : Handle} →
-    list ≡ tabulated (wordAt l) 256 161 →
-    (e .eps ≡ tabulated (endpointIn l) 30 0) × (e .owners ≡ tabulated (byteAt l) 30 67) × (e .count ≡ getD l 419 0) →
-    interfaces ≡ tabulated (byteAt l) 32 97 → alternates ≡ tabulated (byteAt l) 32 129 → handle ≡ handleIn (getD l 2 0) →
+    list ≡ tabulated (numberAt l) 256 161 →
+    (e .eps ≡ tabulated (endpointIn l) 30 0) × (e .owners ≡ tabulated (numberAt l) 30 67) × (e .count ≡ getD l 419 0) →
+    interfaces ≡ tabulated (numberAt l) 32 97 → alternates ≡ tabulated (numberAt l) 32 129 → handle ≡ handleIn (getD l 2 0) →
     quarantined ≡ tabulated (numberAt l) 61 453 →
     _≡_ {A = Device}
     (record {
       usable = not (eqb (getD l 0 0) 0);
-      slot = record { 0 = getD l 33 0 % 256 };
-      n = getD l 34 0 % 256;
+      slot = record { 0 = getD l 33 0 };
+      n = getD l 34 0;
       spacing = getD l 417 0;
-      «port_speed» = getD l 35 0 % 256;
+      «port_speed» = getD l 35 0;
       configured = not (eqb (getD l 1 0) 0);
-      «current_config_value» = getD l 36 0 % 256;
+      «current_config_value» = getD l 36 0;
       list = list;
       «list_len» = getD l 418 0;
       eps = e .eps;
@@ -237,6 +261,6 @@ pub read-of :
       «quarantined_count» = getD l 421 0;
     })
     (read l)
-unfolding read isSet byteAt
+unfolding read isSet
 read-of l list eps interfaces alternates handle quarantined =
     rw (list, eps .0, eps .1, eps .2, interfaces, alternates, handle, quarantined)

@@ -1,6 +1,6 @@
 -- The record as 514 words of 64 bits: a word for each number and each element of an array.
 -- They stand by width (33 flags, 128 bytes, 256 words of 32 bits, 97 of 64), so that three runs tell what is an image and what is not.
-use Prim.Native.Nat.{ℕ, zero, suc, _+_, _%_}
+use Prim.Native.Nat.{ℕ, zero, suc, _+_}
 use mathlib.Core.Bool.{Bool, true, false, not, cond, _&&_}
 use mathlib.Core.List.{List, [], _∷_, map, flatten}
 use lib.Dec.{eqb, ltb}
@@ -50,54 +50,44 @@ parts d =
 unfoldable pub encode : Device → List ℕ
 encode d = flatten (parts d)
 
--- What a word says: of a narrow number its low bits.
+-- What a word says.
 unfoldable pub isSet : ℕ → Bool
 isSet w = not (eqb w 0)
 
 unfoldable pub handleIn : ℕ → Handle
 handleIn w = cond (eqb w 0) Active Revoked
 
-unfoldable pub byteAt : List ℕ → ℕ → ℕ
-byteAt l i = getD l i 0 % 256
-
-unfoldable pub wordAt : List ℕ → ℕ → ℕ
-wordAt l i = getD l i 0 % 4294967296
-
 unfoldable pub numberAt : List ℕ → ℕ → ℕ
 numberAt l i = getD l i 0
 
 unfoldable pub endpointIn : List ℕ → ℕ → Endpoint
 endpointIn l i =
-    record { address = byteAt l (37 + i); ring = getD l (423 + i) 0; handle = handleIn (getD l (3 + i) 0) }
+    record { address = getD l (37 + i) 0; ring = getD l (423 + i) 0; handle = handleIn (getD l (3 + i) 0) }
 
 -- The record that words say, 0 past their end.
 unfoldable pub read : List ℕ → Device
 read l =
     record {
       usable = isSet (getD l 0 0);
-      slot = record { 0 = byteAt l 33 };
-      n = byteAt l 34;
+      slot = record { 0 = getD l 33 0 };
+      n = getD l 34 0;
       spacing = getD l 417 0;
-      «port_speed» = byteAt l 35;
+      «port_speed» = getD l 35 0;
       configured = isSet (getD l 1 0);
-      «current_config_value» = byteAt l 36;
-      list = tabulated (wordAt l) 256 161;
+      «current_config_value» = getD l 36 0;
+      list = tabulated (numberAt l) 256 161;
       «list_len» = getD l 418 0;
       eps = tabulated (endpointIn l) 30 0;
-      «ep_interfaces» = tabulated (byteAt l) 30 67;
+      «ep_interfaces» = tabulated (numberAt l) 30 67;
       «ep_count» = getD l 419 0;
-      interfaces = tabulated (byteAt l) 32 97;
-      alternates = tabulated (byteAt l) 32 129;
+      interfaces = tabulated (numberAt l) 32 97;
+      alternates = tabulated (numberAt l) 32 129;
       «held_count» = getD l 420 0;
       control = getD l 422 0;
       «control_handle» = handleIn (getD l 2 0);
       quarantined = tabulated (numberAt l) 61 453;
       «quarantined_count» = getD l 421 0;
     }
-
--- A buffer of another length says zeros.
-unfoldable pub decode : List ℕ → Device
-decode l = read (cond (eqb (length l) WORDS) l [])
 
 -- A record over a buffer: its words, or what was there where the length is another.
 unfoldable pub stored : Device → List ℕ → List ℕ
@@ -111,3 +101,7 @@ below bound (suc k) i l = ltb (getD l i 0) bound && below bound k (i + 1) l
 -- Whether a buffer holds an image: what `encode` makes of the record that `decode` reads.
 unfoldable pub isImage : List ℕ → Bool
 isImage l = eqb (length l) WORDS && (below 2 33 0 l && (below 256 128 33 l && below 4294967296 256 161 l))
+
+-- Words that are no image say zeros.
+unfoldable pub decode : List ℕ → Device
+decode l = read (cond (isImage l) l [])

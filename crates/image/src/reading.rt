@@ -1,14 +1,16 @@
 // The record that an image says.
+use super::test;
 use def::SlotId;
 use device::Device;
 use endpoint::Endpoint;
 use endpoint::Endpoints;
 use endpoint::Handle;
 ghost use mathlib.Core.Path.{_≡_};
+ghost use mathlib.Core.Bool.{true};
 ghost use Prim.Native.Nat.{_+_, _≤_};
 ghost use lib.ListN.{length, getD};
 ghost use Rattle.endpoint.specs.Cells.{tabulated};
-ghost use Rattle.image.specs.Image.{handleIn, byteAt, wordAt, numberAt, endpointIn, read, decode};
+ghost use Rattle.image.specs.Image.{handleIn, numberAt, endpointIn, read, isImage, decode};
 
 fn handle_in(w: u64) -> Handle
     ensures { λ r. ⌜ r ≡ handleIn w ⌝ }
@@ -20,13 +22,13 @@ fn handle_in(w: u64) -> Handle
 }
 
 fn list_in(image: &[u64]) -> [u32; 256]
-    requires { ⌜ length (now image) ≡ 514 ⌝ }
-    ensures { λ r. ⌜ r ≡ tabulated (wordAt (now (image .entry))) 256 161 ⌝ }
+    requires { ⌜ isImage (now image) ≡ true ⌝ }
+    ensures { λ r. ⌜ r ≡ tabulated (numberAt (now (image .entry))) 256 161 ⌝ }
 {
     let mut list = [0u32; 256];
     let mut i = 0;
     while i < 256 {
-        list[i] = (image[161 + i] % 4294967296) as u32;
+        list[i] = image[161 + i] as u32;
         i += 1;
     }
     list
@@ -34,8 +36,8 @@ fn list_in(image: &[u64]) -> [u32; 256]
 
 // The endpoints, their owners and how many there are.
 fn endpoints_in(image: &[u64]) -> Endpoints
-    requires { ⌜ length (now image) ≡ 514 ⌝ }
-    ensures { λ r. ⌜ (r .eps ≡ tabulated (endpointIn (now (image .entry))) 30 0) × (r .owners ≡ tabulated (byteAt (now (image .entry))) 30 67) × (r .count ≡ getD (now (image .entry)) 419 0) ⌝ }
+    requires { ⌜ isImage (now image) ≡ true ⌝ }
+    ensures { λ r. ⌜ (r .eps ≡ tabulated (endpointIn (now (image .entry))) 30 0) × (r .owners ≡ tabulated (numberAt (now (image .entry))) 30 67) × (r .count ≡ getD (now (image .entry)) 419 0) ⌝ }
 {
     let mut eps = [Endpoint {
         address: 0,
@@ -47,11 +49,11 @@ fn endpoints_in(image: &[u64]) -> Endpoints
     while i < 30 {
         let handle = handle_in(image[3 + i]);
         eps[i] = Endpoint {
-            address: (image[37 + i] % 256) as u8,
+            address: image[37 + i] as u8,
             ring: image[423 + i],
             handle: handle,
         };
-        owners[i] = (image[67 + i] % 256) as u8;
+        owners[i] = image[67 + i] as u8;
         i += 1;
     }
     Endpoints {
@@ -63,20 +65,20 @@ fn endpoints_in(image: &[u64]) -> Endpoints
 
 // The interfaces and the alternates of held settings.
 fn settings_in(image: &[u64], from: usize) -> [u8; 32]
-    requires { ⌜ from + 32 ≤ length (now image) ⌝ }
-    ensures { λ r. ⌜ r ≡ tabulated (byteAt (now (image .entry))) 32 from ⌝ }
+    requires { ⌜ (isImage (now image) ≡ true) × (33 ≤ from) × (from + 32 ≤ 161) ⌝ }
+    ensures { λ r. ⌜ r ≡ tabulated (numberAt (now (image .entry))) 32 from ⌝ }
 {
     let mut numbers = [0u8; 32];
     let mut i = 0;
     while i < 32 {
-        numbers[i] = (image[from + i] % 256) as u8;
+        numbers[i] = image[from + i] as u8;
         i += 1;
     }
     numbers
 }
 
 fn quarantined_in(image: &[u64]) -> [u64; 61]
-    requires { ⌜ length (now image) ≡ 514 ⌝ }
+    requires { ⌜ isImage (now image) ≡ true ⌝ }
     ensures { λ r. ⌜ r ≡ tabulated (numberAt (now (image .entry))) 61 453 ⌝ }
 {
     let mut rings = [0u64; 61];
@@ -89,7 +91,7 @@ fn quarantined_in(image: &[u64]) -> [u64; 61]
 }
 
 fn read(image: &[u64]) -> Device
-    requires { ⌜ length (now image) ≡ 514 ⌝ }
+    requires { ⌜ (length (now image) ≡ 514) × (isImage (now image) ≡ true) ⌝ }
     ensures { λ r. ⌜ r ≡ read (now (image .entry)) ⌝ }
 {
     let list = list_in(image);
@@ -102,12 +104,12 @@ fn read(image: &[u64]) -> Device
     let quarantined = quarantined_in(image);
     Device {
         usable: image[0] != 0,
-        slot: SlotId((image[33] % 256) as u8),
-        n: (image[34] % 256) as u8,
+        slot: SlotId(image[33] as u8),
+        n: image[34] as u8,
         spacing: image[417] as usize,
-        port_speed: (image[35] % 256) as u8,
+        port_speed: image[35] as u8,
         configured: image[1] != 0,
-        current_config_value: (image[36] % 256) as u8,
+        current_config_value: image[36] as u8,
         list: list,
         list_len: image[418] as usize,
         eps: eps,
@@ -123,11 +125,11 @@ fn read(image: &[u64]) -> Device
     }
 }
 
-// A buffer of another length says zeros.
+// Words that are no image say zeros.
 pub fn decode(image: &[u64]) -> Device
     ensures { λ r. ⌜ r ≡ decode (now (image .entry)) ⌝ }
 {
-    if image.len() != 514 {
+    if !test::is_image(image) {
         let zeros = [0u64; 514];
         return read(&zeros);
     }

@@ -1,22 +1,20 @@
 // Whether words are an image.
 ghost use mathlib.Core.Path.{_≡_};
-ghost use Prim.Native.Nat.{_+_, _≤_};
+ghost use Prim.Native.Nat.{_-_, _≤_};
 ghost use lib.ListN.{length};
 ghost use Rattle.image.specs.Image.{below, isImage};
 
-// Whether `count` words from `from` on are below a bound.
-fn all_below(image: &[u64], bound: u64, count: usize, from: usize) -> bool
-    requires { ⌜ from + count ≤ length (now image) ⌝ }
-    ensures { λ r. ⌜ r ≡ below bound count from (now (image .entry)) ⌝ }
+// Whether the words from `from` up to `to` are below a bound.
+fn all_below(image: &[u64], bound: u64, from: usize, to: usize) -> bool
+    requires { ⌜ to ≤ length (now image) ⌝ }
+    ensures { λ r. ⌜ r ≡ below bound (to - from) from (now (image .entry)) ⌝ }
 {
-    let end = from + count;
     let mut i = from;
-    while i < end {
-        let w = image[i];
-        i += 1;
-        if bound <= w {
+    while i < to {
+        if bound <= image[i] {
             return false;
         }
+        i += 1;
     }
     true
 }
@@ -27,11 +25,11 @@ pub fn is_image(image: &[u64]) -> bool
     if image.len() != 514 {
         return false;
     }
-    if !all_below(image, 2, 33, 0) {
+    if !all_below(image, 2, 0, 33) {
         return false;
     }
-    if !all_below(image, 256, 128, 33) {
+    if !all_below(image, 256, 33, 161) {
         return false;
     }
-    all_below(image, 4294967296, 256, 161)
+    all_below(image, 4294967296, 161, 417)
 }

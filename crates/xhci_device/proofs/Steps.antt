@@ -1,29 +1,191 @@
--- The two ends of a call across the boundary.
+-- The ends of a call across the boundary.
 use Prim.Native.Nat.{ℕ}
-use mathlib.Core.Path.{_≡_, refl, subst}
-use mathlib.Core.Bool.{Bool, true, false}
-use mathlib.Core.List.{List}
+use mathlib.Core.Path.{_≡_, refl, sym, ap, subst, _∙_}
+use mathlib.Core.Bool.{Bool, true, false, cond, _&&_}
+use mathlib.Core.List.{List, []}
+use lib.Dec.{eqb}
+use lib.ListN.{length}
+use borrow.Author.Tests.{eq-eqb, ne-eqb, eqb-true}
 use Rattle.laws.proofs.Tests.{not-both}
+use Rattle.answer.specs.declared.Answer.{Answer}
 use Rattle.answer.specs.declared.Answer.the-variants.{Unusable}
+use Rattle.answer.specs.declared.Check.{Check}
+use Rattle.answer.specs.declared.Check.the-variants.{Pass, Refuse}
+use Rattle.answer.specs.Answer.{isAccepted, isBroken, isLost}
+use Rattle.phase.specs.End.{End}
+use Rattle.device.specs.declared.record.Device.{Device}
 use Rattle.device.specs.declared.record.Called.{Called}
-use Rattle.device.specs.Left.{Left, leaves}
-use Rattle.image.specs.Image.{encode}
+use Rattle.device.specs.Device.{withCells, withHeld, withConfiguration, withQuarantined, unusable}
+use Rattle.device.specs.Sound.{placeSound, sound}
+use Rattle.device.specs.Check.{recordCheck}
+use Rattle.device.specs.Left.{Left, leaves, refused, marked, ended}
+use Rattle.device.specs.Calls.{onCheck, hubLeft, hubUpdate}
+use Rattle.device.specs.Claim.{quarantines, claimRecord, claim}
+use Rattle.device.specs.Release.{releaseRecord, release}
+use Rattle.device.specs.SetConfiguration.{bare, setRecord, setConfiguration}
+use Rattle.image.specs.Image.{encode, stored, isSet, read, isImage, decode}
 use Rattle.image.specs.Fits.{Fits}
+use Rattle.image.proofs.Laws.{image-length, encode-decode, fits-decode}
 use Rattle.xhci_device.specs.declared.returned.Answered.{Answered}
-use Rattle.xhci_device.specs.Crossed.{crosses, answeredOf, crossed, CrossedAs}
+use Rattle.xhci_device.specs.Crossed.{Crossed, crosses, answeredOf, crossed, CrossedAs}
 
-module _ (ok : Bool) (left : Left) (image ctx routes log : List ℕ) where
-  pub cross-none :
-      (r : Answered) → ok ≡ false → r ≡ answeredOf Unusable 0 →
-      CrossedAs (crosses r image ctx routes log) ok left image ctx routes log
+-- A test that fails on a record of zeros holds of images only.
+pub only-image : (f : Device → Bool) → f (read []) ≡ false → (l : List ℕ) → f (decode l) ≡ (isImage l && f (decode l))
+unfolding decode
+only-image f e l = go (isImage l)
+  where
+    go : (b : Bool) → f (read (cond b l [])) ≡ (b && f (read (cond b l [])))
+    go true = refl
+    go false = e
+
+pub zeros-unusable : read [] .usable ≡ false
+unfolding read isSet
+zeros-unusable = refl
+
+pub zeros-unsound : sound (read []) ≡ false
+unfolding read sound placeSound
+zeros-unsound = refl
+
+zeros-slot : (l : List ℕ) → isImage l ≡ false → decode l .slot .0 ≡ 0
+unfolding decode read
+zeros-slot l e = rw e
+
+-- A call keeps the slot of a record, and refuses a record of slot 0.
+pub record Keeps (d : Device) (ctx routes log : List ℕ) (left : Left) : Type 0 where
+  pub slot : left .device .slot ≡ d .slot
+  pub none : d .slot .0 ≡ 0 → left ≡ refused d Unusable ctx routes log
+
+none-sound : (d : Device) → d .slot .0 ≡ 0 → (d .usable && sound d) ≡ false
+unfolding sound placeSound
+none-sound d e = rw e (go (d .usable))
+  where
+    go : (b : Bool) → (b && false) ≡ false
+    go true = refl
+    go false = refl
+
+checked :
+    (d : Device) (ctx routes log : List ℕ) (m n k : ℕ) (next : Check) (left : Left) → left .device .slot ≡ d .slot →
+    Keeps d ctx routes log (onCheck (recordCheck d m n k next) left (λ a. refused d a ctx routes log))
+unfolding recordCheck onCheck refused
+checked d ctx routes log m n k next left e =
+    record { slot = go (recordCheck d m n k next); none = λ z. rw (none-sound d z) refl }
+  where
+    go : (c : Check) → (onCheck c left (λ a. refused d a ctx routes log)) .device .slot ≡ d .slot
+    go Pass = e
+    go (Refuse a) = refl
+
+marked-slot : (a : Answer) (d : Device) → (marked a d) .slot ≡ d .slot
+unfolding marked unusable
+marked-slot a d = go (isLost a)
+  where
+    go : (b : Bool) → (cond b (unusable d) d) .slot ≡ d .slot
+    go true = refl
+    go false = refl
+
+cond-slot :
+    (b : Bool) (x y d : Device) → x .slot ≡ d .slot → y .slot ≡ d .slot → (cond b x y) .slot ≡ d .slot
+cond-slot true x y d e f = e
+cond-slot false x y d e f = f
+
+claim-slot : (d : Device) (i a : ℕ) (rings : List ℕ) (e : End) → (claimRecord d i a rings e) .slot ≡ d .slot
+unfolding claimRecord quarantines withHeld withCells withQuarantined
+claim-slot d i a rings e =
+    marked-slot (e .answer) _ ∙ cond-slot (e .moved) _ _ d refl (cond-slot (isBroken (e .answer)) _ _ d refl refl)
+
+release-slot : (d : Device) (i : ℕ) (e : End) → (releaseRecord d i e) .slot ≡ d .slot
+unfolding releaseRecord withHeld withCells
+release-slot d i e = marked-slot (e .answer) _ ∙ cond-slot (e .moved) _ _ d refl refl
+
+set-slot : (d : Device) (value : ℕ) (e : End) → (setRecord d value e) .slot ≡ d .slot
+unfolding setRecord bare withConfiguration withHeld withCells
+set-slot d value e =
+    marked-slot (e .answer) _ ∙ cond-slot (e .moved) _ _ d (cond-slot (isAccepted (e .answer)) _ _ d refl refl) refl
+
+module _ (d : Device) (ctx routes log outcomes : List ℕ) where
+  pub claim-keeps : (i a : ℕ) (rings : List ℕ) → Keeps d ctx routes log (claim d ctx routes log outcomes i a rings)
+  unfolding claim ended
+  claim-keeps i a rings = checked d ctx routes log _ _ _ _ _ (claim-slot d i a rings _)
+
+  pub release-keeps : (i : ℕ) → Keeps d ctx routes log (release d ctx routes log outcomes i)
+  unfolding release ended
+  release-keeps i = checked d ctx routes log _ _ _ _ _ (release-slot d i _)
+
+  pub set-keeps : (value : ℕ) → Keeps d ctx routes log (setConfiguration d ctx routes log outcomes value)
+  unfolding setConfiguration ended
+  set-keeps value = checked d ctx routes log _ _ _ _ _ (set-slot d value _)
+
+  pub hub-keeps : (ports : ℕ) (multi : Bool) (ns : ℕ) → Keeps d ctx routes log (hubUpdate d ctx routes log outcomes ports multi ns)
+  unfolding hubUpdate hubLeft
+  hub-keeps ports multi ns = checked d ctx routes log _ _ _ _ _ (marked-slot _ d)
+
+-- What a call leaves, beside an image.
+abbrev beside : Left → List ℕ → Crossed
+beside l image =
+    record { answered = answeredOf (l .answer) (l .count); image = image; ctx = l .ctx; routes = l .routes; log = l .log }
+
+-- A call on a record.
+module _ (d : Device) (image ctx routes log : List ℕ) (left : Left) (e : d ≡ decode image) (k : Keeps d ctx routes log left) where
+  refusal : d .slot .0 ≡ 0 → (b : Bool) → isImage image ≡ b → CrossedAs (beside left image) b left image ctx routes log
+  unfolding crossed refused
+  refusal z true i =
+      let same : left .device ≡ decode image = ap (λ (l : Left). l .device) (k .none z) ∙ e in
+      record {
+        equal = ap (beside left) (sym (ap encode same ∙ encode-decode image i));
+        fits = λ t. rw same (fits-decode image);
+      }
+  refusal z false i = record { equal = rw (k .none z) refl; fits = λ t. not-both true refl (sym t) }
+
+  write :
+      (eqb (d .slot .0) 0 ≡ false) → (b : Bool) → isImage image ≡ b →
+      (length image ≡ 514 → Fits (left .device)) → CrossedAs (beside left (stored (left .device) image)) b left image ctx routes log
+  unfolding crossed stored
+  write z true i f =
+      let size = image-length image i in
+      record { equal = rw (eq-eqb (length image) 514 size) refl; fits = λ t. f size }
+  write z false i f = not-both (eqb (d .slot .0) 0) (eq-eqb (d .slot .0) 0 (ap (λ (c : Device). c .slot .0) e ∙ zeros-slot image i)) z
+
+  after :
+      (b : Bool) → eqb (d .slot .0) 0 ≡ b → (b ≡ false → length image ≡ 514 → Fits (left .device)) →
+      CrossedAs (beside left (cond b image (stored (left .device) image))) (isImage image) left image ctx routes log
+  after true z f = refusal (eqb-true (d .slot .0) 0 z) (isImage image) refl
+  after false z f = write z (isImage image) refl (f refl)
+
+  pub cross :
+      (called : Called) (r : Answered) (image′ ctx′ routes′ log′ : List ℕ) → leaves called ctx′ routes′ log′ ≡ left →
+      r ≡ answeredOf (called .answer) (called .count) →
+      image′ ≡ cond (eqb (called .device .slot .0) 0) image (stored (called .device) image) →
+      (eqb (called .device .slot .0) 0 ≡ false → length image ≡ 514 → Fits (called .device)) →
+      CrossedAs (crosses r image′ ctx′ routes′ log′) (isImage image) left image ctx routes log
+  cross called r image′ ctx′ routes′ log′ q a i f =
+      let same : called .device ≡ left .device = ap (λ (l : Left). l .device) q in
+      let slot : called .device .slot .0 ≡ d .slot .0 = ap (λ (c : Device). c .slot .0) same ∙ ap (λ s. s .0) (k .slot) in
+      let g : eqb (d .slot .0) 0 ≡ false → length image ≡ 514 → Fits (left .device) =
+      λ z h. subst Fits same (f (ap (λ (s : ℕ). eqb s 0) slot ∙ z) h) in
+      let new : image′ ≡ cond (eqb (d .slot .0) 0) image (stored (left .device) image) =
+      i ∙ ap (λ (c : Device). cond (eqb (called .device .slot .0) 0) image (stored c image)) same
+      ∙ ap (λ (s : ℕ). cond (eqb s 0) image (stored (left .device) image)) slot in
+      let whole : crosses r image′ ctx′ routes′ log′ ≡ beside left (cond (eqb (d .slot .0) 0) image (stored (left .device) image)) =
+      rw (a, new) (ap (λ (l : Left). beside l (cond (eqb (d .slot .0) 0) image (stored (left .device) image))) q) in
+      subst (λ (x : Crossed). CrossedAs x (isImage image) left image ctx routes log) (sym whole)
+      (after (eqb (d .slot .0) 0) refl g)
+
+-- A bring-up, which asks for the words of an image only.
+module _ (left : Left) (image ctx routes log : List ℕ) where
+  pub made-none :
+      (r : Answered) → (length image ≡ 514 → ⊥) → r ≡ answeredOf Unusable 0 →
+      CrossedAs (crosses r image ctx routes log) (eqb (length image) 514) left image ctx routes log
   unfolding crossed
-  cross-none r e q = record { equal = rw (e, q) refl; fits = λ t. not-both ok t e }
+  made-none r e q =
+      let none : eqb (length image) 514 ≡ false = ne-eqb (length image) 514 e in
+      record { equal = rw (none, q) refl; fits = λ t. not-both (eqb (length image) 514) t none }
 
-  pub cross-done :
-      (called : Called) (r : Answered) (image′ ctx′ routes′ log′ : List ℕ) → ok ≡ true →
+  pub made :
+      (called : Called) (r : Answered) (image′ ctx′ routes′ log′ : List ℕ) → length image ≡ 514 →
       leaves called ctx′ routes′ log′ ≡ left → r ≡ answeredOf (called .answer) (called .count) →
-      image′ ≡ encode (called .device) → Fits (called .device) →
-      CrossedAs (crosses r image′ ctx′ routes′ log′) ok left image ctx routes log
-  unfolding crossed
-  cross-done called r image′ ctx′ routes′ log′ e q a i f =
-      record { equal = rw (e, ← q, a, i) refl; fits = λ t. subst (λ (l : Left). Fits (l .device)) q f }
+      (image′ ≡ stored (called .device) image) × (length image ≡ 514 → Fits (called .device)) →
+      CrossedAs (crosses r image′ ctx′ routes′ log′) (eqb (length image) 514) left image ctx routes log
+  unfolding crossed stored
+  made called r image′ ctx′ routes′ log′ e q a i =
+      let ok : eqb (length image) 514 ≡ true = eq-eqb (length image) 514 e in
+      let new : image′ ≡ encode (called .device) = i .0 ∙ ap (λ (b : Bool). cond b (encode (called .device)) image) ok in
+      record { equal = rw (ok, ← q, a, new) refl; fits = λ t. subst (λ (l : Left). Fits (l .device)) q (i .1 e) }

@@ -18,9 +18,6 @@ pub extern "C" fn xhci_device_claim(
 ) -> Answered
     ensures { λ r. ⌜ CrossedAs (crosses r (now (image .exit)) (now (ctx .exit)) (now (routes .exit)) (now (log .exit))) (isImage (now (image .entry))) (claim (decode (now (image .entry))) (now (ctx .entry)) (now (routes .entry)) (now (log .entry)) (now (outcomes .entry)) interface alternate (now (rings .entry))) (now (image .entry)) (now (ctx .entry)) (now (routes .entry)) (now (log .entry)) ⌝ }
 {
-    if !image::is_image(image) {
-        return returned::no_record();
-    }
     let d = image::decode(image);
     let called = d.claim(ctx, routes, log, outcomes, interface, alternate, rings);
     returned::finish(called, image)

@@ -18,9 +18,6 @@ pub extern "C" fn xhci_device_hub_update(
 ) -> Answered
     ensures { λ r. ⌜ CrossedAs (crosses r (now (image .exit)) (now (ctx .exit)) (now (routes .exit)) (now (log .exit))) (isImage (now (image .entry))) (hubUpdate (decode (now (image .entry))) (now (ctx .entry)) (now (routes .entry)) (now (log .entry)) (now (outcomes .entry)) ports (isSet multi) ns) (now (image .entry)) (now (ctx .entry)) (now (routes .entry)) (now (log .entry)) ⌝ }
 {
-    if !image::is_image(image) {
-        return returned::no_record();
-    }
     let d = image::decode(image);
     let called = d.hub_update(ctx, routes, log, outcomes, ports, multi != 0, ns);
     returned::finish(called, image)

@@ -15,9 +15,6 @@ pub extern "C" fn xhci_device_record_words() -> usize
 pub extern "C" fn xhci_device_is_usable(image: &[u64]) -> bool
     ensures { λ r. ⌜ r ≡ isImage (now (image .entry)) && decode (now (image .entry)) .usable ⌝ }
 {
-    if !image::is_image(image) {
-        return false;
-    }
     let d = image::decode(image);
     d.usable
 }

@@ -2,9 +2,10 @@
 use answer::Answer;
 use device::Called;
 ghost use mathlib.Core.Path.{_≡_};
+ghost use mathlib.Core.Bool.{false, cond};
+ghost use lib.Dec.{eqb};
 ghost use lib.ListN.{length};
-ghost use Rattle.answer.specs.declared.Answer.the-variants.{Unusable};
-ghost use Rattle.image.specs.Image.{encode};
+ghost use Rattle.image.specs.Image.{WORDS, stored};
 ghost use Rattle.image.specs.Fits.{Fits};
 ghost use Rattle.xhci_device.specs.Crossed.{answeredOf};
 
@@ -28,21 +29,16 @@ pub fn answer_of(a: Answer, count: usize) -> Answered
     }
 }
 
-// A buffer that holds no record.
-pub fn no_record() -> Answered
-    ensures { λ r. ⌜ r ≡ answeredOf Unusable 0 ⌝ }
-{
-    answer_of(Answer::Unusable, 0)
-}
-
-// The end of a call: its record goes back.
+// The end of a call on a record, which goes back. A buffer that holds none was read as a record of slot 0, and stays as it is.
 pub fn finish(called: Called, image: &mut [u64]) -> Answered
-    requires { ⌜ length (now image) ≡ 514 ⌝ }
-    ensures { λ r. ⌜ (r ≡ answeredOf (called .answer) (called .count)) × (now (image .exit) ≡ encode (called .device)) × Fits (called .device) ⌝ }
+    ensures { λ r. ⌜ (r ≡ answeredOf (called .answer) (called .count)) × (now (image .exit) ≡ cond (eqb (called .device .slot .0) 0) (now (image .entry)) (stored (called .device) (now (image .entry)))) × (eqb (called .device .slot .0) 0 ≡ false → length (now (image .entry)) ≡ WORDS → Fits (called .device)) ⌝ }
 {
     let d = called.device;
     let a = called.answer;
     let r = answer_of(a, called.count);
+    if d.slot.0 == 0 {
+        return r;
+    }
     image::encode(d, image);
     r
 }

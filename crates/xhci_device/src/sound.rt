@@ -9,9 +9,6 @@ ghost use Rattle.image.specs.Image.{decode, isImage};
 pub extern "C" fn xhci_device_is_sound(image: &[u64]) -> bool
     ensures { λ r. ⌜ r ≡ isImage (now (image .entry)) && sound (decode (now (image .entry))) ⌝ }
 {
-    if !image::is_image(image) {
-        return false;
-    }
     let d = image::decode(image);
     d.sound()
 }

@@ -1,22 +1,24 @@
 use borrow.Author.Needs.{needs}
-use Prim.Native.Nat.{_≤_, _-_}
+use Prim.Native.Nat.{_≤_, _-_, _+_}
 use mathlib.Core.Path.{_≡_, refl}
+use mathlib.Core.Bool.{true}
+use native.Mathlib.Omega.{arith}
 use lib.ListN.{length}
 use native.Mathlib.Nat.{zero-add}
-use Rattle.image.specs.Image.{byteAt, endpointIn}
-use Rattle.image.proofs.Steps.{Read, read-none, read-next, read-done}
+use Rattle.image.specs.Image.{numberAt, endpointIn, isImage}
+use Rattle.image.proofs.Steps.{image-length, image-byte, Read, read-none, read-next, read-done}
 use Rattle.image.proofs.reading.endpoints_in.Statement.{statement}
 use Rattle.image.proofs.reading.endpoints_in.Tie as tie
 
 abbrev Inv-loop : tie.InvT-loop
 Inv-loop image eps₀ owners₀ i₀ eps owners i =
-    (length image ≡ 514) × (i ≤ 30) × Read 30 (endpointIn image) 0 i eps × Read 30 (byteAt image) 67 i owners
+    (isImage image ≡ true) × (length image ≡ 514) × (i ≤ 30) × Read 30 (endpointIn image) 0 i eps × Read 30 (numberAt image) 67 i owners
 
 abbrev μ-loop : tie.MeasureT-loop
 μ-loop image eps₀ owners₀ i₀ eps owners i = 30 - i
 
 loop-holds : tie.Need-loop-holds Inv-loop μ-loop
-loop-holds c = (search needs, search needs, read-none _ _ _ _ refl, read-none _ _ _ _ refl)
+loop-holds c = (search needs, image-length _ (c .before .pre), search needs, read-none _ _ _ _ refl, read-none _ _ _ _ refl)
 
 add-handle-in : tie.Need-add-handle-in Inv-loop μ-loop
 add-handle-in c = search needs
@@ -40,7 +42,24 @@ shared-slice-read-owners : tie.Need-shared-slice-read-owners Inv-loop μ-loop
 shared-slice-read-owners c = search needs
 
 cast-owners : tie.Need-cast-owners Inv-loop μ-loop
-cast-owners c = search needs
+cast-owners c =
+    let turn = c .before .before .before .before .loop in
+    omega (arith, image-byte _ (turn .inv .0) (37 + turn .i) (omega arith) (omega (arith, c .before .before .before .loop-test .taken)))
+
+add-t15 : tie.Need-add-t15 Inv-loop μ-loop
+add-t15 c = search needs
+
+mul-t16 : tie.Need-mul-t16 Inv-loop μ-loop
+mul-t16 c = search needs
+
+shared-slice-read-t18 : tie.Need-shared-slice-read-t18 Inv-loop μ-loop
+shared-slice-read-t18 c = search needs
+
+mul-eps : tie.Need-mul-eps Inv-loop μ-loop
+mul-eps c = search needs
+
+array-set-from-eps : tie.Need-array-set-from-eps Inv-loop μ-loop
+array-set-from-eps c = search needs
 
 add-owners-2 : tie.Need-add-owners-2 Inv-loop μ-loop
 add-owners-2 c = search needs
@@ -51,23 +70,10 @@ mul-owners-2 c = search needs
 shared-slice-read-owners-2 : tie.Need-shared-slice-read-owners-2 Inv-loop μ-loop
 shared-slice-read-owners-2 c = search needs
 
-mul-eps : tie.Need-mul-eps Inv-loop μ-loop
-mul-eps c = search needs
-
-array-set-from-eps : tie.Need-array-set-from-eps Inv-loop μ-loop
-array-set-from-eps c = search needs
-
-add-owners-3 : tie.Need-add-owners-3 Inv-loop μ-loop
-add-owners-3 c = search needs
-
-mul-owners-3 : tie.Need-mul-owners-3 Inv-loop μ-loop
-mul-owners-3 c = search needs
-
-shared-slice-read-owners-3 : tie.Need-shared-slice-read-owners-3 Inv-loop μ-loop
-shared-slice-read-owners-3 c = search needs
-
 cast-owners-2 : tie.Need-cast-owners-2 Inv-loop μ-loop
-cast-owners-2 c = search needs
+cast-owners-2 c =
+    let turn = c .before .before .before .before .before .before .loop in
+    omega (arith, image-byte _ (turn .inv .0) (67 + turn .i) (omega arith) (omega (arith, c .before .before .before .before .before .loop-test .taken)))
 
 array-write-owners : tie.Need-array-write-owners Inv-loop μ-loop
 array-write-owners c = search needs
@@ -79,24 +85,25 @@ loop-less : tie.Need-loop-less Inv-loop μ-loop
 loop-less c = search needs
 
 loop-again : tie.Need-loop-again Inv-loop μ-loop
-unfolding endpointIn byteAt
+unfolding endpointIn numberAt
 loop-again c =
     let turn = c .before .before .before .before .before .before .loop .inv in
     let test = c .before .before .before .before .before .loop-test .taken in (
       search needs,
       search needs,
-      read-next _ (turn .2) test (rw (zero-add, c .before .before .before .handle-in .ensures) refl),
-      read-next _ (turn .3) test refl,
+      search needs,
+      read-next _ (turn .3) test (rw (zero-add, c .before .before .before .handle-in .ensures) refl),
+      read-next _ (turn .4) test refl,
     )
 
-shared-slice-read-t30 : tie.Need-shared-slice-read-t30 Inv-loop μ-loop
-shared-slice-read-t30 c = search needs
+shared-slice-read-t29 : tie.Need-shared-slice-read-t29 Inv-loop μ-loop
+shared-slice-read-t29 c = search needs
 
 returns : tie.Need-returns Inv-loop μ-loop
 returns c =
     let turn = c .before .before .loop .inv in
     let test = c .before .loop-test .left in
-    (read-done (turn .2) test (turn .1), read-done (turn .3) test (turn .1), refl)
+    (read-done (turn .3) test (turn .2), read-done (turn .4) test (turn .2), refl)
 
 pub endpoints-in-spec : {M : Type 1} → statement M
 endpoints-in-spec =
@@ -113,18 +120,18 @@ endpoints-in-spec =
     mul-owners
     shared-slice-read-owners
     cast-owners
+    add-t15
+    mul-t16
+    shared-slice-read-t18
+    mul-eps
+    array-set-from-eps
     add-owners-2
     mul-owners-2
     shared-slice-read-owners-2
-    mul-eps
-    array-set-from-eps
-    add-owners-3
-    mul-owners-3
-    shared-slice-read-owners-3
     cast-owners-2
     array-write-owners
     add-i
     loop-less
     loop-again
-    shared-slice-read-t30
+    shared-slice-read-t29
     returns)

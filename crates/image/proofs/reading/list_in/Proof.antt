@@ -1,21 +1,23 @@
 use borrow.Author.Needs.{needs}
-use Prim.Native.Nat.{_≤_, _-_}
+use Prim.Native.Nat.{_≤_, _-_, _+_}
 use mathlib.Core.Path.{_≡_, refl}
+use mathlib.Core.Bool.{true}
+use native.Mathlib.Omega.{arith}
 use lib.ListN.{length}
-use Rattle.image.specs.Image.{wordAt}
-use Rattle.image.proofs.Steps.{Read, read-none, read-next, read-done}
+use Rattle.image.specs.Image.{numberAt, isImage}
+use Rattle.image.proofs.Steps.{image-length, image-word, Read, read-none, read-next, read-done}
 use Rattle.image.proofs.reading.list_in.Statement.{statement}
 use Rattle.image.proofs.reading.list_in.Tie as tie
 
 abbrev Inv-loop : tie.InvT-loop
 Inv-loop image list₀ i₀ list i =
-    (length image ≡ 514) × (i ≤ 256) × Read 256 (wordAt image) 161 i list
+    (isImage image ≡ true) × (length image ≡ 514) × (i ≤ 256) × Read 256 (numberAt image) 161 i list
 
 abbrev μ-loop : tie.MeasureT-loop
 μ-loop image list₀ i₀ list i = 256 - i
 
 loop-holds : tie.Need-loop-holds Inv-loop μ-loop
-loop-holds c = (search needs, search needs, read-none _ _ _ _ refl)
+loop-holds c = (search needs, image-length _ (c .pre), search needs, read-none _ _ _ _ refl)
 
 add-list : tie.Need-add-list Inv-loop μ-loop
 add-list c = search needs
@@ -27,7 +29,9 @@ shared-slice-read-list : tie.Need-shared-slice-read-list Inv-loop μ-loop
 shared-slice-read-list c = search needs
 
 cast-list : tie.Need-cast-list Inv-loop μ-loop
-cast-list c = search needs
+cast-list c =
+    let turn = c .before .before .loop in
+    omega (arith, image-word _ (turn .inv .0) (161 + turn .i) (omega arith) (omega (arith, c .before .loop-test .taken)))
 
 mul-list-2 : tie.Need-mul-list-2 Inv-loop μ-loop
 mul-list-2 c = search needs
@@ -42,11 +46,11 @@ loop-less : tie.Need-loop-less Inv-loop μ-loop
 loop-less c = search needs
 
 loop-again : tie.Need-loop-again Inv-loop μ-loop
-unfolding wordAt
-loop-again c = (search needs, search needs, read-next _ (c .before .before .loop .inv .2) (c .before .loop-test .taken) refl)
+unfolding numberAt
+loop-again c = (search needs, search needs, search needs, read-next _ (c .before .before .loop .inv .3) (c .before .loop-test .taken) refl)
 
 returns : tie.Need-returns Inv-loop μ-loop
-returns c = read-done (c .before .loop .inv .2) (c .loop-test .left) (c .before .loop .inv .1)
+returns c = read-done (c .before .loop .inv .3) (c .loop-test .left) (c .before .loop .inv .2)
 
 pub list-in-spec : {M : Type 1} → statement M
 list-in-spec =

@@ -3,7 +3,7 @@ use Prim.Native.Nat.{_≤_, _-_}
 use mathlib.Core.Path.{_≡_, refl}
 use lib.ListN.{length}
 use Rattle.image.specs.Image.{numberAt}
-use Rattle.image.proofs.Steps.{Read, read-none, read-next, read-done}
+use Rattle.image.proofs.Steps.{image-length, Read, read-none, read-next, read-done}
 use Rattle.image.proofs.reading.quarantined_in.Statement.{statement}
 use Rattle.image.proofs.reading.quarantined_in.Tie as tie
 
@@ -15,7 +15,7 @@ abbrev μ-loop : tie.MeasureT-loop
 μ-loop image rings₀ i₀ rings i = 61 - i
 
 loop-holds : tie.Need-loop-holds Inv-loop μ-loop
-loop-holds c = (search needs, search needs, read-none _ _ _ _ refl)
+loop-holds c = (image-length _ (c .pre), search needs, read-none _ _ _ _ refl)
 
 add-rings : tie.Need-add-rings Inv-loop μ-loop
 add-rings c = search needs

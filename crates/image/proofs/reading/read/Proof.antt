@@ -1,4 +1,5 @@
-use Rattle.image.proofs.Steps.{read-of}
+use native.Mathlib.Omega.{arith}
+use Rattle.image.proofs.Steps.{image-byte, read-of}
 use borrow.Author.Needs.{needs}
 use Rattle.image.proofs.reading.read.Statement.{statement}
 use Rattle.image.proofs.reading.read.Tie as tie
@@ -30,44 +31,44 @@ shared-slice-read-t11 c = search needs
 shared-slice-read-t15 : tie.Need-shared-slice-read-t15
 shared-slice-read-t15 c = search needs
 
-cast-t17 : tie.Need-cast-t17
-cast-t17 c = search needs
+cast-t16 : tie.Need-cast-t16
+cast-t16 c = omega (arith, image-byte _ (c .before .before .before .before .before .before .before .before .before .before .before .before .pre .1) 33 (omega arith) (omega arith))
 
-shared-slice-read-t20 : tie.Need-shared-slice-read-t20
-shared-slice-read-t20 c = search needs
+shared-slice-read-t19 : tie.Need-shared-slice-read-t19
+shared-slice-read-t19 c = search needs
 
-cast-t22 : tie.Need-cast-t22
-cast-t22 c = search needs
+cast-t20 : tie.Need-cast-t20
+cast-t20 c = omega (arith, image-byte _ (c .before .before .before .before .before .before .before .before .before .before .before .before .before .pre .1) 34 (omega arith) (omega arith))
 
-shared-slice-read-t24 : tie.Need-shared-slice-read-t24
-shared-slice-read-t24 c = search needs
+shared-slice-read-t22 : tie.Need-shared-slice-read-t22
+shared-slice-read-t22 c = search needs
 
-shared-slice-read-t27 : tie.Need-shared-slice-read-t27
-shared-slice-read-t27 c = search needs
+shared-slice-read-t25 : tie.Need-shared-slice-read-t25
+shared-slice-read-t25 c = search needs
 
-cast-t29 : tie.Need-cast-t29
-cast-t29 c = search needs
+cast-t26 : tie.Need-cast-t26
+cast-t26 c = omega (arith, image-byte _ (c .before .before .before .before .before .before .before .before .before .before .before .before .before .before .before .pre .1) 35 (omega arith) (omega arith))
+
+shared-slice-read-t28 : tie.Need-shared-slice-read-t28
+shared-slice-read-t28 c = search needs
 
 shared-slice-read-t31 : tie.Need-shared-slice-read-t31
 shared-slice-read-t31 c = search needs
 
+cast-t32 : tie.Need-cast-t32
+cast-t32 c = omega (arith, image-byte _ (c .before .before .before .before .before .before .before .before .before .before .before .before .before .before .before .before .before .pre .1) 36 (omega arith) (omega arith))
+
 shared-slice-read-t34 : tie.Need-shared-slice-read-t34
 shared-slice-read-t34 c = search needs
 
-cast-t36 : tie.Need-cast-t36
-cast-t36 c = search needs
+shared-slice-read-t37 : tie.Need-shared-slice-read-t37
+shared-slice-read-t37 c = search needs
 
-shared-slice-read-t38 : tie.Need-shared-slice-read-t38
-shared-slice-read-t38 c = search needs
+shared-slice-read-t40 : tie.Need-shared-slice-read-t40
+shared-slice-read-t40 c = search needs
 
-shared-slice-read-t41 : tie.Need-shared-slice-read-t41
-shared-slice-read-t41 c = search needs
-
-shared-slice-read-t44 : tie.Need-shared-slice-read-t44
-shared-slice-read-t44 c = search needs
-
-shared-slice-read-t46 : tie.Need-shared-slice-read-t46
-shared-slice-read-t46 c = search needs
+shared-slice-read-t42 : tie.Need-shared-slice-read-t42
+shared-slice-read-t42 c = search needs
 
 returns : tie.Need-returns
 returns c =
@@ -92,17 +93,17 @@ read-spec =
     quarantined-in-requires
     shared-slice-read-t11
     shared-slice-read-t15
-    cast-t17
-    shared-slice-read-t20
-    cast-t22
-    shared-slice-read-t24
-    shared-slice-read-t27
-    cast-t29
+    cast-t16
+    shared-slice-read-t19
+    cast-t20
+    shared-slice-read-t22
+    shared-slice-read-t25
+    cast-t26
+    shared-slice-read-t28
     shared-slice-read-t31
+    cast-t32
     shared-slice-read-t34
-    cast-t36
-    shared-slice-read-t38
-    shared-slice-read-t41
-    shared-slice-read-t44
-    shared-slice-read-t46
+    shared-slice-read-t37
+    shared-slice-read-t40
+    shared-slice-read-t42
     returns)

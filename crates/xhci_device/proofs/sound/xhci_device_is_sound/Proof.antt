@@ -1,13 +1,9 @@
-use borrow.Author.Tests.{not-true, not-false}
+use mathlib.Core.Path.{ap, _∙_}
+use Rattle.device.specs.Sound.{sound}
+use Rattle.xhci_device.proofs.Steps.{only-image, zeros-unsound}
 use borrow.Author.Needs.{needs}
 use Rattle.xhci_device.proofs.sound.xhci_device_is_sound.Statement.{statement}
 use Rattle.xhci_device.proofs.sound.xhci_device_is_sound.Tie as tie
-
-is-image-requires : tie.Need-is-image-requires
-is-image-requires c κs = search needs
-
-returns : tie.Need-returns
-returns c = rw (← c .before .is-image .ensures, not-true (c .before .is-image .result) (c .if1 .taken))
 
 decode-requires : tie.Need-decode-requires
 decode-requires c κs = search needs
@@ -15,9 +11,10 @@ decode-requires c κs = search needs
 sound-requires : tie.Need-sound-requires
 sound-requires c κs = search needs
 
-returns-2 : tie.Need-returns-2
-returns-2 c = rw (← c .before .before .before .is-image .ensures, not-false (c .before .before .before .is-image .result) (c .before .before .if1 .left), ← c .before .decode .ensures) (c .sound .ensures)
+returns : tie.Need-returns
+returns c =
+    c .sound .ensures ∙ ap sound (c .before .decode .ensures)
+    ∙ only-image sound zeros-unsound (c .before .before .before .args .image .now)
 
 pub xhci-device-is-sound-spec : {M : Type 1} → statement M
-xhci-device-is-sound-spec =
-    tie.close (tie.spec is-image-requires returns decode-requires sound-requires returns-2)
+xhci-device-is-sound-spec = tie.close (tie.spec decode-requires sound-requires returns)
