@@ -2,7 +2,7 @@
 use field::Field;
 use hub::Translator;
 ghost use mathlib.Core.Path.{_≡_};
-ghost use lib.ListN.{length, replicate};
+ghost use lib.ListN.{length};
 ghost use Rattle.context.specs.Place.{written, Spaced};
 ghost use Rattle.context.specs.Steps.{addressContext, maxPacketWrites};
 
@@ -12,17 +12,6 @@ const CONTROL_ADD_FLAG: Field = Field {
     low: 1,
     width: 1,
 };
-
-fn clear(ctx: &mut [u8])
-    ensures { λ r. ⌜ now (ctx .exit) ≡ replicate (length (now (ctx .entry))) 0 ⌝ }
-{
-    let n = ctx.len();
-    let mut i = 0;
-    while i < n {
-        ctx[i] = 0;
-        i += 1;
-    }
-}
 
 // What Address is given, from all zero.
 pub fn address_context(
@@ -37,7 +26,11 @@ pub fn address_context(
     requires { ⌜ Spaced spacing (length (now ctx)) ⌝ }
     ensures { λ r. ⌜ now (ctx .exit) ≡ addressContext spacing speed route translator «root_port» ring (now (ctx .entry)) ⌝ }
 {
-    clear(ctx);
+    let mut i = 0;
+    while i < ctx.len() {
+        ctx[i] = 0;
+        i += 1;
+    }
     field::put_field(ctx, control_block::ADD_FLAGS, 3);
     let slot_end = spacing + 32;
     slot_block::address_slot(
