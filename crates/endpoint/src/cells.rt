@@ -63,6 +63,7 @@ pub fn cells_of(eps: [Endpoint; 30], owners: [u8; 30], n: usize) -> Cells
     c
 }
 
+// Whether an endpoint of an owner stands at a place.
 pub fn is_owned(who: Owner, c: Cells, place: usize) -> bool
     requires { ⌜ place < 30 ⌝ }
     ensures { λ r. ⌜ r ≡ isOwned who c place ⌝ }
@@ -80,13 +81,13 @@ pub fn is_owned(who: Owner, c: Cells, place: usize) -> bool
 pub fn owned_rings(who: Owner, c: Cells) -> [u64; 30]
     ensures { λ r. ⌜ r ≡ ownedRings who c ⌝ }
 {
-    let mut rings = [0u64; 30];
+    let mut rings = c.rings;
     let mut p = 0;
     while p < 30 {
         let place = p;
         p += 1;
-        if is_owned(who, c, place) {
-            rings[place] = c.rings[place];
+        if !is_owned(who, c, place) {
+            rings[place] = 0;
         }
     }
     rings

@@ -2,7 +2,7 @@
 use Prim.Native.Nat.{ℕ, zero, suc, _+_, _-_, _≤_, _<_}
 use mathlib.Core.Path.{_≡_, refl, sym, _∙_}
 use mathlib.Core.Logic.{inl, inr}
-use mathlib.Core.Bool.{Bool, true, false, not, cond, _&&_, _||_, or-true, or-false, and-false, Bool·not-not, Bool·beq}
+use mathlib.Core.Bool.{Bool, true, false, not, cond, _&&_, _||_, or-true, or-false, and-false, Bool·beq}
 use mathlib.Core.List.{List, [], _∷_, _++_, append-assoc, append-nil}
 use native.Mathlib.Numerals.{add-one, one-add}
 use native.Mathlib.Nat.{add-zero}
@@ -19,14 +19,14 @@ use Rattle.configuration.specs.Lookup.{findEndpoints}
 use Rattle.descriptor.specs.Word.{endpointDescriptor}
 use Rattle.endpoint.specs.Order.{placeOf}
 use Rattle.endpoint.specs.Endpoint.{padded}
-use Rattle.endpoint.specs.Cells.{isOwned, owns, ownedRings}
-use Rattle.endpoint.specs.declared.cells.Owner.the-variants.{Interface}
+use Rattle.endpoint.specs.Cells.{isOwned, owns}
+use Rattle.endpoint.specs.declared.cells.Owner.the-variants.{Any, Interface}
 use Rattle.endpoint.specs.declared.cells.Cells.{Cells}
-use Rattle.endpoint.proofs.Laws.{tabulated-at, tabulated-length, owned-at, owned-zero}
+use Rattle.endpoint.proofs.Laws.{tabulated-at, tabulated-length}
 use Rattle.settings.specs.declared.held.Settings.{Settings}
 use Rattle.settings.specs.Held.{Held, heldIn, interfacesOf, alternatesOf, isHeld, withoutSetting, isFound, eachSetting, allFound, settingsSound, SettingsAs}
 use Rattle.settings.specs.Match.{hasPlace, placesOf, same, eachFrom, eachPlace, ownsPlaces, allOwn, ownersHeld, endpointsMatch, addressesFree}
-use Rattle.settings.proofs.Laws.{eqb-turned, passed-append, held-elem, interfaces-any, interfaces-length, alternates-length, interfaces-append, alternates-append, each-same}
+use Rattle.settings.proofs.Laws.{eqb-turned, passed-append, held-elem, interfaces-any, interfaces-length, alternates-length, interfaces-append, alternates-append, each-same, each-at, each-if}
 
 abbrev pub heldAt : List ℕ → List ℕ → ℕ → Held
 heldAt is alts i = record { interface = getD is i 0; alternate = getD alts i 0 }
@@ -244,14 +244,14 @@ module _ (test : ℕ → Bool) (n p : ℕ) where
 abbrev pub Marked : List Bool → List ℕ → List ℕ → Type 0
 Marked places rest words = (p : ℕ) → p < 30 → getD places p false || hasPlace p rest ≡ hasPlace p words
 
-module _ (places : List Bool) (words : List ℕ) (i : ℕ) (m : Marked places (drop i words) words) where
-  next-word :
-      (p : ℕ) → i < length words →
-      hasPlace p (drop i words)
-      ≡ eqb (placeOf ((endpointDescriptor (getD words i 0)) .address)) p || hasPlace p (drop (i + 1) words)
-  unfolding hasPlace
-  next-word p h = rw (add-one, drop-cons words i 0)
+next-word :
+    (words : List ℕ) (i p : ℕ) → i < length words →
+    hasPlace p (drop i words)
+    ≡ eqb (placeOf ((endpointDescriptor (getD words i 0)) .address)) p || hasPlace p (drop (i + 1) words)
+unfolding hasPlace
+next-word words i p h = rw (add-one, drop-cons words i 0)
 
+module _ (places : List Bool) (words : List ℕ) (i : ℕ) (m : Marked places (drop i words) words) where
   pub mark-next :
       (q : ℕ) → i < length words → length places ≡ 30 → q ≡ placeOf ((endpointDescriptor (getD words i 0)) .address) →
       Marked (set places q true) (drop (i + 1) words) words
@@ -262,14 +262,14 @@ module _ (places : List Bool) (words : List ℕ) (i : ℕ) (m : Marked places (d
           getD (set places q true) p false || hasPlace p (drop (i + 1) words) ≡ getD places p false || hasPlace p (drop i words)
       go (inl t) =
           let s : q ≡ p = eqb-true q p t in
-          rw (next-word p h, ← e, t, s, getD-set-same places p true false (rw l g)) (sym (or-true (getD places p false)))
+          rw (next-word words i p h, ← e, t, s, getD-set-same places p true false (rw l g)) (sym (or-true (getD places p false)))
       go (inr t) =
-          rw (next-word p h, ← e, t, getD-set-other places q p true false (λ s. eqb-false q p t (sym s)))
+          rw (next-word words i p h, ← e, t, getD-set-other places q p true false (λ s. eqb-false q p t (sym s)))
 
   pub mark-skip :
       (q : ℕ) → i < length words → 30 ≤ q → q ≡ placeOf ((endpointDescriptor (getD words i 0)) .address) →
       Marked places (drop (i + 1) words) words
-  mark-skip q h l e p g = rw (ne-eqb q p (λ s. absurd (omega arith))) at (rw (next-word p h, ← e) at (m p g))
+  mark-skip q h l e p g = rw (ne-eqb q p (λ s. absurd (omega arith))) at (rw (next-word words i p h, ← e) at (m p g))
 
   no-word : (p : ℕ) → hasPlace p [] ≡ false
   unfolding hasPlace
@@ -288,8 +288,8 @@ place-at : (words : List ℕ) (p : ℕ) → p < 30 → getD (placesOf words) p f
 unfolding placesOf
 place-at words p h = tabulated-at (λ q. hasPlace q words) 30 p false h
 
--- A place has a word exactly if it has a ring.
-pub same-test : (word none : Bool) → same word (not none) ≡ not (Bool·beq word none)
+-- A place has a word exactly if it has an endpoint.
+pub same-test : (word own : Bool) → same word own ≡ Bool·beq word own
 unfolding same
 same-test true true = refl
 same-test true false = refl
@@ -298,31 +298,96 @@ same-test false false = refl
 
 -- The endpoints of an interface against the places of its words.
 pub owns-same :
-    (places : List Bool) (words rings : List ℕ) (i : ℕ) (c : Cells) →
-    places ≡ placesOf words → rings ≡ ownedRings (Interface i) c →
-    eachPlace (λ p. same (getD places p false) (not (eqb (getD rings p 0) 0))) ≡ ownsPlaces words i c
+    (places : List Bool) (words : List ℕ) (i : ℕ) (c : Cells) →
+    places ≡ placesOf words →
+    ownsPlaces words i c ≡ eachPlace (λ p. same (getD places p false) (isOwned (Interface i) c p))
 unfolding ownsPlaces
-owns-same places words rings i c e f =
-    each-same _ _
-    (λ p h. rw (e, f, place-at words p h, owned-zero (Interface i) c p h, Bool·not-not (isOwned (Interface i) c p)))
+owns-same places words i c e = each-same _ _ (λ p h. rw (e, place-at words p h))
 
--- The endpoints of other interfaces against the places of words.
-own-ring : (r o i : ℕ) → eqb r (cond (not (eqb r 0) && eqb o i) r 0) ≡ (eqb r 0 || eqb o i)
-own-ring r o i = go (eqb r 0) (eqb o i) refl
+-- `addresses_free`
+each-and-from :
+    (f g : ℕ → Bool) (k a : ℕ) → eachFrom (λ p. f p && g p) k a ≡ (eachFrom f k a && eachFrom g k a)
+unfolding eachFrom
+each-and-from f g zero a = refl
+each-and-from f g (suc k) a =
+    rw (each-and-from f g k (a + 1)) (go (f a) (g a) (eachFrom f k (a + 1)) (eachFrom g k (a + 1)))
   where
-    go : (t s : Bool) → eqb r 0 ≡ t → eqb r (cond (not t && s) r 0) ≡ (t || s)
-    go true s e = e
-    go false true e = eq-eqb r r refl
-    go false false e = e
+    go : (x y u v : Bool) → ((x && y) && (u && v)) ≡ ((x && u) && (y && v))
+    go false y u v = refl
+    go true true u v = refl
+    go true false true v = refl
+    go true false false v = refl
 
-pub free-same :
-    (places : List Bool) (words own : List ℕ) (i : ℕ) (c : Cells) →
-    places ≡ placesOf words → own ≡ ownedRings (Interface i) c →
-    addressesFree words i c ≡ eachPlace (λ p. not (getD places p false) || eqb (getD (c .rings) p 0) (getD own p 0))
-unfolding addressesFree isOwned owns
-free-same places words own i c e f =
-    each-same _ _
-    (λ p h. rw (e, f, place-at words p h, owned-at (Interface i) c p h, own-ring (getD (c .rings) p 0) (getD (c .owners) p 0) i))
+each-and : (f g : ℕ → Bool) → eachPlace (λ p. f p && g p) ≡ (eachPlace f && eachPlace g)
+unfolding eachPlace
+each-and f g = each-and-from f g 30 0
+
+-- a test of one place alone
+module _ (q : ℕ) (t : ℕ → Bool) where
+  one-in : q < 30 → eachPlace (λ p. not (eqb q p) || t p) ≡ t q
+  one-in h = go (decided (t q))
+    where
+      pass : t q ≡ true → (p : ℕ) → Decided (eqb q p) → not (eqb q p) || t p ≡ true
+      pass e p (inl s) = let r : p ≡ q = sym (eqb-true q p s) in rw (r, e) (or-true (not (eqb q q)))
+      pass e p (inr s) = rw s
+
+      go : Decided (t q) → eachPlace (λ p. not (eqb q p) || t p) ≡ t q
+      go (inl e) = each-if (λ p. not (eqb q p) || t p) (λ p l. pass e p (decided (eqb q p))) ∙ sym e
+      go (inr e) =
+          false-if (eachPlace (λ p. not (eqb q p) || t p))
+          (λ f. not-both (t q) (rw (eq-eqb q q refl) at (each-at (λ p. not (eqb q p) || t p) f q h)) e)
+          ∙ sym e
+
+  one-out : 30 ≤ q → eachPlace (λ p. not (eqb q p) || t p) ≡ true
+  one-out h = each-if (λ p. not (eqb q p) || t p) (λ p l. rw (ne-eqb q p (λ s. absurd (omega arith))))
+
+-- what `addresses_free` asks of a place
+pub owned-free :
+    (i : ℕ) (c : Cells) (p : ℕ) →
+    Bool·beq (isOwned Any c p) (isOwned (Interface i) c p) ≡ eqb (getD (c .rings) p 0) 0 || eqb (getD (c .owners) p 0) i
+unfolding isOwned owns
+owned-free i c p = go (eqb (getD (c .rings) p 0) 0) (eqb (getD (c .owners) p 0) i)
+  where
+    go : (z s : Bool) → Bool·beq (not z && true) (not z && s) ≡ (z || s)
+    go true s = refl
+    go false true = refl
+    go false false = refl
+
+module _ (words : List ℕ) (i : ℕ) (c : Cells) (k q : ℕ) where
+  abbrev free : ℕ → Bool
+  free p = eqb (getD (c .rings) p 0) 0 || eqb (getD (c .owners) p 0) i
+
+  free-split :
+      k < length words → q ≡ placeOf ((endpointDescriptor (getD words k 0)) .address) →
+      addressesFree (drop k words) i c ≡ (eachPlace (λ p. not (eqb q p) || free p) && addressesFree (drop (k + 1) words) i c)
+  unfolding addressesFree
+  free-split h e =
+      each-same _ (λ p. (not (eqb q p) || free p) && (not (hasPlace p (drop (k + 1) words)) || free p))
+      (λ p l. rw (next-word words k p h, ← e) (go (eqb q p) (hasPlace p (drop (k + 1) words)) (free p)))
+      ∙ each-and (λ p. not (eqb q p) || free p) (λ p. not (hasPlace p (drop (k + 1) words)) || free p)
+    where
+      go : (a b t : Bool) → not (a || b) || t ≡ ((not a || t) && (not b || t))
+      go true true true = refl
+      go true true false = refl
+      go true false true = refl
+      go true false false = refl
+      go false b t = refl
+
+  pub free-next :
+      k < length words → q ≡ placeOf ((endpointDescriptor (getD words k 0)) .address) → q < 30 →
+      addressesFree (drop k words) i c
+      ≡ (Bool·beq (isOwned Any c q) (isOwned (Interface i) c q) && addressesFree (drop (k + 1) words) i c)
+  free-next h e l = free-split h e ∙ rw (one-in q free l, owned-free i c q)
+
+  pub free-skip :
+      k < length words → q ≡ placeOf ((endpointDescriptor (getD words k 0)) .address) → 30 ≤ q →
+      addressesFree (drop k words) i c ≡ addressesFree (drop (k + 1) words) i c
+  free-skip h e l = free-split h e ∙ rw (one-out q free l)
+
+pub free-none :
+    (words : List ℕ) (i : ℕ) (c : Cells) (k : ℕ) → length words ≤ k → addressesFree (drop k words) i c ≡ true
+unfolding addressesFree hasPlace
+free-none words i c k h = rw (drop-of-length-le words h) (each-if _ (λ p l. refl))
 
 -- `endpoints_match`: first the endpoints of each setting, then the owners.
 module _ (list : List ℕ) (hs : List Held) (c : Cells) where

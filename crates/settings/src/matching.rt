@@ -31,13 +31,12 @@ fn owns_places(list: &[u32], interface: u8, alternate: u8, c: Cells) -> bool
 {
     let words = held::setting_words(list, interface, alternate);
     let places = places_of(words);
-    let rings = endpoint::owned_rings(Owner::Interface(interface), c);
     let mut p = 0;
     while p < 30 {
         let word = places[p];
-        let ring = rings[p];
+        let own = endpoint::is_owned(Owner::Interface(interface), c, p);
         p += 1;
-        if word == (ring == 0) {
+        if word != own {
             return false;
         }
     }
@@ -89,15 +88,14 @@ pub fn endpoints_match(
 pub fn addresses_free(words: &[u32], interface: u8, c: Cells) -> bool
     ensures { λ r. ⌜ r ≡ addressesFree (now (words .entry)) interface c ⌝ }
 {
-    let places = places_of(words);
-    let own = endpoint::owned_rings(Owner::Interface(interface), c);
-    let mut p = 0;
-    while p < 30 {
-        let word = places[p];
-        let other = c.rings[p] != own[p];
-        p += 1;
-        if word {
-            if other {
+    let mut i = 0;
+    while i < words.len() {
+        let e = descriptor::endpoint_descriptor(words[i]);
+        let place = endpoint::place_of(e.address);
+        i += 1;
+        if place < 30 {
+            let taken = endpoint::is_owned(Owner::Any, c, place);
+            if taken != endpoint::is_owned(Owner::Interface(interface), c, place) {
                 return false;
             }
         }

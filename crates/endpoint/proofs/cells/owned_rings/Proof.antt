@@ -1,22 +1,22 @@
-use mathlib.Core.Path.{refl, sym, _∙_}
 use Prim.Native.Nat.{_≤_, _-_}
 use mathlib.Core.Bool.{cond}
-use lib.ListN.{getD, replicate, getD-replicate}
+use borrow.Author.Needs.{needs}
+use borrow.Author.Tests.{not-true, not-false}
+use lib.ListN.{getD}
 use Rattle.endpoint.specs.Cells.{isOwned, ownedRings}
 use Rattle.endpoint.proofs.Steps.{Written, write-none, write-next, write-keep, write-done}
-use borrow.Author.Needs.{needs}
 use Rattle.endpoint.proofs.cells.owned_rings.Statement.{statement}
 use Rattle.endpoint.proofs.cells.owned_rings.Tie as tie
 
 abbrev Inv-loop : tie.InvT-loop
 Inv-loop who c rings₀ p₀ rings p =
-    (p ≤ 30) × Written 30 (λ q. cond (isOwned who c q) (getD (c .rings) q 0) 0) (replicate 30 0) 0 p rings
+    (p ≤ 30) × Written 30 (λ q. cond (isOwned who c q) (getD (c .rings) q 0) 0) (c .rings) 0 p rings
 
 abbrev μ-loop : tie.MeasureT-loop
 μ-loop who c rings₀ p₀ rings p = 30 - p
 
 loop-holds : tie.Need-loop-holds Inv-loop μ-loop
-loop-holds c = (search needs, write-none _ _ _ _ refl)
+loop-holds c = (search needs, write-none _ _ _ _ (search needs))
 
 add-p : tie.Need-add-p Inv-loop μ-loop
 add-p c = search needs
@@ -27,12 +27,6 @@ is-owned-requires c κs = search needs
 mul-rings : tie.Need-mul-rings Inv-loop μ-loop
 mul-rings c = search needs
 
-element-copy-out-rings : tie.Need-element-copy-out-rings Inv-loop μ-loop
-element-copy-out-rings c = search needs
-
-mul-rings-2 : tie.Need-mul-rings-2 Inv-loop μ-loop
-mul-rings-2 c = search needs
-
 array-write-rings : tie.Need-array-write-rings Inv-loop μ-loop
 array-write-rings c = search needs
 
@@ -40,13 +34,13 @@ loop-less : tie.Need-loop-less Inv-loop μ-loop
 loop-less c = search needs
 
 loop-again : tie.Need-loop-again Inv-loop μ-loop
-loop-again c = (search needs, write-next _ (c .before .before .before .before .loop .inv .1) (c .before .before .before .loop-test .taken) (rw (← c .before .before .is-owned .ensures, c .before .if1 .taken)))
+loop-again c = (search needs, write-next _ (c .before .before .before .loop .inv .1) (c .before .before .loop-test .taken) (rw (← c .before .is-owned .ensures, not-true (c .before .is-owned .result) (c .if1 .taken))))
 
 loop-less-2 : tie.Need-loop-less-2 Inv-loop μ-loop
 loop-less-2 c = search needs
 
 loop-again-2 : tie.Need-loop-again-2 Inv-loop μ-loop
-loop-again-2 c = (search needs, write-keep (c .before .before .before .loop .inv .1) (c .before .before .loop-test .taken) (rw (← c .before .is-owned .ensures, c .if1 .left) (getD-replicate 30 (c .before .before .before .loop .p) 0 0 (c .before .before .loop-test .taken))))
+loop-again-2 c = (search needs, write-keep (c .before .before .before .loop .inv .1) (c .before .before .loop-test .taken) (rw (← c .before .is-owned .ensures, not-false (c .before .is-owned .result) (c .if1 .left))))
 
 returns : tie.Need-returns Inv-loop μ-loop
 unfolding ownedRings
@@ -62,8 +56,6 @@ owned-rings-spec =
     add-p
     is-owned-requires
     mul-rings
-    element-copy-out-rings
-    mul-rings-2
     array-write-rings
     loop-less
     loop-again

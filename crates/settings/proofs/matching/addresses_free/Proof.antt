@@ -1,75 +1,76 @@
-use Prim.Native.Nat.{_≤_, _-_}
+use Prim.Native.Nat.{_-_}
 use mathlib.Core.Path.{_≡_, sym, _∙_}
-use mathlib.Core.Bool.{true, false, not, _||_}
+use mathlib.Core.Bool.{true, false, Bool·beq}
 use borrow.Author.Needs.{needs}
 use borrow.Author.Tests.{not-true, not-false}
-use lib.Dec.{eqb}
-use lib.ListN.{getD}
-use Rattle.settings.specs.Match.{eachFrom, eachPlace, addressesFree}
-use Rattle.settings.proofs.Steps.{each-next, each-none, free-same}
+use lib.ListN.{length, drop}
+use Rattle.settings.specs.Match.{addressesFree}
+use Rattle.settings.proofs.Steps.{free-next, free-skip, free-none}
 use Rattle.settings.proofs.matching.addresses_free.Statement.{statement}
 use Rattle.settings.proofs.matching.addresses_free.Tie as tie
 
 abbrev Inv-loop : tie.InvT-loop
-Inv-loop words interface c places own p₀ p =
-    (p ≤ 30) × (addressesFree words interface c ≡ eachFrom (λ q. not (getD places q false) || eqb (getD (c .rings) q 0) (getD own q 0)) (30 - p) p)
+Inv-loop words interface c i₀ i =
+    addressesFree words interface c ≡ addressesFree (drop i words) interface c
 
 abbrev μ-loop : tie.MeasureT-loop
-μ-loop words interface c places own p₀ p = 30 - p
-
-places-of-requires : tie.Need-places-of-requires Inv-loop μ-loop
-places-of-requires c κs = search needs
-
-owned-rings-requires : tie.Need-owned-rings-requires Inv-loop μ-loop
-owned-rings-requires c κs = search needs
+μ-loop words interface c i₀ i = length words - i
 
 loop-holds : tie.Need-loop-holds Inv-loop μ-loop
-unfolding eachPlace
-loop-holds c = (search needs, free-same _ _ _ _ _ (c .before .places-of .ensures) (c .owned-rings .ensures))
+loop-holds c = search needs
 
-array-read-word : tie.Need-array-read-word Inv-loop μ-loop
-array-read-word c = search needs
+mul-endpoint-descriptor : tie.Need-mul-endpoint-descriptor Inv-loop μ-loop
+mul-endpoint-descriptor c = search needs
 
-mul-other : tie.Need-mul-other Inv-loop μ-loop
-mul-other c = search needs
+shared-slice-read-endpoint-descriptor :
+    tie.Need-shared-slice-read-endpoint-descriptor Inv-loop μ-loop
+shared-slice-read-endpoint-descriptor c = search needs
 
-element-copy-out-other : tie.Need-element-copy-out-other Inv-loop μ-loop
-element-copy-out-other c = search needs
+endpoint-descriptor-requires : tie.Need-endpoint-descriptor-requires Inv-loop μ-loop
+endpoint-descriptor-requires c κs = search needs
 
-mul-other-2 : tie.Need-mul-other-2 Inv-loop μ-loop
-mul-other-2 c = search needs
+place-of-requires : tie.Need-place-of-requires Inv-loop μ-loop
+place-of-requires c κs = search needs
 
-array-read-other : tie.Need-array-read-other Inv-loop μ-loop
-array-read-other c = search needs
+add-i : tie.Need-add-i Inv-loop μ-loop
+add-i c = search needs
 
-add-p : tie.Need-add-p Inv-loop μ-loop
-add-p c = search needs
+is-owned-requires : tie.Need-is-owned-requires Inv-loop μ-loop
+is-owned-requires c κs = search needs
+
+is-owned-requires-2 : tie.Need-is-owned-requires-2 Inv-loop μ-loop
+is-owned-requires-2 c κs = search needs
 
 returns : tie.Need-returns Inv-loop μ-loop
-returns c = let l = c .before .before .before .before .loop in
-    let ring = getD (c .before .before .before .before .before .before .before .before .args .t3 .rings) (l .p) 0 in
-    let own = getD (c .before .before .before .before .before .owned-rings .result) (l .p) 0 in
-    let e : eqb ring own ≡ false = not-true (eqb ring own) (c .if2 .taken) in
-    sym (l .inv .1 ∙ each-next _ 30 (l .p) (c .before .before .before .loop-test .taken) ∙ rw (c .before .if1 .taken, e))
+returns c = let l = c .before .before .before .before .before .before .before .before .loop in
+    let any = c .before .before .is-owned .result in
+    let own = c .before .is-owned2 .result in
+    let e : Bool·beq any own ≡ false = not-true (Bool·beq any own) (c .if2 .taken) in
+    sym (l .inv
+    ∙ free-next _ _ _ (l .i) (c .before .before .before .before .place-of .result) (c .before .before .before .before .before .before .before .loop-test .taken) (c .before .before .before .before .place-of .ensures .0 ∙ rw (c .before .before .before .before .before .endpoint-descriptor .ensures)) (c .before .before .before .if1 .taken)
+    ∙ rw (← c .before .before .is-owned .ensures, ← c .before .is-owned2 .ensures, e))
 
 loop-less : tie.Need-loop-less Inv-loop μ-loop
 loop-less c = search needs
 
 loop-again : tie.Need-loop-again Inv-loop μ-loop
-loop-again c = let l = c .before .before .before .before .loop in
-    let ring = getD (c .before .before .before .before .before .before .before .before .args .t3 .rings) (l .p) 0 in
-    let own = getD (c .before .before .before .before .before .owned-rings .result) (l .p) 0 in
-    let e : eqb ring own ≡ true = not-false (eqb ring own) (c .if2 .left) in
-    (search needs, l .inv .1 ∙ each-next _ 30 (l .p) (c .before .before .before .loop-test .taken) ∙ rw (c .before .if1 .taken, e))
+loop-again c = let l = c .before .before .before .before .before .before .before .before .loop in
+    let any = c .before .before .is-owned .result in
+    let own = c .before .is-owned2 .result in
+    let e : Bool·beq any own ≡ true = not-false (Bool·beq any own) (c .if2 .left) in
+    l .inv
+    ∙ free-next _ _ _ (l .i) (c .before .before .before .before .place-of .result) (c .before .before .before .before .before .before .before .loop-test .taken) (c .before .before .before .before .place-of .ensures .0 ∙ rw (c .before .before .before .before .before .endpoint-descriptor .ensures)) (c .before .before .before .if1 .taken)
+    ∙ rw (← c .before .before .is-owned .ensures, ← c .before .is-owned2 .ensures, e)
 
 loop-less-2 : tie.Need-loop-less-2 Inv-loop μ-loop
 loop-less-2 c = search needs
 
 loop-again-2 : tie.Need-loop-again-2 Inv-loop μ-loop
-loop-again-2 c = (search needs, c .before .before .before .loop .inv .1 ∙ each-next _ 30 (c .before .before .before .loop .p) (c .before .before .loop-test .taken) ∙ rw (c .if1 .left))
+loop-again-2 c = c .before .before .before .before .before .loop .inv
+    ∙ free-skip _ _ _ (c .before .before .before .before .before .loop .i) (c .before .place-of .result) (c .before .before .before .before .loop-test .taken) (c .before .place-of .ensures .0 ∙ rw (c .before .before .endpoint-descriptor .ensures)) (c .if1 .left)
 
 returns-2 : tie.Need-returns-2 Inv-loop μ-loop
-returns-2 c = sym (c .before .loop .inv .1 ∙ each-none _ 30 (c .before .loop .p) (c .loop-test .left))
+returns-2 c = sym (c .before .loop .inv ∙ free-none _ _ _ (c .before .loop .i) (c .loop-test .left))
 
 pub addresses-free-spec : {M : Type 1} → statement M
 addresses-free-spec =
@@ -77,15 +78,14 @@ addresses-free-spec =
     (tie.spec
     Inv-loop
     μ-loop
-    places-of-requires
-    owned-rings-requires
     loop-holds
-    array-read-word
-    mul-other
-    element-copy-out-other
-    mul-other-2
-    array-read-other
-    add-p
+    mul-endpoint-descriptor
+    shared-slice-read-endpoint-descriptor
+    endpoint-descriptor-requires
+    place-of-requires
+    add-i
+    is-owned-requires
+    is-owned-requires-2
     returns
     loop-less
     loop-again
