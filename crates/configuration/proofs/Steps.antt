@@ -6,10 +6,11 @@ use mathlib.Core.Bool.{Bool, true, false, not, _&&_, and-false}
 use mathlib.Core.List.{List, [], _∷_}
 use native.Mathlib.Numerals.{add-one}
 use native.Mathlib.Omega.{arith}
-use borrow.Author.Tests.{eq-eqb, ne-eqb, le-leb, lt-leb, ltb-true, ltb-false, not-true, not-false}
-use lib.Dec.{eqb, leb, ltb}
+use borrow.Author.Tests.{eqb-true, eq-eqb, ne-eqb, le-leb, lt-leb, not-true, not-false}
+use lib.Dec.{eqb, leb}
 use lib.ListN.{length, getD, drop, drop-of-length-le}
-use Rattle.laws.proofs.Tests.{and-left, and-right}
+use Rattle.laws.proofs.Tests.{and-left, and-right, not-both}
+use Rattle.laws.proofs.Cases.{Decided, decided}
 use Rattle.descriptor.specs.Word.{kind, interfaceNumber, alternateSetting, wordOk, CONFIGURATION, ALTERNATE, ENDPOINT}
 use Rattle.configuration.specs.declared.Found.the-variants.{Endpoints}
 use Rattle.configuration.specs.Lookup.{endpointRun, ofInterface, isAlternate, findFrom}
@@ -80,41 +81,64 @@ module _ (l : List ℕ) (i run : ℕ) (h : 0 < i) (g : i ≤ length l) (v : Walk
         (rw (drop-back l i h g, ← q, ← v .counted, e, and-false (wordOk (getD l (i - 1) 0) && wordsOk (drop i l))))
 
     -- endpoint words after a configuration
-    pub configuration-refused : k ≡ CONFIGURATION → not (eqb run 0) ≡ true → fit l ≡ false
+    pub configuration-refused : k ≡ CONFIGURATION → (run ≡ 0 → ⊥) → fit l ≡ false
     unfolding runFits
-    configuration-refused e r = run-refused (rw (eq-eqb k CONFIGURATION e, not-true (eqb run 0) r))
+    configuration-refused e r = run-refused (rw (eq-eqb k CONFIGURATION e, ne-eqb run 0 r))
 
     -- too many after an alternate
-    pub alternate-refused : k ≡ ALTERNATE → ltb 30 run ≡ true → fit l ≡ false
+    pub alternate-refused : k ≡ ALTERNATE → 30 < run → fit l ≡ false
     unfolding runFits
-    alternate-refused e r = run-refused (rw (e, lt-leb run 30 (ltb-true 30 run r)))
+    alternate-refused e r = run-refused (rw (e, lt-leb run 30 r))
 
-    module _ (ok : wordOk (getD l (i - 1) 0) ≡ true)
-        (c : ((k ≡ CONFIGURATION) × (not (eqb run 0) ≡ false)) ⊎ (k ≡ CONFIGURATION → ⊥))
-        (a : ((k ≡ ALTERNATE) × (ltb 30 run ≡ false)) ⊎ (k ≡ ALTERNATE → ⊥)) where
-      run-taken :
-          ((k ≡ CONFIGURATION) × (not (eqb run 0) ≡ false)) ⊎ (k ≡ CONFIGURATION → ⊥) →
-          ((k ≡ ALTERNATE) × (ltb 30 run ≡ false)) ⊎ (k ≡ ALTERNATE → ⊥) → runFits k run ≡ true
-      unfolding runFits
-      run-taken (inl p) s = rw (eq-eqb k CONFIGURATION (p .0), not-false (eqb run 0) (p .1))
-      run-taken (inr p) (inl s) =
-          rw (ne-eqb k CONFIGURATION p, eq-eqb k ALTERNATE (s .0), le-leb run 30 (ltb-false 30 run (s .1)))
-      run-taken (inr p) (inr s) = rw (ne-eqb k CONFIGURATION p, ne-eqb k ALTERNATE s)
-
-      word-taken : fit (drop (i - 1) l) ≡ true
+    module _ (ok : wordOk (getD l (i - 1) 0) ≡ true) where
+      word-taken : runFits k run ≡ true → fit (drop (i - 1) l) ≡ true
       unfolding wordsOk runsFit
-      word-taken = rw (drop-back l i h g, ok, ← q, ← v .counted, run-taken c a) (v .fits)
+      word-taken r = rw (drop-back l i h g, ok, ← q, ← v .counted, r) (v .fits)
 
-      -- one more endpoint word
-      pub endpoint-taken : k ≡ ENDPOINT → Walked (drop (i - 1) l) (run + 1)
-      unfolding endpointRun
-      endpoint-taken e =
-          record { counted = rw (drop-back l i h g, ← q, eq-eqb k ENDPOINT e, v .counted, add-one); fits = word-taken }
+      pub configuration-taken : k ≡ CONFIGURATION → run ≡ 0 → Walked (drop (i - 1) l) run
+      unfolding endpointRun runFits
+      configuration-taken e r =
+          record { counted = rw (drop-back l i h g, ← q, e) r; fits = word-taken (rw (e, eq-eqb run 0 r)) }
 
-      -- a word after which they are counted anew
-      pub other-taken : (k ≡ ENDPOINT → ⊥) → Walked (drop (i - 1) l) 0
-      unfolding endpointRun
-      other-taken n = record { counted = rw (drop-back l i h g, ← q, ne-eqb k ENDPOINT n); fits = word-taken }
+      pub alternate-taken : k ≡ ALTERNATE → run ≤ 30 → Walked (drop (i - 1) l) 0
+      unfolding endpointRun runFits
+      alternate-taken e r =
+          record { counted = rw (drop-back l i h g, ← q, e); fits = word-taken (rw (e, le-leb run 30 r)) }
+
+      -- a valid word of no other kind is an endpoint's
+      endpoint-kind : (k ≡ CONFIGURATION → ⊥) → (k ≡ ALTERNATE → ⊥) → k ≡ ENDPOINT
+      unfolding wordOk
+      endpoint-kind c a = go (decided (eqb k ENDPOINT))
+        where
+          go : Decided (eqb k ENDPOINT) → k ≡ ENDPOINT
+          go (inl p) = eqb-true k ENDPOINT p
+          go (inr p) = not-both false (rw (← q, ne-eqb k CONFIGURATION c, ne-eqb k ALTERNATE a, p) at ok) refl
+
+      pub endpoint-taken : (k ≡ CONFIGURATION → ⊥) → (k ≡ ALTERNATE → ⊥) → Walked (drop (i - 1) l) (run + 1)
+      unfolding endpointRun runFits
+      endpoint-taken c a =
+          record {
+            counted = rw (drop-back l i h g, ← q, eq-eqb k ENDPOINT (endpoint-kind c a), v .counted, add-one);
+            fits = word-taken (rw (ne-eqb k CONFIGURATION c, ne-eqb k ALTERNATE a));
+          }
+
+-- a configuration's word is no alternate's
+pub no-alternate : (k : ℕ) → k ≡ CONFIGURATION → k ≡ ALTERNATE → ⊥
+no-alternate k c a = let z : _≡_ {A = ℕ} 0 1 = sym c ∙ a in absurd (omega arith)
+
+-- All rules of the words.
+abbrev pub wordsFit : List ℕ → Bool
+wordsFit l = wordsOk l && (runsFit l && leb (interfaces l) 32)
+
+pub unfit : (l : List ℕ) → fit l ≡ false → wordsFit l ≡ false
+unfit l e = go (wordsOk l) (runsFit l) (leb (interfaces l) 32) e
+  where
+    go : (a b c : Bool) → (a && b) ≡ false → (a && (b && c)) ≡ false
+    go true b c f = rw f
+    go false b c f = refl
+
+pub fitting : (l : List ℕ) (count : ℕ) → fit l ≡ true → count ≡ interfaces l → wordsFit l ≡ leb count 32
+fitting l count f c = rw (and-left (wordsOk l) (runsFit l) f, and-right (wordsOk l) (runsFit l) f, c)
 
 pub empty-valid : (l : List ℕ) → length l ≡ 0 → validList l ≡ true
 unfolding validList beginsWithConfiguration wordsOk runsFit configurations interfaces
@@ -131,19 +155,6 @@ module _ (l : List ℕ) where
   pub long-refused : 256 < length l → validList l ≡ false
   unfolding validList
   long-refused h = rw (lt-leb (length l) 256 h)
-
-  pub unfit-refused : fit l ≡ false → validList l ≡ false
-  unfolding validList
-  unfit-refused e =
-      rw (
-        go (wordsOk l) (runsFit l) (leb (configurations l) 8 && leb (interfaces l) 32) e,
-        and-false (beginsWithConfiguration l),
-        and-false (leb (length l) 256),
-      )
-    where
-      go : (a b c : Bool) → (a && b) ≡ false → (a && (b && c)) ≡ false
-      go true b c f = rw f
-      go false b c f = refl
 
   pub many-refused : 8 < configurations l → validList l ≡ false
   unfolding validList
@@ -162,17 +173,13 @@ module _ (l : List ℕ) where
     headless-refused e =
         rw (begins l n, ← q, not-true (eqb k CONFIGURATION) e, and-false (leb (length l) 256))
 
-    pub valid-rest :
-        not (eqb k CONFIGURATION) ≡ false → length l ≤ 256 → fit l ≡ true → configurations l ≤ 8 →
-        validList l ≡ leb (interfaces l) 32
+    pub valid-rest : not (eqb k CONFIGURATION) ≡ false → length l ≤ 256 → configurations l ≤ 8 → validList l ≡ wordsFit l
     unfolding validList
-    valid-rest e h f m =
+    valid-rest e h m =
         rw (
           le-leb (length l) 256 h,
           begins l n,
           ← q,
           not-false (eqb k CONFIGURATION) e,
-          and-left (wordsOk l) (runsFit l) f,
-          and-right (wordsOk l) (runsFit l) f,
           le-leb (configurations l) 8 m,
         )

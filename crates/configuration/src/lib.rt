@@ -1,6 +1,7 @@
 // The configurations of a device as a list of descriptor words: which lists are valid, and lookup (device.rs of the original).
 ghost use mathlib.Core.Path.{_≡_};
 ghost use mathlib.Core.Bool.{_&&_};
+ghost use lib.Dec.{leb};
 ghost use lib.ListN.{drop};
 ghost use Rattle.configuration.specs.Lookup.{endpointRun, findEndpoints};
 ghost use Rattle.configuration.specs.Valid.{wordsOk, runsFit, configurations, interfaces, validList};
@@ -46,33 +47,6 @@ pub fn find_interface_endpoints(list: &[u32], interface: u8, alternate: u8) -> F
     Found::NotFound
 }
 
-// Whether each word is valid by itself and may be followed by as many endpoint words as it is: from the end of the list.
-fn words_fit(list: &[u32]) -> bool
-    ensures { λ r. ⌜ r ≡ (wordsOk (now (list .entry)) && runsFit (now (list .entry))) ⌝ }
-{
-    let mut run = 0usize;
-    let mut i = list.len();
-    while 0 < i {
-        i -= 1;
-        let w = list[i];
-        if !descriptor::word_ok(w) {
-            return false;
-        }
-        let kind = descriptor::word_kind(w);
-        if kind == descriptor::CONFIGURATION && run != 0 {
-            return false;
-        }
-        if kind == descriptor::ALTERNATE && 30 < run {
-            return false;
-        }
-        run += 1;
-        if kind != descriptor::ENDPOINT {
-            run = 0;
-        }
-    }
-    true
-}
-
 pub fn count_configurations(list: &[u32]) -> usize
     ensures { λ r. ⌜ r ≡ configurations (now (list .entry)) ⌝ }
 {
@@ -88,25 +62,41 @@ pub fn count_configurations(list: &[u32]) -> usize
     count
 }
 
-// The distinct interfaces, each counted at its last alternate word: from the end of the list, where it has no mark yet.
-fn count_interfaces(list: &[u32]) -> usize
-    ensures { λ r. ⌜ r ≡ interfaces (now (list .entry)) ⌝ }
+// The rules of the words, in a walk from the end of the list: the endpoint words that follow one are counted in run, and an
+// interface is counted at its last alternate word, where it has no mark yet.
+fn words_fit(list: &[u32]) -> bool
+    ensures { λ r. ⌜ r ≡ (wordsOk (now (list .entry)) && (runsFit (now (list .entry)) && leb (interfaces (now (list .entry))) 32)) ⌝ }
 {
     let mut marks = [false; 256];
-    let mut count = 0;
+    let mut count = 0usize;
+    let mut run = 0usize;
     let mut i = list.len();
     while 0 < i {
         i -= 1;
         let w = list[i];
-        if descriptor::word_kind(w) == descriptor::ALTERNATE {
+        if !descriptor::word_ok(w) {
+            return false;
+        }
+        let kind = descriptor::word_kind(w);
+        if kind == descriptor::CONFIGURATION {
+            if run != 0 {
+                return false;
+            }
+        } else if kind == descriptor::ALTERNATE {
+            if 30 < run {
+                return false;
+            }
+            run = 0;
             let interface = descriptor::interface_number(w) as usize;
             if !marks[interface] {
                 marks[interface] = true;
                 count += 1;
             }
+        } else {
+            run += 1;
         }
     }
-    count
+    count <= 32
 }
 
 // Whether a list of descriptor words is valid.
@@ -119,8 +109,8 @@ pub fn valid_list(list: &[u32]) -> bool
     if 256 < list.len() || descriptor::word_kind(list[0]) != descriptor::CONFIGURATION {
         return false;
     }
-    if !words_fit(list) || 8 < count_configurations(list) {
+    if 8 < count_configurations(list) {
         return false;
     }
-    count_interfaces(list) <= 32
+    words_fit(list)
 }

@@ -1,8 +1,7 @@
 use mathlib.Core.Path.{sym, _∙_}
 use mathlib.Core.Logic.{⊎-elim}
 use native.Mathlib.Omega.{arith}
-use borrow.Author.Tests.{ltb-true, ltb-false, not-true, not-false}
-use Rattle.configuration.proofs.Steps.{empty-valid, long-refused, headless-refused, unfit-refused, many-refused, valid-rest}
+use Rattle.configuration.proofs.Steps.{empty-valid, long-refused, headless-refused, many-refused, valid-rest}
 use borrow.Author.Needs.{needs}
 use Rattle.configuration.proofs.valid_list.Statement.{statement}
 use Rattle.configuration.proofs.valid_list.Tie as tie
@@ -19,20 +18,17 @@ word-kind-requires c κs = search needs
 returns-2 : tie.Need-returns-2
 returns-2 c = sym (⊎-elim (λ w. long-refused _ (w .taken)) (λ w. headless-refused _ (c .before .if1 .left) _ (w .2 .ensures) (w .3 .taken)) (c .if2 .came))
 
-words-fit-requires : tie.Need-words-fit-requires
-words-fit-requires c κs = search needs
-
 count-configurations-requires : tie.Need-count-configurations-requires
 count-configurations-requires c κs = search needs
 
 returns-3 : tie.Need-returns-3
-returns-3 c = sym (⊎-elim (λ w. unfit-refused _ (sym (c .before .words-fit .ensures) ∙ not-true (c .before .words-fit .result) (w .taken))) (λ w. many-refused (c .before .before .before .before .before .before .before .before .args .list .now) (omega (arith, ltb-true 8 (w .1 .result) (w .2 .taken), w .1 .ensures))) (c .if4 .came))
+returns-3 c = sym (many-refused (c .before .before .before .before .before .before .before .before .args .list .now) (omega (arith, c .before .count-configurations .ensures)))
 
-count-interfaces-requires : tie.Need-count-interfaces-requires
-count-interfaces-requires c κs = search needs
+words-fit-requires : tie.Need-words-fit-requires
+words-fit-requires c κs = search needs
 
 returns-4 : tie.Need-returns-4
-returns-4 c = sym (valid-rest (c .before .before .before .before .before .before .before .before .before .before .before .args .list .now) (c .before .before .before .before .before .before .before .before .before .if1 .left) (c .before .before .before .before .before .before .word-kind .result) (c .before .before .before .before .before .before .word-kind .ensures) (c .before .before .before .before .before .if3 .left) (c .before .before .before .before .before .before .before .before .if2 .left) (sym (c .before .before .before .before .words-fit .ensures) ∙ not-false (c .before .before .before .before .words-fit .result) (c .before .before .before .if4 .left)) (omega (arith, ltb-false 8 (c .before .before .count-configurations .result) (c .before .if5 .left), c .before .before .count-configurations .ensures)) ∙ rw (c .count-interfaces .ensures))
+returns-4 c = c .words-fit .ensures ∙ sym (valid-rest (c .before .before .before .before .before .before .before .before .before .args .list .now) (c .before .before .before .before .before .before .before .if1 .left) (c .before .before .before .before .word-kind .result) (c .before .before .before .before .word-kind .ensures) (c .before .before .before .if3 .left) (c .before .before .before .before .before .before .if2 .left) (omega (arith, c .before .before .count-configurations .ensures)))
 
 pub valid-list-spec : {M : Type 1} → statement M
 valid-list-spec =
@@ -42,8 +38,7 @@ valid-list-spec =
     shared-slice-read-word-kind
     word-kind-requires
     returns-2
-    words-fit-requires
     count-configurations-requires
     returns-3
-    count-interfaces-requires
+    words-fit-requires
     returns-4)
