@@ -1,9 +1,11 @@
-use Prim.Native.Nat.{_≤_, _-_}
-use mathlib.Core.Path.{_≡_, ap, sym, _∙_}
 use borrow.Author.Needs.{needs}
+use Prim.Native.Nat.{ℕ, _≤_, _-_}
+use mathlib.Core.Path.{_≡_, ap, sym, _∙_}
+use mathlib.Core.Logic.{inl, inr, ⊎-elim}
+use lib.Dec.{eqb}
 use lib.ListN.{length, drop, drop-of-length-le}
-use Rattle.configuration.proofs.Next.{drop-next}
 use Rattle.configuration.specs.Lookup.{findFrom, findEndpoints}
+use Rattle.configuration.proofs.Steps.{find-stop, find-go}
 use Rattle.configuration.proofs.find_interface_endpoints.Statement.{statement}
 use Rattle.configuration.proofs.find_interface_endpoints.Tie as tie
 
@@ -15,34 +17,38 @@ abbrev μ-loop : tie.MeasureT-loop
 μ-loop list interface alternate start₀ start = length list - start
 
 loop-holds : tie.Need-loop-holds Inv-loop μ-loop
-unfolding findEndpoints findFrom
+unfolding findEndpoints
 loop-holds c = search needs
 
-mul-is-alternate : tie.Need-mul-is-alternate Inv-loop μ-loop
-mul-is-alternate c = search needs
+mul-w : tie.Need-mul-w Inv-loop μ-loop
+mul-w c = search needs
 
-shared-slice-read-is-alternate : tie.Need-shared-slice-read-is-alternate Inv-loop μ-loop
-shared-slice-read-is-alternate c = search needs
-
-is-alternate-requires : tie.Need-is-alternate-requires Inv-loop μ-loop
-is-alternate-requires c κs = search needs
+shared-slice-read-w : tie.Need-shared-slice-read-w Inv-loop μ-loop
+shared-slice-read-w c = search needs
 
 add-start : tie.Need-add-start Inv-loop μ-loop
 add-start c = search needs
+
+word-kind-requires : tie.Need-word-kind-requires Inv-loop μ-loop
+word-kind-requires c κs = search needs
+
+interface-number-requires : tie.Need-interface-number-requires Inv-loop μ-loop
+interface-number-requires c κs = search needs
+
+alternate-setting-requires : tie.Need-alternate-setting-requires Inv-loop μ-loop
+alternate-setting-requires c κs = search needs
 
 endpoint-run-requires : tie.Need-endpoint-run-requires Inv-loop μ-loop
 endpoint-run-requires c κs = search needs
 
 returns : tie.Need-returns Inv-loop μ-loop
-unfolding findFrom
-returns c = sym (c .before .before .before .before .before .loop .inv .1 ∙ ap (findFrom _ _ _) (drop-next _ _ (c .before .before .before .before .loop-test .taken)) ∙ rw (← c .before .before .is-alternate .ensures, c .before .if1 .taken, c .endpoint-run .ensures))
+returns c = let a = c .before .before .before .before .before .before .before .before .before .before .before .args in sym (c .before .before .before .before .before .before .before .before .before .loop .inv .1 ∙ find-stop (a .interface) (a .alternate) (c .before .before .before .before .before .before .before .before .before .loop .start) (a .list .now) (c .before .before .before .before .before .before .before .before .loop-test .taken) (c .before .before .before .before .before .before .word-kind .result) (c .before .before .before .before .before .before .word-kind .ensures) (c .before .before .before .before .before .if1 .taken) (ap (λ (x : ℕ). eqb x (a .interface)) (sym (c .before .before .before .before .interface-number .ensures)) ∙ c .before .before .before .if2 .taken) (ap (λ (x : ℕ). eqb x (a .alternate)) (sym (c .before .before .alternate-setting .ensures)) ∙ c .before .if3 .taken) ∙ rw (c .endpoint-run .ensures))
 
 loop-less : tie.Need-loop-less Inv-loop μ-loop
 loop-less c = search needs
 
 loop-again : tie.Need-loop-again Inv-loop μ-loop
-unfolding findFrom
-loop-again c = (search needs, c .before .before .before .before .loop .inv .1 ∙ ap (findFrom _ _ _) (drop-next _ _ (c .before .before .before .loop-test .taken)) ∙ rw (← c .before .is-alternate .ensures, c .if1 .left))
+loop-again c = let a = c .before .before .before .before .before .before .args in (search needs, c .before .before .before .before .loop .inv .1 ∙ find-go (a .interface) (a .alternate) (c .before .before .before .before .loop .start) (a .list .now) (c .before .before .before .loop-test .taken) (c .before .word-kind .result) (c .before .word-kind .ensures) (⊎-elim (λ w. inl (ap (λ (x : ℕ). eqb x (a .alternate)) (sym (w .3 .ensures)) ∙ w .4 .left)) (⊎-elim (λ w. inr (inl (ap (λ (x : ℕ). eqb x (a .interface)) (sym (w .1 .ensures)) ∙ w .2 .left))) (λ w. inr (inr (w .left)))) (c .if1 .came)))
 
 returns-2 : tie.Need-returns-2 Inv-loop μ-loop
 unfolding findFrom
@@ -55,10 +61,12 @@ find-interface-endpoints-spec =
     Inv-loop
     μ-loop
     loop-holds
-    mul-is-alternate
-    shared-slice-read-is-alternate
-    is-alternate-requires
+    mul-w
+    shared-slice-read-w
     add-start
+    word-kind-requires
+    interface-number-requires
+    alternate-setting-requires
     endpoint-run-requires
     returns
     loop-less
