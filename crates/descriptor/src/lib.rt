@@ -1,8 +1,7 @@
 // Descriptor words, and the Dci of an endpoint's address (device.rs and endpoint.rs of the original).
 use def::Dci;
 ghost use mathlib.Core.Path.{_≡_};
-ghost use Prim.Native.Nat.{_<_};
-ghost use Rattle.descriptor.specs.Word.{kind, configurationValue, interfaceNumber, alternateSetting, directionIn, endpointNumber, typeNumber, transferType, endpointDescriptor, endpointOk, wordOk};
+ghost use Rattle.descriptor.specs.Word.{kind, configurationValue, interfaceNumber, alternateSetting, transferType, endpointDescriptor, wordOk};
 ghost use Rattle.descriptor.specs.Endpoint.{dciOf};
 
 pub enum TransferType {
@@ -48,6 +47,8 @@ const PACKETS_LSB: u32 = 0x400;
 
 const INTERVAL_LSB: u32 = 0x4;
 
+const IN_15: u32 = 31;
+
 pub fn word_kind(w: u32) -> u8
     ensures { λ r. ⌜ r ≡ kind w ⌝ }
 {
@@ -72,37 +73,15 @@ pub fn alternate_setting(w: u32) -> u8
     (w / SETTING_LSB % 256) as u8
 }
 
-fn direction_in(w: u32) -> u8
-    ensures { λ r. ⌜ (r ≡ directionIn w) × (r < 2) ⌝ }
-{
-    (w / IN_LSB % 2) as u8
-}
-
-fn endpoint_number(w: u32) -> u8
-    ensures { λ r. ⌜ (r ≡ endpointNumber w) × (r < 16) ⌝ }
-{
-    (w / NUMBER_LSB % 16) as u8
-}
-
-fn type_number(w: u32) -> u8
-    ensures { λ r. ⌜ r ≡ typeNumber w ⌝ }
-{
-    (w / TYPE_LSB % 4) as u8
-}
-
-fn transfer_type(number: u8) -> TransferType
+fn transfer_type(number: u32) -> TransferType
     ensures { λ r. ⌜ r ≡ transferType number ⌝ }
 {
-    if number == 1 {
-        return TransferType::Isochronous;
+    match number {
+        1 => TransferType::Isochronous,
+        2 => TransferType::Bulk,
+        3 => TransferType::Interrupt,
+        _ => TransferType::Control,
     }
-    if number == 2 {
-        return TransferType::Bulk;
-    }
-    if number == 3 {
-        return TransferType::Interrupt;
-    }
-    TransferType::Control
 }
 
 // An endpoint word taken apart.
@@ -110,47 +89,41 @@ pub fn endpoint_descriptor(w: u32) -> EndpointDescriptor
     ensures { λ r. ⌜ r ≡ endpointDescriptor w ⌝ }
 {
     EndpointDescriptor {
-        address: direction_in(w) * 128 + endpoint_number(w),
-        transfer_type: transfer_type(type_number(w)),
+        address: (w / IN_LSB % 2 * 128 + w / NUMBER_LSB % 16) as u8,
+        transfer_type: transfer_type(w / TYPE_LSB % 4),
         max_packet_size: (w / PACKET_SIZE_LSB % 2048) as u16,
         packets_per_microframe: (w / PACKETS_LSB % 4) as u8,
         interval: (w / INTERVAL_LSB % 256) as u8,
     }
 }
 
-fn endpoint_ok(w: u32) -> bool
-    ensures { λ r. ⌜ r ≡ endpointOk w ⌝ }
-{
-    let number = endpoint_number(w);
-    if number == 0 {
-        return false;
-    }
-    if type_number(w) == 0 {
-        return false;
-    }
-    if direction_in(w) == 1 {
-        return number != 15;
-    }
-    true
-}
-
 // Whether a word may stand in a valid list.
 pub fn word_ok(w: u32) -> bool
     ensures { λ r. ⌜ r ≡ wordOk w ⌝ }
 {
-    let k = word_kind(w);
-    if k == CONFIGURATION {
-        return w % VALUE_LSB == 0;
-    }
-    if k == ALTERNATE {
-        return w % SETTING_LSB == 0;
-    }
-    if k == ENDPOINT {
-        if endpoint_ok(w) {
-            return w % INTERVAL_LSB == 0;
+    match word_kind(w) {
+        CONFIGURATION => {
+            return w % VALUE_LSB == 0;
+        }
+        ALTERNATE => {
+            return w % SETTING_LSB == 0;
+        }
+        ENDPOINT => {}
+        _ => {
+            return false;
         }
     }
-    false
+    if w / NUMBER_LSB % 16 == 0 {
+        return false;
+    }
+    if w / TYPE_LSB % 4 == 0 {
+        return false;
+    }
+    // the bit of IN stands before the number
+    if w / NUMBER_LSB % 32 == IN_15 {
+        return false;
+    }
+    w % INTERVAL_LSB == 0
 }
 
 pub fn endpoint_address_dci(address: u8) -> Dci

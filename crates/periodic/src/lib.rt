@@ -1,47 +1,18 @@
 // What an endpoint's descriptor says of its type, interval, burst and payload (device.rs and endpoint.rs of the original).
 use descriptor::TransferType;
 ghost use mathlib.Core.Path.{_≡_};
-ghost use Prim.Native.Nat.{max};
-ghost use Rattle.descriptor.specs.Endpoint.{endpointType, periodicInterval, xhciInterval, isPeriodic, periodicBurst, esitPayload};
+ghost use Rattle.descriptor.specs.Endpoint.{endpointType, xhciInterval, isPeriodic, periodicBurst, esitPayload};
 
 // EP Type of an endpoint's context.
 pub fn endpoint_type(t: TransferType, address: u8) -> u8
     ensures { λ r. ⌜ r ≡ endpointType t address ⌝ }
 {
+    let input = 4 * (address / 128);
     match t {
         TransferType::Control => 4,
-        TransferType::Isochronous => 1 + 4 * (address / 128),
-        TransferType::Bulk => 2 + 4 * (address / 128),
-        TransferType::Interrupt => 3 + 4 * (address / 128),
-    }
-}
-
-fn held_to_one(byte: u8) -> u8
-    ensures { λ r. ⌜ r ≡ max byte 1 ⌝ }
-{
-    if byte < 1 { 1 } else { byte }
-}
-
-// The byte is an exponent at speeds 3 to 5; at the others its `ilog2` comes from the count of leading zeros.
-fn periodic_interval(byte: u8, speed: u8) -> u8
-    ensures { λ r. ⌜ r ≡ periodicInterval byte speed ⌝ }
-{
-    let held = held_to_one(byte);
-    match speed {
-        def::HIGH..=def::SUPER_PLUS => if 16 < held { 15 } else { held - 1 },
-        _ => (10 - u8::leading_zeros(held)) as u8,
-    }
-}
-
-// Interval of an endpoint's context, from bInterval.
-pub fn calculate_xhci_interval(byte: u8, t: TransferType, port_speed: u8) -> u8
-    ensures { λ r. ⌜ r ≡ xhciInterval byte t «port_speed» ⌝ }
-{
-    match t {
-        TransferType::Control => byte,
-        TransferType::Isochronous => periodic_interval(byte, port_speed),
-        TransferType::Bulk => byte,
-        TransferType::Interrupt => periodic_interval(byte, port_speed),
+        TransferType::Isochronous => 1 + input,
+        TransferType::Bulk => 2 + input,
+        TransferType::Interrupt => 3 + input,
     }
 }
 
@@ -49,10 +20,23 @@ pub fn is_periodic(t: TransferType) -> bool
     ensures { λ r. ⌜ r ≡ isPeriodic t ⌝ }
 {
     match t {
-        TransferType::Control => false,
-        TransferType::Isochronous => true,
-        TransferType::Bulk => false,
-        TransferType::Interrupt => true,
+        TransferType::Isochronous | TransferType::Interrupt => true,
+        _ => false,
+    }
+}
+
+// Interval of an endpoint's context, from bInterval. Of a periodic endpoint the byte is an exponent at speeds 3 to 5;
+// at the others its `ilog2` comes from the count of leading zeros.
+pub fn calculate_xhci_interval(byte: u8, t: TransferType, port_speed: u8) -> u8
+    ensures { λ r. ⌜ r ≡ xhciInterval byte t «port_speed» ⌝ }
+{
+    if !is_periodic(t) {
+        return byte;
+    }
+    let held = if byte < 1 { 1 } else { byte };
+    match port_speed {
+        def::HIGH..=def::SUPER_PLUS => if 16 < held { 15 } else { held - 1 },
+        _ => (10 - u8::leading_zeros(held)) as u8,
     }
 }
 

@@ -1,50 +1,34 @@
-use Rattle.descriptor.specs.Word.{endpointDescriptor}
+use Rattle.descriptor.specs.Word.{directionIn, endpointNumber, typeNumber, endpointDescriptor}
 use borrow.Author.Needs.{needs}
 use Rattle.descriptor.proofs.endpoint_descriptor.Statement.{statement}
 use Rattle.descriptor.proofs.endpoint_descriptor.Tie as tie
 
-direction-in-requires : tie.Need-direction-in-requires
-direction-in-requires c κs = search needs
+mul-t4 : tie.Need-mul-t4
+mul-t4 c = search needs
 
-mul-t3 : tie.Need-mul-t3
-mul-t3 c = search needs
+add-t7 : tie.Need-add-t7
+add-t7 c = search needs
 
-endpoint-number-requires : tie.Need-endpoint-number-requires
-endpoint-number-requires c κs = search needs
-
-add-t5 : tie.Need-add-t5
-add-t5 c = search needs
-
-type-number-requires : tie.Need-type-number-requires
-type-number-requires c κs = search needs
+cast-t8 : tie.Need-cast-t8
+cast-t8 c = search needs
 
 transfer-type-requires : tie.Need-transfer-type-requires
 transfer-type-requires c κs = search needs
 
-cast-t10 : tie.Need-cast-t10
-cast-t10 c = search needs
+cast-t14 : tie.Need-cast-t14
+cast-t14 c = search needs
 
-cast-t13 : tie.Need-cast-t13
-cast-t13 c = search needs
+cast-t17 : tie.Need-cast-t17
+cast-t17 c = search needs
 
-cast-t16 : tie.Need-cast-t16
-cast-t16 c = search needs
+cast-t20 : tie.Need-cast-t20
+cast-t20 c = search needs
 
 returns : tie.Need-returns
-unfolding endpointDescriptor
-returns c = rw (c .transfer-type .ensures, c .before .type-number .ensures, c .before .before .endpoint-number .ensures .0, c .before .before .before .direction-in .ensures .0)
+unfolding endpointDescriptor directionIn endpointNumber typeNumber
+returns c = rw (c .transfer-type .ensures)
 
 pub endpoint-descriptor-spec : {M : Type 1} → statement M
 endpoint-descriptor-spec =
     tie.close
-    (tie.spec
-    direction-in-requires
-    mul-t3
-    endpoint-number-requires
-    add-t5
-    type-number-requires
-    transfer-type-requires
-    cast-t10
-    cast-t13
-    cast-t16
-    returns)
+    (tie.spec mul-t4 add-t7 cast-t8 transfer-type-requires cast-t14 cast-t17 cast-t20 returns)

@@ -1,53 +1,84 @@
-use Rattle.descriptor.specs.Endpoint.{xhciInterval}
+use Prim.Native.Nat.{ℕ, _-_, _≤_, _<_, min, max}
+use mathlib.Core.Path.{_≡_, refl, sym, ap, _∙_}
+use mathlib.Core.Logic.{_⊎_, ⊎-elim, inl, inr}
+use mathlib.Core.Bool.{true, false}
+use native.Mathlib.Nat.{le-trans}
+use native.Mathlib.Omega.{arith}
+use borrow.Author.Tests.{not-true, not-false}
+use lib.Count.{leadingZeros, leading-le}
+use Rattle.def.specs.Speed.{HIGH, SUPER-PLUS}
+use Rattle.descriptor.proofs.Laws.{interval-exponent, interval-zeros}
+use Rattle.descriptor.specs.Endpoint.{periodicInterval, xhciInterval, isPeriodic}
+use Rattle.descriptor.specs.declared.TransferType.{TransferType}
+use Rattle.descriptor.specs.declared.TransferType.the-variants.{Control, Isochronous, Bulk, Interrupt}
 use borrow.Author.Needs.{needs}
 use Rattle.periodic.proofs.calculate_xhci_interval.Statement.{statement}
 use Rattle.periodic.proofs.calculate_xhci_interval.Tie as tie
 
-enum-told : tie.Need-enum-told
-enum-told c = search needs
+module _ (byte speed : ℕ) where
+  plain : (t : TransferType) → isPeriodic t ≡ false → byte ≡ xhciInterval byte t speed
+  unfolding isPeriodic xhciInterval
+  plain Control e = refl
+  plain Isochronous e = cc
+  plain Bulk e = refl
+  plain Interrupt e = cc
 
-enum-told-2 : tie.Need-enum-told-2
-enum-told-2 c = search needs
+  timed : (t : TransferType) → isPeriodic t ≡ true → periodicInterval byte speed ≡ xhciInterval byte t speed
+  unfolding isPeriodic xhciInterval
+  timed Control e = cc
+  timed Isochronous e = refl
+  timed Bulk e = cc
+  timed Interrupt e = refl
 
-periodic-interval-requires : tie.Need-periodic-interval-requires
-periodic-interval-requires c κs = search needs
+  module _ (t : TransferType) (held : ℕ) (p : isPeriodic t ≡ true) (h : held ≡ max byte 1) where
+    exponent : HIGH ≤ speed → speed ≤ SUPER-PLUS → min held 16 - 1 ≡ xhciInterval byte t speed
+    exponent low high = rw h (sym (interval-exponent byte speed low high)) ∙ timed t p
 
-enum-told-3 : tie.Need-enum-told-3
-enum-told-3 c = search needs
+    zeros : byte < 256 → (speed < HIGH) ⊎ (SUPER-PLUS < speed) → 10 - leadingZeros 8 held ≡ xhciInterval byte t speed
+    zeros b s = rw h (sym (interval-zeros byte speed b s)) ∙ timed t p
 
-enum-told-4 : tie.Need-enum-told-4
-enum-told-4 c = search needs
+-- The byte held to at least one.
+held-is : (c : tie.Joined2) → c .if2 .held ≡ max (c .before .before .before .args .byte) 1
+held-is c =
+    let byte = c .before .before .before .args .byte in
+    ⊎-elim
+    (λ w. let one : 1 ≡ max byte 1 = omega arith in w .1 ∙ one)
+    (λ w. let same : byte ≡ max byte 1 = omega arith in w .1 ∙ same)
+    (c .if2 .came)
 
-periodic-interval-requires-2 : tie.Need-periodic-interval-requires-2
-periodic-interval-requires-2 c κs = search needs
+is-periodic-requires : tie.Need-is-periodic-requires
+is-periodic-requires c κs = search needs
 
 returns : tie.Need-returns
-unfolding xhciInterval
-returns c = rw (c .enum-told .given .1)
+returns c = plain _ _ _ (sym (c .before .is-periodic .ensures) ∙ not-true (c .before .is-periodic .result) (c .if1 .taken))
+
+sub-result : tie.Need-sub-result
+sub-result c = let h = held-is (c .before .before .before .before) in omega (arith, h)
+
+sub-result-2 : tie.Need-sub-result-2
+sub-result-2 c = le-trans (leading-le 8 _) (omega arith)
+
+cast-result : tie.Need-cast-result
+cast-result c = search needs
 
 returns-2 : tie.Need-returns-2
-unfolding xhciInterval
-returns-2 c = rw (c .periodic-interval .ensures, c .before .enum-told2 .given .1)
+returns-2 c = let held = c .before .before .before .if2 .held in let full : 15 ≡ min held 16 - 1 = omega arith in full ∙ exponent _ _ _ held (sym (c .before .before .before .before .before .is-periodic .ensures) ∙ not-false (c .before .before .before .before .before .is-periodic .result) (c .before .before .before .before .if1 .left)) (held-is (c .before .before .before)) (c .before .before .if3 .left) (omega arith)
 
 returns-3 : tie.Need-returns-3
-unfolding xhciInterval
-returns-3 c = rw (c .enum-told3 .given .1)
+returns-3 c = let held = c .before .before .before .before .if2 .held in let less : held - 1 ≡ min held 16 - 1 = omega arith in less ∙ exponent _ _ _ held (sym (c .before .before .before .before .before .before .is-periodic .ensures) ∙ not-false (c .before .before .before .before .before .before .is-periodic .result) (c .before .before .before .before .before .if1 .left)) (held-is (c .before .before .before .before)) (c .before .before .before .if3 .left) (omega arith)
 
 returns-4 : tie.Need-returns-4
-unfolding xhciInterval
-returns-4 c = rw (c .periodic-interval2 .ensures, c .before .enum-told4 .given .1)
+returns-4 c = zeros _ _ _ (c .before .if2 .held) (sym (c .before .before .before .is-periodic .ensures) ∙ not-false (c .before .before .before .is-periodic .result) (c .before .before .if1 .left)) (held-is (c .before)) (omega arith) (⊎-elim (λ w. inl (w .taken)) (λ w. inr (w .1 .left)) (c .if3 .came))
 
 pub calculate-xhci-interval-spec : {M : Type 1} → statement M
 calculate-xhci-interval-spec =
     tie.close
     (tie.spec
-    enum-told
-    enum-told-2
-    periodic-interval-requires
-    enum-told-3
-    enum-told-4
-    periodic-interval-requires-2
+    is-periodic-requires
     returns
+    sub-result
+    sub-result-2
+    cast-result
     returns-2
     returns-3
     returns-4)

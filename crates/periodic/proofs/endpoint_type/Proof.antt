@@ -3,14 +3,14 @@ use borrow.Author.Needs.{needs}
 use Rattle.periodic.proofs.endpoint_type.Statement.{statement}
 use Rattle.periodic.proofs.endpoint_type.Tie as tie
 
+mul-input : tie.Need-mul-input
+mul-input c = search needs
+
 enum-told : tie.Need-enum-told
 enum-told c = search needs
 
 enum-told-2 : tie.Need-enum-told-2
 enum-told-2 c = search needs
-
-mul-result : tie.Need-mul-result
-mul-result c = search needs
 
 add-result : tie.Need-add-result
 add-result c = search needs
@@ -18,17 +18,11 @@ add-result c = search needs
 enum-told-3 : tie.Need-enum-told-3
 enum-told-3 c = search needs
 
-mul-result-2 : tie.Need-mul-result-2
-mul-result-2 c = search needs
-
 add-result-2 : tie.Need-add-result-2
 add-result-2 c = search needs
 
 enum-told-4 : tie.Need-enum-told-4
 enum-told-4 c = search needs
-
-mul-result-3 : tie.Need-mul-result-3
-mul-result-3 c = search needs
 
 add-result-3 : tie.Need-add-result-3
 add-result-3 c = search needs
@@ -53,15 +47,13 @@ pub endpoint-type-spec : {M : Type 1} → statement M
 endpoint-type-spec =
     tie.close
     (tie.spec
+    mul-input
     enum-told
     enum-told-2
-    mul-result
     add-result
     enum-told-3
-    mul-result-2
     add-result-2
     enum-told-4
-    mul-result-3
     add-result-3
     returns
     returns-2
