@@ -1,3 +1,4 @@
 pub mod Laws
 pub mod Controlled
+mod Exits
 pub mod Steps

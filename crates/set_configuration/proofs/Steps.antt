@@ -9,12 +9,16 @@ use lib.Seq.{drop-drop, getD-drop}
 use Rattle.block.specs.Fields.{DROP-FLAG, INTERFACE-NUMBER, ALTERNATE-SETTING, CONTEXT-ENTRIES}
 use Rattle.block.specs.Setting.{Setting, _:=_}
 use Rattle.block.specs.Blocks.{changed, wordDci, dropFlags}
-use Rattle.transfer.specs.Routes.{Queue}
+use Rattle.transfer.specs.Routes.{Queue, queues}
 use Rattle.context.specs.Place.{CONTROL, SLOT, inBlock, written}
 use Rattle.context.specs.Steps.{addAll, highestDci, wordDcis, contextEntries, configureWrites}
 use Rattle.context.proofs.Laws.{written-append, in-block-append}
 use Rattle.context.proofs.Steps.{highest-least, configure-steps}
+use Rattle.phase.specs.Arrays.{dcisIn, ringsIn, queuesIn}
+use Rattle.phase.proofs.Laws.{dcis-in}
 use Rattle.settings.specs.Held.{heldIn, settingWords, heldWords}
+use Rattle.set_configuration.specs.declared.run.SettingsArgs.{SettingsArgs}
+use Rattle.set_configuration.specs.SetConfiguration.{settingsOf, dropContext, restoreContext}
 
 -- Words of which some come first.
 
@@ -49,6 +53,12 @@ entries-least ds x = omega (arith, highest-least (wordDcis x))
 -- The words of the held settings from number i on.
 abbrev pub wordsFrom : List ℕ → List ℕ → List ℕ → ℕ → ℕ → List ℕ
 wordsFrom list interfaces alternates n i = heldWords list (heldIn (n - i) (drop i interfaces) (drop i alternates))
+
+-- none added yet
+pub add-start : (list interfaces alternates : List ℕ) (n s speed : ℕ) (qs : List Queue) (ctx : List ℕ) →
+    written s (addAll speed qs (heldWords list (heldIn n interfaces alternates))) ctx
+    ≡ written s (addAll speed qs (wordsFrom list interfaces alternates n 0)) ctx
+add-start list interfaces alternates n s speed qs ctx = rw sub-zero
 
 -- none compared yet
 pub entries-start : (list interfaces alternates : List ℕ) (n m : ℕ) (ds : List ℕ) → m ≡ contextEntries ds [] →
@@ -85,12 +95,19 @@ module _ (list interfaces alternates : List ℕ) (n i : ℕ) where
     unfolding rest next
     add-next s speed qs ctx ctx′ e = rw (held-next h, add-all-append, written-append, e, ew)
 
-    -- compared
-    pub entries-next : (ds : List ℕ) (m m′ : ℕ) → m′ ≡ max m (contextEntries ds words) →
+    -- compared: it has more entries
+    pub entries-more : (ds : List ℕ) (m m′ : ℕ) → m′ ≡ contextEntries ds words → m < m′ →
         max m (contextEntries ds (wordsFrom list interfaces alternates n i))
         ≡ max m′ (contextEntries ds (wordsFrom list interfaces alternates n (i + 1)))
     unfolding rest next
-    entries-next ds m m′ e = rw (held-next h, ← ew) (omega (arith, entries-append ds words (rest (i + 1))))
+    entries-more ds m m′ e l = rw (held-next h, ← ew) (omega (arith, entries-append ds words (rest (i + 1))))
+
+    -- or not
+    pub entries-same : (ds : List ℕ) (m m′ : ℕ) → m′ ≡ contextEntries ds words → m′ ≤ m →
+        max m (contextEntries ds (wordsFrom list interfaces alternates n i))
+        ≡ max m (contextEntries ds (wordsFrom list interfaces alternates n (i + 1)))
+    unfolding rest next
+    entries-same ds m m′ e l = rw (held-next h, ← ew) (omega (arith, entries-append ds words (rest (i + 1))))
 
   module _ (h : n ≤ i) where
     held-end : rest i ≡ []
@@ -98,19 +115,19 @@ module _ (list interfaces alternates : List ℕ) (n i : ℕ) where
     held-end = let e : n - i ≡ 0 = omega arith in rw e
 
     -- all settings' words dropped
-    pub drop-end : (s : ℕ) (ctx : List ℕ) →
+    drop-end : (s : ℕ) (ctx : List ℕ) →
         written s (inBlock CONTROL (dropFlags (wordsFrom list interfaces alternates n i))) ctx ≡ ctx
     unfolding rest written inBlock dropFlags
     drop-end s ctx = rw held-end
 
     -- added
-    pub add-end : (s speed : ℕ) (qs : List Queue) (ctx : List ℕ) →
+    add-end : (s speed : ℕ) (qs : List Queue) (ctx : List ℕ) →
         written s (addAll speed qs (wordsFrom list interfaces alternates n i)) ctx ≡ ctx
     unfolding rest written addAll
     add-end s speed qs ctx = rw held-end
 
     -- compared
-    pub entries-end : (ds : List ℕ) (m : ℕ) → contextEntries ds [] ≤ m →
+    entries-end : (ds : List ℕ) (m : ℕ) → contextEntries ds [] ≤ m →
         max m (contextEntries ds (wordsFrom list interfaces alternates n i)) ≡ m
     unfolding rest
     entries-end ds m l = rw held-end (omega arith)
@@ -125,7 +142,7 @@ none-dropped s ctx = refl
 
 module _ (s speed : ℕ) (words dcis ctx : List ℕ) where
   -- the steps of a Configure for no interface that only drops
-  pub drop-steps :
+  drop-steps :
       written s (configureWrites speed 0 0 words [] [] dcis) ctx
       ≡ written s (inBlock SLOT ((CONTEXT-ENTRIES := contextEntries dcis []) ∷ []))
       (written s (inBlock CONTROL (dropFlags words))
@@ -133,9 +150,39 @@ module _ (s speed : ℕ) (words dcis ctx : List ℕ) where
   drop-steps = configure-steps s speed 0 0 words [] [] dcis ctx ∙ rw none-added
 
   -- and of one that only adds
-  pub restore-steps : (qs : List Queue) →
+  restore-steps : (qs : List Queue) →
       written s (configureWrites speed 0 0 [] words qs dcis) ctx
       ≡ written s (inBlock SLOT ((CONTEXT-ENTRIES := contextEntries dcis words) ∷ []))
       (written s (addAll speed qs words)
       (written s (inBlock CONTROL (changed ++ ((INTERFACE-NUMBER := 0) ∷ (ALTERNATE-SETTING := 0) ∷ []))) ctx))
   restore-steps qs = configure-steps s speed 0 0 [] words qs dcis ctx ∙ rw none-dropped
+
+-- The context of a Configure, where the held settings' words are dropped or added one setting after the other.
+module _
+    (a : SettingsArgs) (list ctx begun done left : List ℕ) (i entries : ℕ) (h : a .held ≤ i)
+    (begins :
+    begun
+    ≡ written (a .spacing) (inBlock CONTROL (changed ++ ((INTERFACE-NUMBER := 0) ∷ (ALTERNATE-SETTING := 0) ∷ []))) ctx)
+    (finishes : left ≡ written (a .spacing) (inBlock SLOT ((CONTEXT-ENTRIES := entries) ∷ [])) done) where
+  -- all dropped
+  pub dropped :
+      written (a .spacing) (inBlock CONTROL (dropFlags (heldWords list (heldIn (a .held) (a .interfaces) (a .alternates))))) begun
+      ≡ written (a .spacing) (inBlock CONTROL (dropFlags (wordsFrom list (a .interfaces) (a .alternates) (a .held) i))) done →
+      entries ≡ contextEntries (dcisIn (a .old)) [] → left ≡ dropContext (settingsOf a list) ctx
+  unfolding dropContext
+  dropped d e =
+      let all = d ∙ drop-end list (a .interfaces) (a .alternates) (a .held) i h (a .spacing) done in
+      rw (drop-steps, dcis-in, ← begins, all, ← e) finishes
+
+  -- all added again
+  pub added : (ds rs : List ℕ) →
+      written (a .spacing) (addAll (a .speed) (queues ds rs) (heldWords list (heldIn (a .held) (a .interfaces) (a .alternates)))) begun
+      ≡ written (a .spacing) (addAll (a .speed) (queues ds rs) (wordsFrom list (a .interfaces) (a .alternates) (a .held) i)) done →
+      contextEntries ds (heldWords list (heldIn (a .held) (a .interfaces) (a .alternates)))
+      ≡ max entries (contextEntries ds (wordsFrom list (a .interfaces) (a .alternates) (a .held) i)) →
+      contextEntries ds [] ≤ entries → ds ≡ dcisIn (a .old) → rs ≡ ringsIn (a .old) → left ≡ restoreContext (settingsOf a list) ctx
+  unfolding restoreContext queuesIn
+  added ds rs w e m d r =
+      let all = w ∙ add-end list (a .interfaces) (a .alternates) (a .held) i h (a .spacing) (a .speed) (queues ds rs) done in
+      let most = e ∙ entries-end list (a .interfaces) (a .alternates) (a .held) i h ds entries m in
+      rw (restore-steps, dcis-in, ← d, ← r, ← begins, all, most) finishes

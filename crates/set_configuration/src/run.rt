@@ -11,9 +11,11 @@ ghost use mathlib.Core.Path.{_≡_};
 ghost use mathlib.Core.List.{List};
 ghost use Prim.Native.Nat.{ℕ, _+_, _*_, _≤_};
 ghost use lib.ListN.{length};
-ghost use Rattle.command.specs.Course.{played};
+ghost use Rattle.answer.specs.declared.Answer.the-variants as answer;
+ghost use Rattle.command.specs.Course.{onSent, played};
 ghost use Rattle.phase.specs.Arrays.{leaves, Room};
-ghost use Rattle.set_configuration.specs.SetConfiguration.{settingsOf, setEvaluate, setPublish, setRestored, setRestore, setSwitch, setResume, setConfigure, setCourse};
+ghost use Rattle.set_configuration.specs.Parts.{resumed};
+ghost use Rattle.set_configuration.specs.SetConfiguration.{settingsOf, setPublish, setRestore, setConfigure, setCourse};
 
 // The value asked for, the held settings, and their endpoints, which are all that the record has.
 pub struct SettingsArgs {
@@ -52,6 +54,7 @@ pub fn run_set_configuration(
     }
 }
 
+// The endpoints are dropped, and the device is switched.
 fn configure(
     ctx: &mut [u8],
     routes: &mut [u64],
@@ -67,48 +70,68 @@ fn configure(
     ensures { λ r. ⌜ leaves r (now (ctx .exit)) (now (routes .exit)) (now (log .exit)) ≡ played (now (outcomes .entry)) n (setConfigure (settingsOf a (now (list .entry))) (now (ctx .entry)) (now (routes .entry))) (now (log .entry)) ⌝ }
 {
     held::prepare_drop(ctx, a, list);
-    let s = command::send(log, outcomes, n, Command::Configure);
+    let dropped = command::send(log, outcomes, n, Command::Configure);
+    let next = n + 1;
+    match dropped {
+        Sent::Done => {}
+        Sent::Failed(code) => {
+            return resume(
+                log,
+                outcomes,
+                next,
+                a.old,
+                Answer::Failed(code),
+                Answer::Failed(code),
+            );
+        }
+        Sent::Cut => {
+            return phase::stays(Answer::Cut, next, 0);
+        }
+    }
+    let switched = command::send(log, outcomes, next, Command::SetConfiguration(a.value));
+    let last = next + 1;
+    match switched {
+        Sent::Done => {}
+        Sent::Failed(code) => {
+            return restore(ctx, log, outcomes, last, a, list, code);
+        }
+        Sent::Cut => {
+            return phase::stays(Answer::Cut, last, 0);
+        }
+    }
+    publish(ctx, routes, log, outcomes, last, a)
+}
+
+// The answer by an outcome; a cut command cuts the call.
+fn answer_after(s: Sent, done: Answer, failed: Answer) -> Answer
+    ensures { λ r. ⌜ r ≡ onSent s done (λ code. failed) answer.Cut ⌝ }
+{
     match s {
-        Sent::Done => switch(ctx, routes, log, outcomes, n + 1, a, list),
-        Sent::Failed(code) => resume(log, outcomes, n + 1, a, code),
-        Sent::Cut => phase::stays(Answer::Cut, n + 1, 0),
+        Sent::Done => done,
+        Sent::Failed(_) => failed,
+        Sent::Cut => Answer::Cut,
     }
 }
 
-// After a failed Configure.
-fn resume(log: &mut [u32], outcomes: &[u8], n: usize, a: SettingsArgs, code: u8) -> Ended
-    requires { ⌜ (a .old .count ≤ 30) × (n + a .old .count ≤ length (now log)) ⌝ }
-    ensures { λ r. ⌜ ((list ctx routes : List ℕ) → leaves r ctx routes (now (log .exit)) ≡ played (now (outcomes .entry)) n (setResume (settingsOf a list) code ctx routes) (now (log .entry))) ⌝ }
-{
-    let back = phase::resume_queues(log, outcomes, n, a.old);
-    let s = back.sent;
-    let answer = phase::configure_failed(code, s);
-    phase::stays(answer, back.count, back.active)
-}
-
-fn switch(
-    ctx: &mut [u8],
-    routes: &mut [u64],
+// Resumes the endpoints after a failed command: one answer where all are, another where one is not.
+fn resume(
     log: &mut [u32],
     outcomes: &[u8],
     n: usize,
-    a: SettingsArgs,
-    list: &[u32],
+    q: Queues,
+    done: Answer,
+    failed: Answer,
 ) -> Ended
-    requires { ⌜ Room (a .spacing) (length (now ctx)) (a .old) (a .old) ⌝ }
-    requires { ⌜ a .held ≤ 32 ⌝ }
-    requires { ⌜ n + a .old .count + 2 ≤ length (now log) ⌝ }
-    ensures { λ r. ⌜ leaves r (now (ctx .exit)) (now (routes .exit)) (now (log .exit)) ≡ played (now (outcomes .entry)) n (setSwitch (settingsOf a (now (list .entry))) (now (ctx .entry)) (now (routes .entry))) (now (log .entry)) ⌝ }
+    requires { ⌜ (q .count ≤ 30) × (n + q .count ≤ length (now log)) ⌝ }
+    ensures { λ r. ⌜ ((ctx routes : List ℕ) → leaves r ctx routes (now (log .exit)) ≡ played (now (outcomes .entry)) n (resumed q done failed ctx routes) (now (log .entry))) ⌝ }
 {
-    let s = command::send(log, outcomes, n, Command::SetConfiguration(a.value));
-    match s {
-        Sent::Done => publish(ctx, routes, log, outcomes, n + 1, a),
-        Sent::Failed(code) => restore(ctx, log, outcomes, n + 1, a, list, code),
-        Sent::Cut => phase::stays(Answer::Cut, n + 1, 0),
-    }
+    let back = phase::resume_queues(log, outcomes, n, q);
+    let s = back.sent;
+    let answer = answer_after(s, done, failed);
+    phase::stays(answer, back.count, back.active)
 }
 
-// After a failed SetConfiguration the endpoints are added again.
+// After a failed SetConfiguration the endpoints are added again and resumed; the answer is its code.
 fn restore(
     ctx: &mut [u8],
     log: &mut [u32],
@@ -125,29 +148,27 @@ fn restore(
 {
     held::prepare_restore(ctx, a, list);
     let s = command::send(log, outcomes, n, Command::Configure);
+    let next = n + 1;
     match s {
-        Sent::Done => restored(log, outcomes, n + 1, a, code),
-        Sent::Failed(_) => phase::stays(Answer::InterfaceBroken, n + 1, 0),
-        Sent::Cut => phase::stays(Answer::Cut, n + 1, 0),
+        Sent::Done => {}
+        Sent::Failed(_) => {
+            return phase::stays(Answer::InterfaceBroken, next, 0);
+        }
+        Sent::Cut => {
+            return phase::stays(Answer::Cut, next, 0);
+        }
     }
+    resume(
+        log,
+        outcomes,
+        next,
+        a.old,
+        Answer::Failed(code),
+        Answer::InterfaceBroken,
+    )
 }
 
-// They are resumed; the answer is the code of the failed SetConfiguration.
-fn restored(log: &mut [u32], outcomes: &[u8], n: usize, a: SettingsArgs, code: u8) -> Ended
-    requires { ⌜ (a .old .count ≤ 30) × (n + a .old .count ≤ length (now log)) ⌝ }
-    ensures { λ r. ⌜ ((list ctx routes : List ℕ) → leaves r ctx routes (now (log .exit)) ≡ played (now (outcomes .entry)) n (setRestored (settingsOf a list) code ctx routes) (now (log .entry))) ⌝ }
-{
-    let back = phase::resume_queues(log, outcomes, n, a.old);
-    let s = back.sent;
-    let m = back.count;
-    match s {
-        Sent::Done => phase::stays(Answer::Failed(code), m, back.active),
-        Sent::Failed(_) => phase::stays(Answer::InterfaceBroken, m, back.active),
-        Sent::Cut => phase::stays(Answer::Cut, m, back.active),
-    }
-}
-
-// The held settings end: their routes are taken out.
+// The held settings end: their routes are taken out, and the controller is told the value.
 fn publish(
     ctx: &mut [u8],
     routes: &mut [u64],
@@ -163,22 +184,13 @@ fn publish(
     let none = phase::no_queues();
     let r = phase::publish_endpoint_routes(routes, a.slot, a.old, none);
     match r {
-        Replaced::Done => evaluate(ctx, log, outcomes, n, a),
-        Replaced::InvalidEndpoint => phase::stays(Answer::InvalidEndpoint, n, 0),
-        Replaced::QueueFull => phase::stays(Answer::InvalidEndpoint, n, 0),
+        Replaced::Done => {}
+        _ => {
+            return phase::stays(Answer::InvalidEndpoint, n, 0);
+        }
     }
-}
-
-// What is left is to tell the controller the value.
-fn evaluate(ctx: &mut [u8], log: &mut [u32], outcomes: &[u8], n: usize, a: SettingsArgs) -> Ended
-    requires { ⌜ (32 ≤ length (now ctx)) × (n + 1 ≤ length (now log)) ⌝ }
-    ensures { λ r. ⌜ ((list routes : List ℕ) → leaves r (now (ctx .exit)) routes (now (log .exit)) ≡ played (now (outcomes .entry)) n (setEvaluate (settingsOf a list) (now (ctx .entry)) routes) (now (log .entry))) ⌝ }
-{
     change_context::configuration_context(ctx, a.value);
     let s = command::send(log, outcomes, n, Command::Evaluate);
-    match s {
-        Sent::Done => phase::moves(Answer::Accepted, n + 1),
-        Sent::Failed(_) => phase::moves(Answer::InterfaceBroken, n + 1),
-        Sent::Cut => phase::moves(Answer::Cut, n + 1),
-    }
+    let answer = answer_after(s, Answer::Accepted, Answer::InterfaceBroken);
+    phase::moves(answer, n + 1)
 }

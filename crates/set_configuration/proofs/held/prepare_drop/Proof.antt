@@ -1,38 +1,97 @@
-use Rattle.phase.specs.Arrays.{dcisIn}
-use Rattle.phase.proofs.Laws.{dcis-in}
-use Rattle.set_configuration.specs.SetConfiguration.{dropContext}
-use Rattle.set_configuration.proofs.Steps.{drop-steps}
 use borrow.Author.Needs.{needs}
+use native.Mathlib.Omega.{arith}
+use native.Mathlib.Nat.{sub-zero}
+use mathlib.Core.Path.{_≡_, _∙_}
+use Prim.Native.Nat.{ℕ, _≤_, _-_}
+use lib.ListN.{length}
+use Rattle.block.specs.Blocks.{dropFlags}
+use Rattle.context.specs.Place.{CONTROL, inBlock, written}
+use Rattle.phase.specs.Arrays.{dcisIn}
+use Rattle.settings.specs.Held.{heldIn, heldWords}
+use Rattle.set_configuration.proofs.Steps.{wordsFrom, drop-next, dropped}
 use Rattle.set_configuration.proofs.held.prepare_drop.Statement.{statement}
 use Rattle.set_configuration.proofs.held.prepare_drop.Tie as tie
 
-begin-configure-requires : tie.Need-begin-configure-requires
+abbrev Inv-loop : tie.InvT-loop
+Inv-loop ctx₀ list a i₀ t9 ctx i =
+    (i ≤ a .held) × (length ctx ≡ length ctx₀) × ((s : ℕ) → written s (inBlock CONTROL (dropFlags (heldWords list (heldIn (a .held) (a .interfaces) (a .alternates))))) ctx₀ ≡ written s (inBlock CONTROL (dropFlags (wordsFrom list (a .interfaces) (a .alternates) (a .held) i))) ctx)
+
+abbrev μ-loop : tie.MeasureT-loop
+μ-loop ctx₀ list a i₀ t9 ctx i = a .held - i
+
+begin-configure-requires : tie.Need-begin-configure-requires Inv-loop μ-loop
 begin-configure-requires c κs = search needs
 
-drop-held-requires : tie.Need-drop-held-requires
-drop-held-requires c κs = search needs
+loop-holds : tie.Need-loop-holds Inv-loop μ-loop
+loop-holds c = (search needs, search needs, λ s. rw sub-zero)
 
-finish-drop-requires : tie.Need-finish-drop-requires
+element-copy-out-setting-words : tie.Need-element-copy-out-setting-words Inv-loop μ-loop
+element-copy-out-setting-words c = let known : length (c .before .before .before .before .before .before .before .before .args .t2 .interfaces) ≡ 32 = search needs in omega (arith, known, c .loop-test .taken, c .before .before .before .before .before .before .before .before .pre .1)
+
+element-copy-out-setting-words-2 : tie.Need-element-copy-out-setting-words-2 Inv-loop μ-loop
+element-copy-out-setting-words-2 c = let known : length (c .before .before .before .before .before .before .before .before .before .args .t2 .alternates) ≡ 32 = search needs in omega (arith, known, c .before .loop-test .taken, c .before .before .before .before .before .before .before .before .before .pre .1)
+
+setting-words-requires : tie.Need-setting-words-requires Inv-loop μ-loop
+setting-words-requires c κs = search needs
+
+drop-endpoints-requires : tie.Need-drop-endpoints-requires Inv-loop μ-loop
+drop-endpoints-requires c κs = search needs
+
+add-i : tie.Need-add-i Inv-loop μ-loop
+add-i c = search needs
+
+loop-less : tie.Need-loop-less Inv-loop μ-loop
+loop-less c = search needs
+
+loop-again : tie.Need-loop-again Inv-loop μ-loop
+loop-again c = (search needs, search needs, λ s. c .before .before .before .before .before .before .before .before .loop .inv .2 s ∙ drop-next _ _ _ _ _ _ (c .before .before .before .before .before .before .before .loop-test .taken) (c .before .before .before .before .setting-words .ensures) s _ _ (c .before .before .drop-endpoints .ensures s))
+
+sub-context-entries : tie.Need-sub-context-entries Inv-loop μ-loop
+sub-context-entries c = search needs
+
+part-context-entries-start : tie.Need-part-context-entries-start Inv-loop μ-loop
+part-context-entries-start c = search needs
+
+part-context-entries-end : tie.Need-part-context-entries-end Inv-loop μ-loop
+part-context-entries-end c = let known : length (c .before .before .before .before .before .before .before .before .before .before .args .t2 .old .dcis) ≡ 30 = search needs in omega (arith, known, c .before .before .before .before .before .before .before .before .before .before .pre .0 .few)
+
+slice-aggregate-context-entries : tie.Need-slice-aggregate-context-entries Inv-loop μ-loop
+slice-aggregate-context-entries c = search needs
+
+context-entries-requires : tie.Need-context-entries-requires Inv-loop μ-loop
 unfolding dcisIn
-finish-drop-requires c κs =
-    let c3 = c .before .before .before in
-    let c7 = c3 .before .before .before .before in
-    let c14 = c7 .before .before .before .before .before .before .before in
-    let p = c14 .pre .0 in (rw (c3 .drop-held .kept .0, c7 .begin-configure .kept .0) (p .spaced), (p .few-all, p .low))
+context-entries-requires c κs = rw sub-zero (c .before .before .before .before .before .before .before .before .before .before .before .before .pre .0 .low)
 
-same-length : tie.Need-same-length
+finish-configure-requires : tie.Need-finish-configure-requires Inv-loop μ-loop
+finish-configure-requires c κs = rw (c .before .before .before .before .before .before .before .loop .inv .1, c .before .before .before .before .before .before .before .before .before .before .begin-configure .kept .0) (c .before .before .before .before .before .before .before .before .before .before .before .before .before .before .pre .0 .spaced)
+
+same-length : tie.Need-same-length Inv-loop μ-loop
 same-length c = search needs
 
-returns : tie.Need-returns
-unfolding dropContext dcisIn
-returns c =
-    let c6 = c .before .before .before .before .before .before in
-    let c10 = c6 .before .before .before .before in
-    let c17 = c10 .before .before .before .before .before .before .before in
-    let s = c17 .args .a .spacing in rw (drop-steps, dcis-in, ← c10 .begin-configure .ensures s, ← c6 .drop-held .ensures s)
-    (c .before .before .finish-drop .ensures)
+returns : tie.Need-returns Inv-loop μ-loop
+unfolding dcisIn
+returns c = dropped (c .before .before .before .before .before .before .before .before .before .before .before .before .before .before .before .before .before .args .t2) (c .before .before .before .before .before .before .before .before .before .before .before .before .before .before .before .before .before .args .list .now) (c .before .before .before .before .before .before .before .before .before .before .before .before .before .before .before .before .before .args .ctx .now) _ _ _ _ _ (c .before .before .before .before .before .before .before .before .before .loop-test .left) (c .before .before .before .before .before .before .before .before .before .before .before .before .before .begin-configure .ensures (c .before .before .before .before .before .before .before .before .before .before .before .before .before .before .before .before .before .args .t2 .spacing)) (c .before .before .finish-configure .ensures) (c .before .before .before .before .before .before .before .before .before .before .loop .inv .2 (c .before .before .before .before .before .before .before .before .before .before .before .before .before .before .before .before .before .args .t2 .spacing)) (c .before .before .before .before .context-entries .ensures ∙ rw sub-zero)
 
 pub prepare-drop-spec : {M : Type 1} → statement M
 prepare-drop-spec =
     tie.close
-    (tie.spec begin-configure-requires drop-held-requires finish-drop-requires same-length returns)
+    (tie.spec
+    Inv-loop
+    μ-loop
+    begin-configure-requires
+    loop-holds
+    element-copy-out-setting-words
+    element-copy-out-setting-words-2
+    setting-words-requires
+    drop-endpoints-requires
+    add-i
+    loop-less
+    loop-again
+    sub-context-entries
+    part-context-entries-start
+    part-context-entries-end
+    slice-aggregate-context-entries
+    context-entries-requires
+    finish-configure-requires
+    same-length
+    returns)

@@ -1,6 +1,5 @@
-use Rattle.command.proofs.Laws.{played-ends, played-sends}
-use Rattle.command.specs.Course.{onSent}
-use Rattle.set_configuration.specs.SetConfiguration.{setRestore}
+use Rattle.set_configuration.specs.SetConfiguration.{settingsOf}
+use Rattle.set_configuration.proofs.Exits.{restored, not-restored, restore-cut, resumed-restored}
 use borrow.Author.Needs.{needs}
 use Rattle.set_configuration.proofs.run.restore.Statement.{statement}
 use Rattle.set_configuration.proofs.run.restore.Tie as tie
@@ -11,32 +10,17 @@ prepare-restore-requires c κs = search needs
 send-requires : tie.Need-send-requires
 send-requires c κs = search needs
 
+add-next : tie.Need-add-next
+add-next c = search needs
+
 enum-told : tie.Need-enum-told
 enum-told c = search needs
-
-add-restored : tie.Need-add-restored
-add-restored c = search needs
-
-restored-requires : tie.Need-restored-requires
-restored-requires c κs = search needs
 
 enum-told-2 : tie.Need-enum-told-2
 enum-told-2 c = search needs
 
-add-stays : tie.Need-add-stays
-add-stays c = search needs
-
 stays-requires : tie.Need-stays-requires
 stays-requires c κs = search needs
-
-enum-told-3 : tie.Need-enum-told-3
-enum-told-3 c = search needs
-
-add-stays-2 : tie.Need-add-stays-2
-add-stays-2 c = search needs
-
-stays-requires-2 : tie.Need-stays-requires-2
-stays-requires-2 c κs = search needs
 
 same-length : tie.Need-same-length
 same-length c = search needs
@@ -45,14 +29,13 @@ same-length-2 : tie.Need-same-length-2
 same-length-2 c = search needs
 
 returns : tie.Need-returns
-unfolding setRestore onSent
-returns c =
-    let c4 = c .before .before .before .before in
-    let c8 = c4 .before .before .before .before in
-    let c12 = c8 .before .before .before .before in
-    let c18 = c12 .before .before .before .before .before .before in
-    λ routes. rw (played-sends, ← c8 .send .ensures .1, ← c8 .send .ensures .0, c4 .enum-told .given .1, ← c12 .prepare-restore .ensures)
-    (c .before .before .restored .ensures (c18 .args .list .now) (c12 .prepare-restore .last .0) routes)
+returns c = λ routes. not-restored (settingsOf (c .before .before .before .before .before .before .before .before .before .before .before .before .before .before .before .args .a) (c .before .before .before .before .before .before .before .before .before .before .before .before .before .before .before .args .list .now)) (c .before .before .before .before .before .before .before .before .before .before .before .before .before .before .before .args .outcomes .now) (c .before .before .before .before .before .before .before .before .before .before .before .before .before .before .before .args .ctx .now) routes (c .before .before .before .before .before .before .before .before .before .before .before .before .before .before .before .args .log .now) (c .before .before .before .before .before .before .before .before .before .before .before .before .before .before .before .args .n) (c .before .before .before .before .before .before .before .before .before .before .before .before .before .before .before .args .code) (c .before .before .before .before .before .before .before .before .before .prepare-restore .last .0) (c .before .before .before .before .before .send .last .0) (c .before .before .before .before .before .send .result) (c .before .before .before .before .before .before .before .before .before .prepare-restore .ensures) (c .before .before .before .before .before .send .ensures) (c .stays .result) _ (c .before .enum-told2 .given .1) (c .stays .ensures)
+
+enum-told-3 : tie.Need-enum-told-3
+enum-told-3 c = search needs
+
+stays-requires-2 : tie.Need-stays-requires-2
+stays-requires-2 c κs = search needs
 
 same-length-3 : tie.Need-same-length-3
 same-length-3 c = search needs
@@ -61,12 +44,10 @@ same-length-4 : tie.Need-same-length-4
 same-length-4 c = search needs
 
 returns-2 : tie.Need-returns-2
-unfolding setRestore onSent
-returns-2 c =
-    let c5 = c .before .before .before .before .before in
-    let c9 = c5 .before .before .before .before in
-    λ routes. rw
-    (played-sends, ← c5 .send .ensures .1, ← c5 .send .ensures .0, c .before .enum-told2 .given .1, ← c9 .prepare-restore .ensures, played-ends, c .stays .ensures)
+returns-2 c = λ routes. restore-cut (settingsOf (c .before .before .before .before .before .before .before .before .before .before .before .before .before .before .before .args .a) (c .before .before .before .before .before .before .before .before .before .before .before .before .before .before .before .args .list .now)) (c .before .before .before .before .before .before .before .before .before .before .before .before .before .before .before .args .outcomes .now) (c .before .before .before .before .before .before .before .before .before .before .before .before .before .before .before .args .ctx .now) routes (c .before .before .before .before .before .before .before .before .before .before .before .before .before .before .before .args .log .now) (c .before .before .before .before .before .before .before .before .before .before .before .before .before .before .before .args .n) (c .before .before .before .before .before .before .before .before .before .before .before .before .before .before .before .args .code) (c .before .before .before .before .before .before .before .before .before .prepare-restore .last .0) (c .before .before .before .before .before .send .last .0) (c .before .before .before .before .before .send .result) (c .before .before .before .before .before .before .before .before .before .prepare-restore .ensures) (c .before .before .before .before .before .send .ensures) (c .stays2 .result) (c .before .enum-told3 .given .1) (c .stays2 .ensures)
+
+resume-requires : tie.Need-resume-requires
+resume-requires c κs = search needs
 
 same-length-5 : tie.Need-same-length-5
 same-length-5 c = search needs
@@ -75,12 +56,7 @@ same-length-6 : tie.Need-same-length-6
 same-length-6 c = search needs
 
 returns-3 : tie.Need-returns-3
-unfolding setRestore onSent
-returns-3 c =
-    let c5 = c .before .before .before .before .before in
-    let c9 = c5 .before .before .before .before in
-    λ routes. rw
-    (played-sends, ← c5 .send .ensures .1, ← c5 .send .ensures .0, c .before .enum-told3 .given .1, ← c9 .prepare-restore .ensures, played-ends, c .stays2 .ensures)
+returns-3 c = λ routes. restored (settingsOf (c .before .before .before .before .before .before .before .before .before .before .before .before .before .before .before .before .before .before .args .a) (c .before .before .before .before .before .before .before .before .before .before .before .before .before .before .before .before .before .before .args .list .now)) (c .before .before .before .before .before .before .before .before .before .before .before .before .before .before .before .before .before .before .args .outcomes .now) (c .before .before .before .before .before .before .before .before .before .before .before .before .before .before .before .before .before .before .args .ctx .now) routes (c .before .before .before .before .before .before .before .before .before .before .before .before .before .before .before .before .before .before .args .log .now) (c .before .before .before .before .before .before .before .before .before .before .before .before .before .before .before .before .before .before .args .n) (c .before .before .before .before .before .before .before .before .before .before .before .before .before .before .before .before .before .before .args .code) (c .before .before .before .before .before .before .before .before .before .before .before .before .prepare-restore .last .0) (c .before .before .before .before .before .before .before .before .send .last .0) (c .before .before .before .before .before .before .before .before .send .result) (c .before .before .before .before .before .before .before .before .before .before .before .before .prepare-restore .ensures) (c .before .before .before .before .before .before .before .before .send .ensures) (c .before .before .before .before .enum-told .given .1) (resumed-restored (c .before .before .before .before .before .before .before .before .before .before .before .before .before .before .before .before .before .before .args .a) (c .before .before .before .before .before .before .before .before .before .before .before .before .before .before .before .before .before .before .args .list .now) (c .before .before .before .before .before .before .before .before .before .before .before .before .prepare-restore .last .0) routes (c .before .before .before .before .before .before .before .before .before .before .before .before .before .before .before .before .before .before .args .outcomes .now) (c .before .before .before .before .before .before .before .before .send .last .0) _ (c .before .before .before .before .before .before .before .before .before .before .before .before .before .before .before .before .before .before .args .code) (c .before .before .resume .ensures (c .before .before .before .before .before .before .before .before .before .before .before .before .prepare-restore .last .0) routes))
 
 pub restore-spec : {M : Type 1} → statement M
 restore-spec =
@@ -88,21 +64,19 @@ restore-spec =
     (tie.spec
     prepare-restore-requires
     send-requires
+    add-next
     enum-told
-    add-restored
-    restored-requires
     enum-told-2
-    add-stays
     stays-requires
-    enum-told-3
-    add-stays-2
-    stays-requires-2
     same-length
     same-length-2
     returns
+    enum-told-3
+    stays-requires-2
     same-length-3
     same-length-4
     returns-2
+    resume-requires
     same-length-5
     same-length-6
     returns-3)

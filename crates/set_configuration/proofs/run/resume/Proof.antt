@@ -1,6 +1,5 @@
-use Rattle.phase.proofs.Laws.{dcis-in}
 use Rattle.command.proofs.Laws.{played-ends, played-then}
-use Rattle.set_configuration.specs.SetConfiguration.{setResume}
+use Rattle.set_configuration.specs.Parts.{resumed}
 use borrow.Author.Needs.{needs}
 use Rattle.set_configuration.proofs.run.resume.Statement.{statement}
 use Rattle.set_configuration.proofs.run.resume.Tie as tie
@@ -8,8 +7,8 @@ use Rattle.set_configuration.proofs.run.resume.Tie as tie
 resume-queues-requires : tie.Need-resume-queues-requires
 resume-queues-requires c κs = search needs
 
-configure-failed-requires : tie.Need-configure-failed-requires
-configure-failed-requires c κs = search needs
+answer-after-requires : tie.Need-answer-after-requires
+answer-after-requires c κs = search needs
 
 stays-requires : tie.Need-stays-requires
 stays-requires c κs = search needs
@@ -18,10 +17,10 @@ same-length : tie.Need-same-length
 same-length c = search needs
 
 returns : tie.Need-returns
-unfolding setResume
-returns c = λ list ctx routes. let a = c .before .before .before .before .resume-queues .ensures ctx in rw (dcis-in, played-then, ← a .sent, ← a .active, ← a .count, ← a .log, played-ends, c .stays .ensures, c .before .configure-failed .ensures)
+unfolding resumed
+returns c = λ ctx routes. let a = c .before .before .before .before .resume-queues .ensures ctx in rw (played-then, ← a .sent, ← a .active, ← a .count, ← a .log, played-ends, c .stays .ensures, c .before .answer-after .ensures)
 
 pub resume-spec : {M : Type 1} → statement M
 resume-spec =
     tie.close
-    (tie.spec resume-queues-requires configure-failed-requires stays-requires same-length returns)
+    (tie.spec resume-queues-requires answer-after-requires stays-requires same-length returns)
