@@ -1,11 +1,11 @@
 -- What the checks of a bring-up come to, and what it says that they passed.
-use Prim.Native.Nat.{ℕ, _+_, _*_, _≤_}
+use Prim.Native.Nat.{ℕ, _+_, _*_, _<_, _≤_}
 use mathlib.Core.Path.{_≡_, refl, sym, ap, _∙_}
-use mathlib.Core.Bool.{true, _&&_, _||_}
+use mathlib.Core.Bool.{Bool, true, false, cond, _&&_, _||_}
 use mathlib.Core.List.{List}
 use mathlib.Core.Logic.{_⊎_, inl, inr, ⊎-elim}
 use native.Mathlib.Omega.{arith}
-use borrow.Author.Tests.{eqb-true, leb-true}
+use borrow.Author.Tests.{eqb-true, leb-true, le-leb, lt-leb}
 use lib.Dec.{eqb, leb}
 use lib.ListN.{length}
 use Rattle.laws.proofs.Tests.{and-left, and-right}
@@ -14,50 +14,61 @@ use Rattle.def.specs.Speed.{speedKnown}
 use Rattle.configuration.specs.Valid.{validList}
 use Rattle.hub.specs.Chain.{chainOk}
 use Rattle.ring.specs.Rings.{ringOk}
+use Rattle.answer.specs.declared.Answer.{Answer}
 use Rattle.answer.specs.declared.Answer.the-variants as answer
 use Rattle.answer.specs.declared.Check.{Check}
 use Rattle.answer.specs.declared.Check.the-variants.{Pass, Refuse}
 use Rattle.context.specs.Place.{Spaced}
+use Rattle.checks.specs.Lengths.{lengthsCheck}
 use Rattle.device.proofs.Laws.{andThen, then-if, pass-if}
 use Rattle.init.specs.Reading.{BringUp}
 use Rattle.bring_up.specs.BringUp.{spacingOf, slotCheck, deviceCheck, queueCheck, bringUpCheck}
 
-then-then : (x y z : Check) → andThen x (andThen y z) ≡ andThen (andThen x y) z
-unfolding andThen
-then-then Pass y z = refl
-then-then (Refuse a) y z = refl
+-- a length is a context's where it is 33 blocks of the spacing that the code takes
+known-length : (ctx : ℕ) (b : Bool) → eqb ctx 1056 ≡ b → eqb ctx (33 * cond b 32 64) ≡ (b || eqb ctx 2112)
+known-length ctx true e = e
+known-length ctx false e = refl
 
-module _ (a : BringUp) where
-  -- what follows 11, 1, 2, 3
-  pub slot-then : (ctx routes log : ℕ) (next : Check) →
-      slotCheck a ctx routes log next ≡ andThen (slotCheck a ctx routes log Pass) next
-  unfolding slotCheck andThen
-  slot-then ctx routes log next =
-      then-if (leb 1 (a .slot) && (leb (a .slot) (a .n) && leb (a .n) 255)) _ _ answer.SlotLimitReached next
-      (then-if (eqb ctx 1056 || eqb ctx 2112) _ _ answer.ContextLength next
-      (then-if (eqb routes (32 * (a .n + 1))) _ _ answer.RoutesLength next
-      (then-if (leb 64 log) _ _ answer.LogTooShort next refl)))
+-- which is one of two
+pub taken-narrow : (b : Bool) (spacing : ℕ) → spacing ≡ cond b 32 64 → spacing ≤ 64
+taken-narrow true spacing e = omega arith
+taken-narrow false spacing e = omega arith
 
-  -- and 6, 4, 5, 10
-  pub device-then : (next : Check) → deviceCheck a next ≡ andThen (deviceCheck a Pass) next
-  unfolding deviceCheck andThen
-  device-then next =
-      then-if (speedKnown (a .speed)) _ _ answer.Speed next
-      (then-if (validList (a .list)) _ _ answer.DescriptorList next
-      (then-if (chainOk (a .hubs) (a .hasParent) (a .parent)) _ _ answer.HubChain next
-      (then-if (ringOk (a .ring)) _ _ answer.Rings next refl)))
+module _ (a : BringUp) (ctx : ℕ) (routes : List ℕ) (log : ℕ) where
+  -- 11
+  pub slot-zero : a .slot < 1 → Refuse answer.SlotLimitReached ≡ bringUpCheck a ctx routes log
+  unfolding bringUpCheck slotCheck
+  slot-zero e = rw (lt-leb 1 (a .slot) e)
 
-  -- 17 comes after all others
-  pub check-then : (ctx : ℕ) (routes : List ℕ) (log : ℕ) →
-      bringUpCheck a ctx routes log ≡ andThen (slotCheck a ctx (length routes) log (deviceCheck a Pass)) (queueCheck a routes)
-  unfolding bringUpCheck
-  check-then ctx routes log =
-      let q = queueCheck a routes in
-      let n = length routes in
-      slot-then ctx n log (deviceCheck a q)
-      ∙ ap (λ x. andThen (slotCheck a ctx n log Pass) x) (device-then q)
-      ∙ then-then (slotCheck a ctx n log Pass) (deviceCheck a Pass) q
-      ∙ ap (λ x. andThen x q) (sym (slot-then ctx n log (deviceCheck a Pass)))
+  pub slot-above : 1 ≤ a .slot → a .n < a .slot → Refuse answer.SlotLimitReached ≡ bringUpCheck a ctx routes log
+  unfolding bringUpCheck slotCheck
+  slot-above e f = rw (le-leb 1 (a .slot) e, lt-leb (a .slot) (a .n) f)
+
+  pub slots-above : 1 ≤ a .slot → a .slot ≤ a .n → 255 < a .n → Refuse answer.SlotLimitReached ≡ bringUpCheck a ctx routes log
+  unfolding bringUpCheck slotCheck
+  slots-above e f g = rw (le-leb 1 (a .slot) e, le-leb (a .slot) (a .n) f, lt-leb (a .n) 255 g)
+
+  module _
+      (spacing : ℕ) (x : Check) (low : 1 ≤ a .slot) (high : a .slot ≤ a .n) (few : a .n ≤ 255)
+      (s : spacing ≡ cond (eqb ctx 1056) 32 64) (k : x ≡ lengthsCheck spacing (a .n) ctx (length routes) log Pass) where
+    -- 1, 2, 3
+    lengths-then : bringUpCheck a ctx routes log ≡ andThen x (deviceCheck a (queueCheck a routes))
+    unfolding bringUpCheck slotCheck andThen
+    lengths-then =
+        let next = deviceCheck a (queueCheck a routes) in
+        rw (le-leb 1 (a .slot) low, le-leb (a .slot) (a .n) high, le-leb (a .n) 255 few, ← known-length ctx (eqb ctx 1056) refl, ← s)
+        (then-if (eqb ctx (33 * spacing)) _ _ answer.ContextLength next
+        (then-if (eqb (length routes) (32 * (a .n + 1))) _ _ answer.RoutesLength next
+        (then-if (leb 64 log) _ _ answer.LogTooShort next refl))
+        ∙ ap (λ y. andThen y next) (sym k))
+
+    pub lengths-refused : (y : Answer) → x ≡ Refuse y → Refuse y ≡ bringUpCheck a ctx routes log
+    unfolding andThen
+    lengths-refused y e = sym (lengths-then ∙ rw e)
+
+    pub lengths-passed : x ≡ Pass → bringUpCheck a ctx routes log ≡ deviceCheck a (queueCheck a routes)
+    unfolding andThen
+    lengths-passed e = lengths-then ∙ rw e
 
 -- What the checks before 17 say.
 pub record Passed (a : BringUp) (ctx routes log : ℕ) : Type 0 where
@@ -67,6 +78,7 @@ pub record Passed (a : BringUp) (ctx routes log : ℕ) : Type 0 where
   pub known : (eqb (spacingOf ctx) 32 || eqb (spacingOf ctx) 64) ≡ true
   pub context : ctx ≡ 33 * spacingOf ctx
   pub spaced : Spaced (spacingOf ctx) ctx
+  pub taken : cond (eqb ctx 1056) 32 64 ≡ spacingOf ctx
   pub table : routes ≡ 32 * (a .n + 1)
   pub room : 64 ≤ log
   pub speed : speedKnown (a .speed) ≡ true
@@ -78,13 +90,14 @@ record Lengths (ctx : ℕ) : Type 0 where
   known : (eqb (spacingOf ctx) 32 || eqb (spacingOf ctx) 64) ≡ true
   context : ctx ≡ 33 * spacingOf ctx
   spaced : Spaced (spacingOf ctx) ctx
+  taken : cond (eqb ctx 1056) 32 64 ≡ spacingOf ctx
 
 lengths : (ctx : ℕ) → (ctx ≡ 1056) ⊎ (ctx ≡ 2112) → Lengths ctx
 unfolding spacingOf
 lengths ctx (inl e) =
-    rw e (record { known = refl; context = refl; spaced = record { wide = omega arith; narrow = omega arith; room = omega arith } })
+    rw e (record { known = refl; context = refl; spaced = record { wide = omega arith; narrow = omega arith; room = omega arith }; taken = refl })
 lengths ctx (inr e) =
-    rw e (record { known = refl; context = refl; spaced = record { wide = omega arith; narrow = omega arith; room = omega arith } })
+    rw e (record { known = refl; context = refl; spaced = record { wide = omega arith; narrow = omega arith; room = omega arith }; taken = refl })
 
 module _ (a : BringUp) where
   -- what it says that they passed
@@ -114,6 +127,7 @@ module _ (a : BringUp) where
           known = l .known;
           context = l .context;
           spaced = l .spaced;
+          taken = l .taken;
           table = eqb-true _ _ (e3 .0);
           room = leb-true _ _ (e4 .0);
           speed = e5 .0;

@@ -1,11 +1,15 @@
 -- What each exit of the code comes to.
 use Prim.Native.Nat.{ℕ, _≤_}
 use mathlib.Core.Path.{_≡_, refl, sym, _∙_}
-use mathlib.Core.Bool.{Bool, true, false, cond}
+use mathlib.Core.Bool.{Bool, true, false, not, cond}
 use mathlib.Core.List.{List}
 use native.Mathlib.Omega.{arith}
+use borrow.Author.Tests.{not-true, not-false}
 use lib.Dec.{eqb}
 use lib.ListN.{length}
+use Rattle.def.specs.Speed.{speedKnown}
+use Rattle.hub.specs.Chain.{chainOk}
+use Rattle.ring.specs.Rings.{ringOk}
 use Rattle.configuration.specs.Valid.{validList}
 use Rattle.configuration.proofs.Laws.{valid-length}
 use Rattle.transfer.specs.declared.Registered.the-variants as register
@@ -18,12 +22,11 @@ use Rattle.command.specs.Course.{Played, played}
 use Rattle.context.specs.Place.{Spaced}
 use Rattle.init.specs.Reading.{BringUp, Brought}
 use Rattle.init.specs.Init.{bringUpAddress}
-use Rattle.device.specs.declared.record.Called.{Called}
+use Rattle.device.specs.declared.record.Device.{Device}
 use Rattle.device.specs.Left.{Left, leaves, refused}
 use Rattle.device.specs.Calls.{onCheck}
-use Rattle.device.proofs.Laws.{andThen}
-use Rattle.bring_up.specs.BringUp.{spacingOf, slotCheck, deviceCheck, queueCheck, bringUpCheck, bringUpCourse, noDevice, broughtLeft, bringUp}
-use Rattle.bring_up.proofs.Checks.{check-then, Passed, passed}
+use Rattle.bring_up.specs.BringUp.{spacingOf, deviceCheck, queueCheck, bringUpCheck, bringUpCourse, noDevice, broughtLeft, bringUp}
+use Rattle.bring_up.proofs.Checks.{Passed, passed}
 
 -- one test decides what is answered, what 17 says, and what is left of the table
 full-test : (b : Bool) → cond b register.Done register.QueueFull ≡ register.QueueFull →
@@ -69,35 +72,56 @@ Entered a ctx routes log r left =
     × (r ≡ Pass → left ≡ withRoute routes (a .slot) 1 (a .ring))
     × ((x : Answer) → r ≡ Refuse x → left ≡ routes)
 
-module _
-    (a : BringUp) (ctx : ℕ) (routes : List ℕ) (log : ℕ) {check : Check}
-    (checked : check ≡ slotCheck a ctx (length routes) log (deviceCheck a Pass)) where
-  -- one before 17 refuses
-  pub entered-not : {x : Answer} → check ≡ Refuse x → Entered a ctx routes log (Refuse x) routes
-  unfolding andThen
-  entered-not e = (
-    sym (check-then a ctx routes log ∙ rw (← checked, e)),
-    λ p. let z : _≡_ {A = ℕ} 0 1 = cc in absurd (omega arith),
-    λ y p. refl,
-  )
+-- what a test in the code says of what it tests
+pub tested-not : (b t : Bool) → b ≡ t → not b ≡ true → t ≡ false
+tested-not b t e h = sym e ∙ not-true b h
 
-  -- they pass, and 17 decides
-  pub entered : {r : Check} {left : List ℕ} → check ≡ Pass → r ≡ queueCheck a routes →
-      left ≡ withRegistered routes (a .slot) 1 (a .ring) → Entered a ctx routes log r left
-  unfolding andThen
-  entered e q l = (
-    q ∙ sym (check-then a ctx routes log ∙ rw (← checked, e)),
-    λ p. l ∙ queue-pass a routes (sym q ∙ p),
-    λ x p. l ∙ queue-refuse a routes x (sym q ∙ p),
-  )
+pub tested : (b t : Bool) → b ≡ t → not b ≡ false → t ≡ true
+tested b t e h = sym e ∙ not-false b h
+
+module _ (a : BringUp) (ctx : ℕ) (routes : List ℕ) (log : ℕ) where
+  -- one before 17 refuses
+  pub not-entered : (x : Answer) → Refuse x ≡ bringUpCheck a ctx routes log → Entered a ctx routes log (Refuse x) routes
+  not-entered x e = (e, λ p. let z : _≡_ {A = ℕ} 0 1 = cc in absurd (omega arith), λ y p. refl)
+
+  -- 6, 4, 5, 10
+  module _ (base : bringUpCheck a ctx routes log ≡ deviceCheck a (queueCheck a routes)) where
+    pub speed-refused : speedKnown (a .speed) ≡ false → Entered a ctx routes log (Refuse answer.Speed) routes
+    unfolding deviceCheck
+    speed-refused e = not-entered answer.Speed (sym (base ∙ rw e))
+
+    pub list-refused : speedKnown (a .speed) ≡ true → validList (a .list) ≡ false → Entered a ctx routes log (Refuse answer.DescriptorList) routes
+    unfolding deviceCheck
+    list-refused e f = not-entered answer.DescriptorList (sym (base ∙ rw (e, f)))
+
+    pub chain-refused : speedKnown (a .speed) ≡ true → validList (a .list) ≡ true → chainOk (a .hubs) (a .hasParent) (a .parent) ≡ false →
+        Entered a ctx routes log (Refuse answer.HubChain) routes
+    unfolding deviceCheck
+    chain-refused e f g = not-entered answer.HubChain (sym (base ∙ rw (e, f, g)))
+
+    pub ring-refused : speedKnown (a .speed) ≡ true → validList (a .list) ≡ true → chainOk (a .hubs) (a .hasParent) (a .parent) ≡ true →
+        ringOk (a .ring) ≡ false → Entered a ctx routes log (Refuse answer.Rings) routes
+    unfolding deviceCheck
+    ring-refused e f g h = not-entered answer.Rings (sym (base ∙ rw (e, f, g, h)))
+
+    -- they pass, and 17 decides
+    pub entered :
+        speedKnown (a .speed) ≡ true → validList (a .list) ≡ true → chainOk (a .hubs) (a .hasParent) (a .parent) ≡ true →
+        ringOk (a .ring) ≡ true → (r : Check) (left : List ℕ) → r ≡ queueCheck a routes →
+        left ≡ withRegistered routes (a .slot) 1 (a .ring) → Entered a ctx routes log r left
+    unfolding deviceCheck
+    entered e f g h r left q l = (
+      q ∙ sym (base ∙ rw (e, f, g, h)),
+      λ p. l ∙ queue-pass a routes (sym q ∙ p),
+      λ x p. l ∙ queue-refuse a routes x (sym q ∙ p),
+    )
 
 module _ (a : BringUp) (ctx routes log : List ℕ) {check : Check} {left : List ℕ} (entry : Entered a (length ctx) routes (length log) check left) where
   -- a check refuses
-  pub refused-left : (o : List ℕ) {called : Called} {x : Answer} → check ≡ Refuse x →
-      called ≡ record { device = noDevice; answer = x; count = 0 } →
-      leaves called ctx left log ≡ bringUp a ctx routes log o
+  pub refused-left : (o : List ℕ) (d : Device) (x : Answer) → check ≡ Refuse x → d ≡ noDevice →
+      leaves (record { device = d; answer = x; count = 0 }) ctx left log ≡ bringUp a ctx routes log o
   unfolding bringUp onCheck refused
-  refused-left o {x = x} e c = rw (← entry .0, e, entry .2 x e, c)
+  refused-left o d x e c = rw (← entry .0, e, entry .2 x e, c)
 
   -- all pass, and the course follows
   pub passed-left : (o : List ℕ) {spacing : ℕ} {p : Played Brought} {l : Left} → check ≡ Pass → spacing ≡ spacingOf (length ctx) →
@@ -113,8 +137,13 @@ module _
   facts = passed a ctx (length routes) log (queueCheck a routes) (sym checked ∙ pass) .0
 
   -- what the course needs
-  pub course-room : {spacing : ℕ} → spacing ≡ spacingOf ctx → Spaced spacing ctx × ((64 ≤ log) × (validList (a .list) ≡ true))
-  course-room s = (rw s (facts .spaced), (facts .room, facts .list))
+  pub course-room : {spacing : ℕ} → spacing ≡ cond (eqb ctx 1056) 32 64 →
+      Spaced spacing ctx × ((64 ≤ log) × (validList (a .list) ≡ true))
+  course-room s = (rw (s ∙ facts .taken) (facts .spaced), (facts .room, facts .list))
+
+  -- the spacing that the code takes is the context's
+  pub spacing-taken : (spacing : ℕ) → spacing ≡ cond (eqb ctx 1056) 32 64 → spacing ≡ spacingOf ctx
+  spacing-taken spacing s = s ∙ facts .taken
 
   -- and the record
   pub record-room : (a .n ≤ 255) × (length (a .list) ≤ 256)

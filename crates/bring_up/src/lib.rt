@@ -5,9 +5,11 @@ mod record;
 use answer::Check;
 use device::Called;
 ghost use mathlib.Core.Path.{_≡_};
+ghost use mathlib.Core.Bool.{cond};
+ghost use lib.Dec.{eqb};
 ghost use Rattle.device.specs.Left.{leaves};
 ghost use Rattle.init.specs.Reading.{bringUpOf};
-ghost use Rattle.bring_up.specs.BringUp.{spacingOf, bringUp};
+ghost use Rattle.bring_up.specs.BringUp.{bringUp};
 pub use init::BringUpArgs;
 
 // The bring-up of a slot: checks, the last of which registers control's route; then the course, and the record that its end makes.
@@ -23,24 +25,21 @@ pub fn bring_up(
     ensures { λ r. ⌜ leaves r (now (ctx .exit)) (now (routes .exit)) (now (log .exit)) ≡ bringUp (bringUpOf a (now (hubs .entry)) (now (list .entry))) (now (ctx .entry)) (now (routes .entry)) (now (log .entry)) (now (outcomes .entry)) ⌝ }
 {
     let spacing = spacing_of(ctx.len());
-    let check = check::enter(routes, a, ctx.len(), log.len(), hubs, list);
-    match check {
-        Check::Refuse(x) => record::refuse(x),
-        Check::Pass => {
-            let e = init::address(ctx, routes, log, outcomes, a, spacing, hubs, list);
-            record::brought(a, spacing, e, list)
-        }
+    let check = check::enter(routes, a, spacing, ctx.len(), log.len(), hubs, list);
+    if let Check::Refuse(x) = check {
+        return Called {
+            device: record::no_device(),
+            answer: x,
+            count: 0,
+        };
     }
+    let e = init::address(ctx, routes, log, outcomes, a, spacing, hubs, list);
+    record::brought(a, spacing, e, list)
 }
 
+// The spacing of a context's blocks, by its length; a length that is none of a context is refused.
 fn spacing_of(len: usize) -> usize
-    ensures { λ r. ⌜ r ≡ spacingOf len ⌝ }
+    ensures { λ r. ⌜ r ≡ cond (eqb len 1056) 32 64 ⌝ }
 {
-    if len == 1056 {
-        return 32;
-    }
-    if len == 2112 {
-        return 64;
-    }
-    0
+    if len == 1056 { 32 } else { 64 }
 }

@@ -1,5 +1,4 @@
 // The record of a brought up device, and the empty one.
-use answer::Answer;
 use def::SlotId;
 use device::Called;
 use device::Device;
@@ -14,10 +13,10 @@ ghost use lib.ListN.{length, take};
 ghost use Rattle.endpoint.specs.Endpoint.{padded};
 ghost use Rattle.init.specs.Reading.{bringUpOf, leavesRead};
 ghost use Rattle.device.specs.Left.{leaves};
-ghost use Rattle.bring_up.specs.BringUp.{broughtRecord, noDevice, broughtLeft};
+ghost use Rattle.bring_up.specs.BringUp.{noDevice, broughtLeft};
 
-// Unusable and otherwise empty.
-fn no_device() -> Device
+// What a refused bring-up hands back: unusable and otherwise empty.
+pub fn no_device() -> Device
     ensures { λ r. ⌜ r ≡ noDevice ⌝ }
 {
     let blank = Endpoint {
@@ -62,10 +61,10 @@ fn first_words(list: &[u32], n: usize) -> [u32; 256]
     words
 }
 
-// A device that holds no setting.
-fn brought_device(a: BringUpArgs, spacing: usize, e: Ended, list: &[u32]) -> Device
+// What a bring-up hands back whose course has ended: a device that holds no setting.
+pub fn brought(a: BringUpArgs, spacing: usize, e: Ended, list: &[u32]) -> Called
     requires { ⌜ (a .n ≤ 255) × (length (now list) ≤ 256) ⌝ }
-    ensures { λ r. ⌜ ((hubs ctx routes log : List ℕ) → r ≡ broughtRecord (bringUpOf a hubs (now (list .entry))) spacing (leavesRead e (now (list .entry)) ctx routes log .end)) ⌝ }
+    ensures { λ r. ⌜ ((hubs ctx routes log : List ℕ) → leaves r ctx routes log ≡ broughtLeft (bringUpOf a hubs (now (list .entry))) spacing (leavesRead e (now (list .entry)) ctx routes log)) ⌝ }
 {
     let words = init::count_words(list, e.configurations);
     let answer = e.answer;
@@ -82,29 +81,8 @@ fn brought_device(a: BringUpArgs, spacing: usize, e: Ended, list: &[u32]) -> Dev
     d.list = kept;
     d.list_len = words;
     d.control = a.ring;
-    d
-}
-
-// What a refused bring-up hands back.
-pub fn refuse(answer: Answer) -> Called
-    ensures { λ r. ⌜ r ≡ record { device = noDevice; answer = answer; count = 0 } ⌝ }
-{
     Called {
-        device: no_device(),
-        answer,
-        count: 0,
-    }
-}
-
-// And one whose course has ended.
-pub fn brought(a: BringUpArgs, spacing: usize, e: Ended, list: &[u32]) -> Called
-    requires { ⌜ (a .n ≤ 255) × (length (now list) ≤ 256) ⌝ }
-    ensures { λ r. ⌜ ((hubs ctx routes log : List ℕ) → leaves r ctx routes log ≡ broughtLeft (bringUpOf a hubs (now (list .entry))) spacing (leavesRead e (now (list .entry)) ctx routes log)) ⌝ }
-{
-    let answer = e.answer;
-    let device = brought_device(a, spacing, e, list);
-    Called {
-        device,
+        device: d,
         answer,
         count: e.count,
     }

@@ -1,19 +1,12 @@
-use Rattle.bring_up.specs.BringUp.{spacingOf}
 use borrow.Author.Tests.{eq-eqb, ne-eqb}
 use Rattle.bring_up.proofs.spacing_of.Statement.{statement}
 use Rattle.bring_up.proofs.spacing_of.Tie as tie
 
 returns : tie.Need-returns
-unfolding spacingOf
 returns c = rw (eq-eqb _ _ (c .if1 .taken))
 
 returns-2 : tie.Need-returns-2
-unfolding spacingOf
-returns-2 c = rw (ne-eqb _ _ (c .before .if1 .left), eq-eqb _ _ (c .if2 .taken))
-
-returns-3 : tie.Need-returns-3
-unfolding spacingOf
-returns-3 c = rw (ne-eqb _ _ (c .before .if1 .left), ne-eqb _ _ (c .if2 .left))
+returns-2 c = rw (ne-eqb _ _ (c .if1 .left))
 
 pub spacing-of-spec : {M : Type 1} → statement M
-spacing-of-spec = tie.close (tie.spec returns returns-2 returns-3)
+spacing-of-spec = tie.close (tie.spec returns returns-2)
