@@ -5,20 +5,17 @@ use mathlib.Core.Logic.{_≢_, _⊎_, inl, inr}
 use mathlib.Core.Bool.{Bool, true, false, cond, _&&_, _||_, not, or-true}
 use mathlib.Core.List.{List, [], _∷_, _++_}
 use native.Mathlib.Decide.{decLt, ℕ-discrete}
-use native.Mathlib.Numerals.{add-one}
 use native.Mathlib.Omega.{arith}
 use borrow.Author.Tests.{ltb-true, leb-true, eq-eqb, ne-eqb, le-leb}
 use lib.Dec.{eqb, leb, ltb, lit<}
-use lib.ListN.{length, getD, drop}
-use lib.Seq.{drop-cons}
+use lib.ListN.{length}
 use Rattle.laws.proofs.Cases.{or-cases}
 use Rattle.laws.proofs.Tests.{and-left, and-right, and-true, not-both}
 use Rattle.field.specs.declared.Field.{Field}
 use Rattle.field.specs.Field.{readField, writeField, InBlock, apart, within, after, Bytes}
 use Rattle.field.proofs.Laws.{apart-true, within-true, bit-cases, length-writeField, bytes-writeField, read-apart, read-back, read-write}
-use Rattle.block.specs.Setting.{Setting, _:=_, settled, afterSettings, inside, allInside, clearCut}
-use Rattle.block.specs.Fields.{DROP-FLAG, apartFromAll}
-use Rattle.block.specs.Blocks.{wordDci, dropFlags}
+use Rattle.block.specs.Setting.{Setting, settled, afterSettings, inside, allInside, clearCut}
+use Rattle.block.specs.Fields.{apartFromAll}
 use Rattle.block.specs.Promises.{Holds, fieldsOf, Leaves}
 
 -- Settings of which some come first.
@@ -218,12 +215,3 @@ flag-set block word k d size w hk hd = go (ℕ-discrete k d)
         either : Dec (d < k) → (k + 1 ≤ d) ⊎ (d + 1 ≤ k)
         either (yes l) = inr (omega arith)
         either (no l) = inl (omega arith)
-
--- One more word's drop flag.
-pub drop-flags-next :
-    (ws block block′ : List ℕ) (i : ℕ) →
-    i < length ws →
-    block′ ≡ settled ((DROP-FLAG (wordDci (getD ws i 0)) := 1) ∷ []) block →
-    settled (dropFlags (drop i ws)) block ≡ settled (dropFlags (drop (i + 1) ws)) block′
-unfolding settled dropFlags
-drop-flags-next ws block block′ i h e = rw (e, add-one i, drop-cons ws i 0)

@@ -5,7 +5,7 @@ use mathlib.Core.Logic.{_≢_, inl, inr}
 use mathlib.Core.Bool.{Bool, true, false, cond}
 use mathlib.Core.List.{List, [], _∷_, _++_}
 use native.Mathlib.Omega.{arith}
-use native.Mathlib.Nat.{mul-le-mul-left, mul-zero, mul-one, mul-add, mod-lt, div-add-mod}
+use native.Mathlib.Nat.{mul-le-mul-left, mul-one, mul-add, mod-lt, div-add-mod}
 use native.Mathlib.Decide.{decLt}
 use borrow.Author.Tests.{eqb-true, eqb-false, eq-eqb}
 use lib.Dec.{eqb}
@@ -16,7 +16,7 @@ use Rattle.field.specs.Field.{writeField, InBlock}
 use Rattle.field.proofs.Laws.{length-writeField}
 use Rattle.block.specs.Setting.{Setting, settled, afterSettings, allInside, clearCut}
 use Rattle.block.proofs.Laws.{read-settled, bit-settled}
-use Rattle.context.specs.Place.{Write, CONTROL, SLOT, inBlock, ofBlock, onPart, writeAt, written, blockAt, readAt, Outside, Spaced}
+use Rattle.context.specs.Place.{Write, SLOT, inBlock, ofBlock, onPart, writeAt, written, blockAt, readAt, Outside, Spaced}
 use Rattle.context.proofs.Parts.{part-length, part-same, part-above, part-below, part-other, part-twice, part-none}
 
 -- Writes.
@@ -60,12 +60,6 @@ pub in-block-append : (b : ℕ) (x y : List Setting) → inBlock b (x ++ y) ≡ 
 unfolding inBlock
 in-block-append b [] y = refl
 in-block-append b (t ∷ x) y = ap (λ (l : List Write). record { block = b; setting = t } ∷ l) (in-block-append b x y)
-
--- In the control block, at any spacing.
-pub written-control :
-    (s : ℕ) (ss : List Setting) (ctx : List ℕ) →
-    written s (inBlock CONTROL ss) ctx ≡ onPart 0 32 (settled ss) ctx
-written-control s ss ctx = written-block s 0 ss ctx ∙ ap (λ (a : ℕ). onPart a 32 (settled ss) ctx) (mul-zero s)
 
 -- In the slot's block.
 pub written-slot :

@@ -2,7 +2,7 @@
 ghost use mathlib.Core.Path.{_≡_};
 ghost use Prim.Native.Nat.{_+_, _*_, _<_, _≤_, _^_};
 ghost use lib.ListN.{length};
-ghost use Rattle.field.specs.Field.{wordAt, putWord, readField, withBits, writeField, InBlock};
+ghost use Rattle.field.specs.Field.{wordAt, readField, writeField, InBlock};
 
 pub struct Field {
     pub word: usize,
