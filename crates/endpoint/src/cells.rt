@@ -3,8 +3,10 @@ use super::entry::Endpoint;
 use super::entry::Handle;
 use super::order;
 ghost use mathlib.Core.Path.{_≡_};
-ghost use Prim.Native.Nat.{_<_, _≤_};
-ghost use Rattle.endpoint.specs.Cells.{Whole, noCells, withCell, cellsOf, isOwned, ownedRings, withActive};
+ghost use mathlib.Core.Bool.{not, _&&_};
+ghost use Prim.Native.Nat.{_≤_};
+ghost use lib.Dec.{eqb};
+ghost use Rattle.endpoint.specs.Cells.{Whole, noCells, withCell, cellsOf, owns, ownedRings, withActive};
 
 // Ring 0: no endpoint at that place.
 pub struct Cells {
@@ -63,17 +65,16 @@ pub fn cells_of(eps: [Endpoint; 30], owners: [u8; 30], n: usize) -> Cells
     c
 }
 
-// Whether an endpoint of an owner stands at a place.
-pub fn is_owned(who: Owner, c: Cells, place: usize) -> bool
-    requires { ⌜ place < 30 ⌝ }
-    ensures { λ r. ⌜ r ≡ isOwned who c place ⌝ }
+// Whether an endpoint is an owner's; there is none where the ring is 0.
+pub fn is_owned(who: Owner, ring: u64, owner: u8) -> bool
+    ensures { λ r. ⌜ r ≡ not (eqb ring 0) && owns who owner ⌝ }
 {
-    if c.rings[place] == 0 {
+    if ring == 0 {
         return false;
     }
     match who {
         Owner::Any => true,
-        Owner::Interface(i) => c.owners[place] == i,
+        Owner::Interface(i) => owner == i,
     }
 }
 
@@ -85,8 +86,9 @@ pub fn owned_rings(who: Owner, c: Cells) -> [u64; 30]
     let mut p = 0;
     while p < 30 {
         let place = p;
+        let owned = is_owned(who, rings[p], c.owners[p]);
         p += 1;
-        if !is_owned(who, c, place) {
+        if !owned {
             rings[place] = 0;
         }
     }
@@ -101,8 +103,9 @@ pub fn with_active(who: Owner, n: usize, mut c: Cells) -> Cells
     let mut p = 0;
     while p < 30 {
         let place = p;
+        let owned = is_owned(who, c.rings[p], c.owners[p]);
         p += 1;
-        if is_owned(who, c, place) {
+        if owned {
             c.active[place] = seen < n;
             seen += 1;
         }

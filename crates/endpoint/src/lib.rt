@@ -7,7 +7,6 @@ mod pending;
 pub use cells::Cells;
 pub use cells::Owner;
 pub use cells::cells_of;
-pub use cells::is_owned;
 pub use cells::no_cells;
 pub use cells::owned_rings;
 pub use cells::with_active;

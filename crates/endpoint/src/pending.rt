@@ -66,10 +66,11 @@ pub fn claimed_cells(interface: u8, pending: [u64; 30], mut c: Cells) -> Cells
     while p < 30 {
         let place = p;
         let ring = pending[p];
+        let owned = cells::is_owned(Owner::Interface(interface), c.rings[p], c.owners[p]);
         p += 1;
         if ring != 0 {
             c = cells::with_cell(c, place, ring, interface, true);
-        } else if cells::is_owned(Owner::Interface(interface), c, place) {
+        } else if owned {
             c = cells::with_cell(c, place, 0, 0, false);
         }
     }

@@ -19,8 +19,8 @@ use Rattle.configuration.specs.Lookup.{findEndpoints}
 use Rattle.descriptor.specs.Word.{endpointDescriptor}
 use Rattle.endpoint.specs.Order.{placeOf}
 use Rattle.endpoint.specs.Endpoint.{padded}
-use Rattle.endpoint.specs.Cells.{isOwned, owns}
-use Rattle.endpoint.specs.declared.cells.Owner.the-variants.{Any, Interface}
+use Rattle.endpoint.specs.Cells.{isOwned}
+use Rattle.endpoint.specs.declared.cells.Owner.the-variants.{Interface}
 use Rattle.endpoint.specs.declared.cells.Cells.{Cells}
 use Rattle.endpoint.proofs.Laws.{tabulated-at, tabulated-length}
 use Rattle.settings.specs.declared.held.Settings.{Settings}
@@ -341,18 +341,6 @@ module _ (q : ℕ) (t : ℕ → Bool) where
   one-out : 30 ≤ q → eachPlace (λ p. not (eqb q p) || t p) ≡ true
   one-out h = each-if (λ p. not (eqb q p) || t p) (λ p l. rw (ne-eqb q p (λ s. absurd (omega arith))))
 
--- what `addresses_free` asks of a place
-pub owned-free :
-    (i : ℕ) (c : Cells) (p : ℕ) →
-    Bool·beq (isOwned Any c p) (isOwned (Interface i) c p) ≡ eqb (getD (c .rings) p 0) 0 || eqb (getD (c .owners) p 0) i
-unfolding isOwned owns
-owned-free i c p = go (eqb (getD (c .rings) p 0) 0) (eqb (getD (c .owners) p 0) i)
-  where
-    go : (z s : Bool) → Bool·beq (not z && true) (not z && s) ≡ (z || s)
-    go true s = refl
-    go false true = refl
-    go false false = refl
-
 module _ (words : List ℕ) (i : ℕ) (c : Cells) (k q : ℕ) where
   abbrev free : ℕ → Bool
   free p = eqb (getD (c .rings) p 0) 0 || eqb (getD (c .owners) p 0) i
@@ -376,8 +364,8 @@ module _ (words : List ℕ) (i : ℕ) (c : Cells) (k q : ℕ) where
   pub free-next :
       k < length words → q ≡ placeOf ((endpointDescriptor (getD words k 0)) .address) → q < 30 →
       addressesFree (drop k words) i c
-      ≡ (Bool·beq (isOwned Any c q) (isOwned (Interface i) c q) && addressesFree (drop (k + 1) words) i c)
-  free-next h e l = free-split h e ∙ rw (one-in q free l, owned-free i c q)
+      ≡ ((eqb (getD (c .rings) q 0) 0 || eqb (getD (c .owners) q 0) i) && addressesFree (drop (k + 1) words) i c)
+  free-next h e l = free-split h e ∙ rw (one-in q free l)
 
   pub free-skip :
       k < length words → q ≡ placeOf ((endpointDescriptor (getD words k 0)) .address) → 30 ≤ q →

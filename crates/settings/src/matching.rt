@@ -1,7 +1,6 @@
 // Whether a record's endpoints are those of its held settings, compared by place.
 use super::held;
 use endpoint::Cells;
-use endpoint::Owner;
 ghost use mathlib.Core.Path.{_≡_};
 ghost use mathlib.Core.List.{List};
 ghost use Prim.Native.Nat.{ℕ, _≤_};
@@ -34,7 +33,7 @@ fn owns_places(list: &[u32], interface: u8, alternate: u8, c: Cells) -> bool
     let mut p = 0;
     while p < 30 {
         let word = places[p];
-        let own = endpoint::is_owned(Owner::Interface(interface), c, p);
+        let own = c.rings[p] != 0 && c.owners[p] == interface;
         p += 1;
         if word != own {
             return false;
@@ -94,8 +93,7 @@ pub fn addresses_free(words: &[u32], interface: u8, c: Cells) -> bool
         let place = endpoint::place_of(e.address);
         i += 1;
         if place < 30 {
-            let taken = endpoint::is_owned(Owner::Any, c, place);
-            if taken != endpoint::is_owned(Owner::Interface(interface), c, place) {
+            if c.rings[place] != 0 && c.owners[place] != interface {
                 return false;
             }
         }

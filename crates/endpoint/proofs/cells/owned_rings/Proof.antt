@@ -1,3 +1,4 @@
+use native.Mathlib.Omega.{arith}
 use Prim.Native.Nat.{_≤_, _-_}
 use mathlib.Core.Bool.{cond}
 use borrow.Author.Needs.{needs}
@@ -18,11 +19,20 @@ abbrev μ-loop : tie.MeasureT-loop
 loop-holds : tie.Need-loop-holds Inv-loop μ-loop
 loop-holds c = (search needs, write-none _ _ _ _ (search needs))
 
-add-p : tie.Need-add-p Inv-loop μ-loop
-add-p c = search needs
+mul-is-owned : tie.Need-mul-is-owned Inv-loop μ-loop
+mul-is-owned c = search needs
+
+array-read-is-owned : tie.Need-array-read-is-owned Inv-loop μ-loop
+array-read-is-owned c = search needs
+
+element-copy-out-is-owned : tie.Need-element-copy-out-is-owned Inv-loop μ-loop
+element-copy-out-is-owned c = search needs
 
 is-owned-requires : tie.Need-is-owned-requires Inv-loop μ-loop
 is-owned-requires c κs = search needs
+
+add-p : tie.Need-add-p Inv-loop μ-loop
+add-p c = search needs
 
 mul-rings : tie.Need-mul-rings Inv-loop μ-loop
 mul-rings c = search needs
@@ -34,13 +44,15 @@ loop-less : tie.Need-loop-less Inv-loop μ-loop
 loop-less c = search needs
 
 loop-again : tie.Need-loop-again Inv-loop μ-loop
-loop-again c = (search needs, write-next _ (c .before .before .before .loop .inv .1) (c .before .before .loop-test .taken) (rw (← c .before .is-owned .ensures, not-true (c .before .is-owned .result) (c .if1 .taken))))
+unfolding isOwned
+loop-again c = (search needs, write-next _ (c .before .before .before .before .loop .inv .1) (c .before .before .before .loop-test .taken) (rw (← c .before .before .before .before .loop .inv .1 .left (c .before .before .before .before .loop .p) (omega arith), ← c .before .is-owned .ensures, not-true (c .before .is-owned .result) (c .if1 .taken))))
 
 loop-less-2 : tie.Need-loop-less-2 Inv-loop μ-loop
 loop-less-2 c = search needs
 
 loop-again-2 : tie.Need-loop-again-2 Inv-loop μ-loop
-loop-again-2 c = (search needs, write-keep (c .before .before .before .loop .inv .1) (c .before .before .loop-test .taken) (rw (← c .before .is-owned .ensures, not-false (c .before .is-owned .result) (c .if1 .left))))
+unfolding isOwned
+loop-again-2 c = (search needs, write-keep (c .before .before .before .before .loop .inv .1) (c .before .before .before .loop-test .taken) (rw (← c .before .before .before .before .loop .inv .1 .left (c .before .before .before .before .loop .p) (omega arith), ← c .before .is-owned .ensures, not-false (c .before .is-owned .result) (c .if1 .left))))
 
 returns : tie.Need-returns Inv-loop μ-loop
 unfolding ownedRings
@@ -53,8 +65,11 @@ owned-rings-spec =
     Inv-loop
     μ-loop
     loop-holds
-    add-p
+    mul-is-owned
+    array-read-is-owned
+    element-copy-out-is-owned
     is-owned-requires
+    add-p
     mul-rings
     array-write-rings
     loop-less

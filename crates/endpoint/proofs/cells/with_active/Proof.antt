@@ -1,3 +1,4 @@
+use Rattle.endpoint.specs.Cells.{isOwned}
 use mathlib.Core.Path.{sym, _∙_}
 use Prim.Native.Nat.{_≤_, _-_}
 use Rattle.endpoint.proofs.Steps.{Activated, activated-none, activated-next, activated-keep, activated-done}
@@ -15,11 +16,20 @@ abbrev μ-loop : tie.MeasureT-loop
 loop-holds : tie.Need-loop-holds Inv-loop μ-loop
 loop-holds c = (search needs, search needs, activated-none _ _ _ (search needs))
 
-add-p : tie.Need-add-p Inv-loop μ-loop
-add-p c = search needs
+mul-is-owned : tie.Need-mul-is-owned Inv-loop μ-loop
+mul-is-owned c = search needs
+
+element-copy-out-is-owned : tie.Need-element-copy-out-is-owned Inv-loop μ-loop
+element-copy-out-is-owned c = search needs
+
+element-copy-out-is-owned-2 : tie.Need-element-copy-out-is-owned-2 Inv-loop μ-loop
+element-copy-out-is-owned-2 c = search needs
 
 is-owned-requires : tie.Need-is-owned-requires Inv-loop μ-loop
 is-owned-requires c κs = search needs
+
+add-p : tie.Need-add-p Inv-loop μ-loop
+add-p c = search needs
 
 element-write-c : tie.Need-element-write-c Inv-loop μ-loop
 element-write-c c = search needs
@@ -31,13 +41,15 @@ loop-less : tie.Need-loop-less Inv-loop μ-loop
 loop-less c = search needs
 
 loop-again : tie.Need-loop-again Inv-loop μ-loop
-loop-again c = (search needs, search needs, activated-next (c .before .before .before .loop .inv .2) (c .before .before .loop-test .taken) (sym (c .before .is-owned .ensures) ∙ c .if1 .taken))
+unfolding isOwned
+loop-again c = (search needs, search needs, activated-next (c .before .before .before .before .before .loop .inv .2) (c .before .before .before .before .loop-test .taken) (sym (c .before .is-owned .ensures) ∙ c .if1 .taken))
 
 loop-less-2 : tie.Need-loop-less-2 Inv-loop μ-loop
 loop-less-2 c = search needs
 
 loop-again-2 : tie.Need-loop-again-2 Inv-loop μ-loop
-loop-again-2 c = (search needs, search needs, activated-keep (c .before .before .before .loop .inv .2) (c .before .before .loop-test .taken) (sym (c .before .is-owned .ensures) ∙ c .if1 .left))
+unfolding isOwned
+loop-again-2 c = (search needs, search needs, activated-keep (c .before .before .before .before .before .loop .inv .2) (c .before .before .before .before .loop-test .taken) (sym (c .before .is-owned .ensures) ∙ c .if1 .left))
 
 returns : tie.Need-returns Inv-loop μ-loop
 returns c = activated-done (c .before .loop .inv .2) (c .loop-test .left)
@@ -49,8 +61,11 @@ with-active-spec =
     Inv-loop
     μ-loop
     loop-holds
-    add-p
+    mul-is-owned
+    element-copy-out-is-owned
+    element-copy-out-is-owned-2
     is-owned-requires
+    add-p
     element-write-c
     add-seen
     loop-less

@@ -1,9 +1,11 @@
 use Prim.Native.Nat.{_-_}
 use mathlib.Core.Path.{_≡_, sym, _∙_}
-use mathlib.Core.Bool.{true, false, Bool·beq}
+use mathlib.Core.Logic.{⊎-elim}
 use borrow.Author.Needs.{needs}
-use borrow.Author.Tests.{not-true, not-false}
-use lib.ListN.{length, drop}
+use mathlib.Core.Bool.{true, false}
+use borrow.Author.Tests.{eq-eqb, ne-eqb, not-true, not-false}
+use lib.Dec.{eqb}
+use lib.ListN.{length, getD, drop}
 use Rattle.settings.specs.Match.{addressesFree}
 use Rattle.settings.proofs.Steps.{free-next, free-skip, free-none}
 use Rattle.settings.proofs.matching.addresses_free.Statement.{statement}
@@ -35,32 +37,33 @@ place-of-requires c κs = search needs
 add-i : tie.Need-add-i Inv-loop μ-loop
 add-i c = search needs
 
-is-owned-requires : tie.Need-is-owned-requires Inv-loop μ-loop
-is-owned-requires c κs = search needs
+mul-if2 : tie.Need-mul-if2 Inv-loop μ-loop
+mul-if2 c = search needs
 
-is-owned-requires-2 : tie.Need-is-owned-requires-2 Inv-loop μ-loop
-is-owned-requires-2 c κs = search needs
+element-copy-out-if2 : tie.Need-element-copy-out-if2 Inv-loop μ-loop
+element-copy-out-if2 c = search needs
+
+element-copy-out-if3 : tie.Need-element-copy-out-if3 Inv-loop μ-loop
+element-copy-out-if3 c = search needs
 
 returns : tie.Need-returns Inv-loop μ-loop
-returns c = let l = c .before .before .before .before .before .before .before .before .loop in
-    let any = c .before .before .is-owned .result in
-    let own = c .before .is-owned2 .result in
-    let e : Bool·beq any own ≡ false = not-true (Bool·beq any own) (c .if2 .taken) in
-    sym (l .inv
-    ∙ free-next _ _ _ (l .i) (c .before .before .before .before .place-of .result) (c .before .before .before .before .before .before .before .loop-test .taken) (c .before .before .before .before .place-of .ensures .0 ∙ rw (c .before .before .before .before .before .endpoint-descriptor .ensures)) (c .before .before .before .if1 .taken)
-    ∙ rw (← c .before .before .is-owned .ensures, ← c .before .is-owned2 .ensures, e))
+returns c = let own = eqb (getD (c .before .before .before .before .before .before .before .before .before .before .before .args .t3 .owners) (c .before .before .before .before .before .place-of .result) 0) (c .before .before .before .before .before .before .before .before .before .before .before .args .interface) in
+    let e : own ≡ false = not-true own (c .if3 .taken) in
+    sym
+    (c .before .before .before .before .before .before .before .before .before .loop .inv
+    ∙ free-next _ _ _ (c .before .before .before .before .before .before .before .before .before .loop .i) (c .before .before .before .before .before .place-of .result) (c .before .before .before .before .before .before .before .before .loop-test .taken) (c .before .before .before .before .before .place-of .ensures .0 ∙ rw (c .before .before .before .before .before .before .endpoint-descriptor .ensures)) (c .before .before .before .before .if1 .taken)
+    ∙ rw (ne-eqb _ _ (c .before .before .if2 .taken), e))
 
 loop-less : tie.Need-loop-less Inv-loop μ-loop
 loop-less c = search needs
 
 loop-again : tie.Need-loop-again Inv-loop μ-loop
-loop-again c = let l = c .before .before .before .before .before .before .before .before .loop in
-    let any = c .before .before .is-owned .result in
-    let own = c .before .is-owned2 .result in
-    let e : Bool·beq any own ≡ true = not-false (Bool·beq any own) (c .if2 .left) in
-    l .inv
-    ∙ free-next _ _ _ (l .i) (c .before .before .before .before .place-of .result) (c .before .before .before .before .before .before .before .loop-test .taken) (c .before .before .before .before .place-of .ensures .0 ∙ rw (c .before .before .before .before .before .endpoint-descriptor .ensures)) (c .before .before .before .if1 .taken)
-    ∙ rw (← c .before .before .is-owned .ensures, ← c .before .is-owned2 .ensures, e)
+loop-again c = let own = eqb (getD (c .before .before .before .before .before .before .before .before .before .args .t3 .owners) (c .before .before .before .place-of .result) 0) (c .before .before .before .before .before .before .before .before .before .args .interface) in
+    let n =
+    c .before .before .before .before .before .before .before .loop .inv
+    ∙ free-next _ _ _ (c .before .before .before .before .before .before .before .loop .i) (c .before .before .before .place-of .result) (c .before .before .before .before .before .before .loop-test .taken) (c .before .before .before .place-of .ensures .0 ∙ rw (c .before .before .before .before .endpoint-descriptor .ensures)) (c .before .before .if1 .taken)
+    in
+    ⊎-elim (λ w. let e : own ≡ true = not-false own (w .2 .left) in n ∙ rw (ne-eqb _ _ (w .0 .taken), e)) (λ w. n ∙ rw (eq-eqb _ _ (w .left))) (c .if2 .came)
 
 loop-less-2 : tie.Need-loop-less-2 Inv-loop μ-loop
 loop-less-2 c = search needs
@@ -84,8 +87,9 @@ addresses-free-spec =
     endpoint-descriptor-requires
     place-of-requires
     add-i
-    is-owned-requires
-    is-owned-requires-2
+    mul-if2
+    element-copy-out-if2
+    element-copy-out-if3
     returns
     loop-less
     loop-again

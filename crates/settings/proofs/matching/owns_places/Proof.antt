@@ -1,10 +1,11 @@
 use Prim.Native.Nat.{_≤_, _-_}
 use mathlib.Core.Path.{_≡_, sym, _∙_}
+use mathlib.Core.Logic.{⊎-elim}
 use mathlib.Core.Bool.{true, false, Bool·beq}
 use borrow.Author.Needs.{needs}
-use borrow.Author.Tests.{not-true, not-false}
+use borrow.Author.Tests.{eq-eqb, ne-eqb, not-true, not-false}
 use lib.ListN.{getD}
-use Rattle.endpoint.specs.Cells.{isOwned}
+use Rattle.endpoint.specs.Cells.{isOwned, owns}
 use Rattle.endpoint.specs.declared.cells.Owner.the-variants.{Interface}
 use Rattle.settings.specs.Held.{settingWords}
 use Rattle.settings.specs.Match.{same, eachFrom, eachPlace, ownsPlaces}
@@ -32,28 +33,41 @@ loop-holds c = (search needs, owns-same _ _ _ _ (c .places-of .ensures ∙ rw (c
 array-read-word : tie.Need-array-read-word Inv-loop μ-loop
 array-read-word c = search needs
 
-is-owned-requires : tie.Need-is-owned-requires Inv-loop μ-loop
-is-owned-requires c κs = search needs
+mul-if1 : tie.Need-mul-if1 Inv-loop μ-loop
+mul-if1 c = search needs
+
+element-copy-out-if1 : tie.Need-element-copy-out-if1 Inv-loop μ-loop
+element-copy-out-if1 c = search needs
+
+element-copy-out-own : tie.Need-element-copy-out-own Inv-loop μ-loop
+element-copy-out-own c = search needs
 
 add-p : tie.Need-add-p Inv-loop μ-loop
 add-p c = search needs
 
+own-made :
+    (c : tie.Joined1 Inv-loop μ-loop) →
+    c .if1 .own ≡ isOwned (Interface (c .before .before .before .before .before .before .before .args .interface)) (c .before .before .before .before .before .before .before .args .t4) (c .before .before .before .loop .p)
+unfolding isOwned owns
+own-made c =
+    ⊎-elim (λ w. rw (ne-eqb _ _ (w .0 .taken)) (w .2)) (λ w. w .1 ∙ rw (eq-eqb _ _ (w .0 .left))) (c .if1 .came)
+
 returns : tie.Need-returns Inv-loop μ-loop
-returns c = let l = c .before .before .before .loop in
-    let word = getD (c .before .before .before .before .places-of .result) (l .p) false in
-    let own = c .before .is-owned .result in
-    let e : Bool·beq word own ≡ false = not-true (Bool·beq word own) (c .if1 .taken) in
-    sym (l .inv .1 ∙ each-next _ 30 (l .p) (c .before .before .loop-test .taken) ∙ rw (← c .before .is-owned .ensures, same-test word own, e))
+returns c = let l = c .before .before .before .before .loop in
+    let word = getD (c .before .before .before .before .before .places-of .result) (l .p) false in
+    let own = c .before .if1 .own in
+    let e : Bool·beq word own ≡ false = not-true (Bool·beq word own) (c .if2 .taken) in
+    sym (l .inv .1 ∙ each-next _ 30 (l .p) (c .before .before .before .loop-test .taken) ∙ rw (← own-made (c .before), same-test word own, e))
 
 loop-less : tie.Need-loop-less Inv-loop μ-loop
 loop-less c = search needs
 
 loop-again : tie.Need-loop-again Inv-loop μ-loop
-loop-again c = let l = c .before .before .before .loop in
-    let word = getD (c .before .before .before .before .places-of .result) (l .p) false in
-    let own = c .before .is-owned .result in
-    let e : Bool·beq word own ≡ true = not-false (Bool·beq word own) (c .if1 .left) in
-    (search needs, l .inv .1 ∙ each-next _ 30 (l .p) (c .before .before .loop-test .taken) ∙ rw (← c .before .is-owned .ensures, same-test word own, e))
+loop-again c = let l = c .before .before .before .before .loop in
+    let word = getD (c .before .before .before .before .before .places-of .result) (l .p) false in
+    let own = c .before .if1 .own in
+    let e : Bool·beq word own ≡ true = not-false (Bool·beq word own) (c .if2 .left) in
+    (search needs, l .inv .1 ∙ each-next _ 30 (l .p) (c .before .before .before .loop-test .taken) ∙ rw (← own-made (c .before), same-test word own, e))
 
 returns-2 : tie.Need-returns-2 Inv-loop μ-loop
 returns-2 c = sym (c .before .loop .inv .1 ∙ each-none _ 30 (c .before .loop .p) (c .loop-test .left))
@@ -68,7 +82,9 @@ owns-places-spec =
     places-of-requires
     loop-holds
     array-read-word
-    is-owned-requires
+    mul-if1
+    element-copy-out-if1
+    element-copy-out-own
     add-p
     returns
     loop-less
