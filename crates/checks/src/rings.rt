@@ -37,7 +37,7 @@ pub fn rings_sound(
         rings[m + 1 + i] = e.ring;
         i += 1;
     }
-    ring::rings_fit(&rings[0..count])
+    ring::rings_fit(&rings[..count])
 }
 
 // The first n of some rings as all that are quarantined.
