@@ -23,7 +23,7 @@ pub fn held_check(
     if settings::is_held(interfaces, held, interface) {
         return Check::Pass;
     }
-    let found = configuration::find_interface_endpoints(&list[0..n], interface, 0);
+    let found = configuration::find_interface_endpoints(&list[..n], interface, 0);
     match found {
         Found::Endpoints { .. } => Check::Pass,
         Found::NotFound => Check::Refuse(Answer::NotFound),

@@ -25,7 +25,7 @@ pub fn list_check(
     requires { ⌜ (n ≤ 256) × (m ≤ 61) ⌝ }
     ensures { λ r. ⌜ r ≡ offerCheck (take n list) interface alternate c (now (rings .entry)) control (take m quarantined) ⌝ }
 {
-    let words = &list[0..n];
+    let words = &list[..n];
     let found = configuration::find_interface_endpoints(words, interface, alternate);
     match found {
         Found::Endpoints { start, count } => {
@@ -33,7 +33,7 @@ pub fn list_check(
             if !settings::addresses_free(setting, interface, c) {
                 return Check::Refuse(Answer::InvalidParameter);
             }
-            let kept = &quarantined[0..m];
+            let kept = &quarantined[..m];
             if ring::offer_ok(count, rings, &c.rings, control, kept) {
                 return Check::Pass;
             }
@@ -54,6 +54,6 @@ pub fn list_rings(
     requires { ⌜ n ≤ 256 ⌝ }
     ensures { λ r. ⌜ r ≡ pendingRings (settingWords (take n list) interface alternate) (now (rings .entry)) ⌝ }
 {
-    let words = settings::setting_words(&list[0..n], interface, alternate);
+    let words = settings::setting_words(&list[..n], interface, alternate);
     endpoint::pending_rings(words, rings)
 }

@@ -1,12 +1,9 @@
 // The rings of a record together.
 use endpoint::Endpoint;
 ghost use mathlib.Core.Path.{_≡_};
-ghost use mathlib.Core.Bool.{_&&_};
 ghost use mathlib.Core.List.{_∷_, _++_};
-ghost use Prim.Native.Nat.{_+_, _≤_};
+ghost use Prim.Native.Nat.{_≤_};
 ghost use lib.ListN.{length, take};
-ghost use Rattle.laws.proofs.Distinct.{distinct};
-ghost use Rattle.ring.specs.Rings.{ringsOk};
 ghost use Rattle.endpoint.specs.Endpoint.{ringsOf, padded};
 ghost use Rattle.checks.specs.Rings.{soundRings};
 
@@ -29,6 +26,7 @@ pub fn rings_sound(
     if usable && m != 0 {
         return false;
     }
+    // The live ones go behind the quarantined ones and control's.
     let mut rings = quarantined;
     rings[m] = control;
     let mut i = 0;
@@ -37,7 +35,7 @@ pub fn rings_sound(
         rings[m + 1 + i] = e.ring;
         i += 1;
     }
-    ring::rings_fit(&rings[0..count])
+    ring::rings_fit(&rings[..count])
 }
 
 // The first n of some rings as all that are quarantined.

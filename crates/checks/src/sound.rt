@@ -52,7 +52,7 @@ pub fn lists_sound(
     requires { ⌜ (n ≤ 256) × (held ≤ 32) × (count ≤ 30) ⌝ }
     ensures { λ r. ⌜ r ≡ soundLists (take n list) (heldIn held interfaces alternates) (addresses (take count eps)) (cellsOf count eps owners) ⌝ }
 {
-    let words = &list[0..n];
+    let words = &list[..n];
     if !configuration::valid_list(words) {
         return false;
     }

@@ -4,7 +4,7 @@ use def::SlotId;
 ghost use mathlib.Core.Path.{_≡_};
 ghost use mathlib.Core.List.{[]};
 ghost use lib.ListN.{getD};
-ghost use Rattle.transfer.specs.Routes.{routeIndex, routeOf, withRoute, queues, names, registered, withRegistered, oldMatch, isFree, newFree, cleared, published, replaced, withReplaced};
+ghost use Rattle.transfer.specs.Routes.{routeIndex, queues, names, registered, withRegistered, oldMatch, newFree, published, replaced, withReplaced};
 
 pub enum Registered {
     Done,
@@ -33,13 +33,6 @@ fn word_at(words: &[u64], i: usize) -> u64
     if i < words.len() { words[i] } else { 0 }
 }
 
-fn route(routes: &[u64], slot: SlotId, dci: Dci) -> u64
-    ensures { λ r. ⌜ r ≡ routeOf (now (routes .entry)) (slot .0) (dci .0) ⌝ }
-{
-    let i = route_index(slot, dci);
-    word_at(routes, i)
-}
-
 // A word past the end is not written.
 pub fn register_queue(routes: &mut [u64], slot: SlotId, dci: Dci, ring: u64) -> Registered
     ensures { λ r. ⌜ (r ≡ registered (now (routes .entry)) (slot .0) (dci .0)) × (now (routes .exit) ≡ withRegistered (now (routes .entry)) (slot .0) (dci .0) ring) ⌝ }
@@ -60,7 +53,7 @@ fn old_match(routes: &[u64], slot: SlotId, dcis: &[u8], rings: &[u64]) -> bool
 {
     let mut i = 0;
     while i < dcis.len() {
-        let word = route(routes, slot, Dci(dcis[i]));
+        let word = word_at(routes, route_index(slot, Dci(dcis[i])));
         if word != word_at(rings, i) {
             return false;
         }
@@ -90,7 +83,7 @@ fn new_free(routes: &[u64], slot: SlotId, old_dcis: &[u8], dcis: &[u8], rings: &
     let mut i = 0;
     while i < dcis.len() {
         let dci = dcis[i];
-        let word = route(routes, slot, Dci(dci));
+        let word = word_at(routes, route_index(slot, Dci(dci)));
         let ring = word_at(rings, i);
         i += 1;
         if word != 0 && word != ring && !is_among(old_dcis, dci) {

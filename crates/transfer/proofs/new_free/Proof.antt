@@ -1,12 +1,12 @@
-use lib.Dec.{eqb}
 use borrow.Author.Needs.{needs}
-use Prim.Native.Nat.{_≤_, _-_}
-use mathlib.Core.Path.{_≡_, sym, _∙_}
+use Prim.Native.Nat.{ℕ, _≤_, _-_}
+use mathlib.Core.Path.{_≡_, sym, ap, _∙_}
 use mathlib.Core.Logic.{inl, inr, ⊎-elim}
 use mathlib.Core.List.{[]}
 use borrow.Author.Tests.{eq-eqb, ne-eqb, not-true, not-false}
-use lib.ListN.{length, drop}
-use Rattle.transfer.specs.Routes.{queues, newFree}
+use lib.Dec.{eqb}
+use lib.ListN.{length, getD, drop}
+use Rattle.transfer.specs.Routes.{queues, routeOf, newFree}
 use Rattle.transfer.proofs.Steps.{free-go, free-stop, free-none}
 use Rattle.transfer.proofs.new_free.Statement.{statement}
 use Rattle.transfer.proofs.new_free.Tie as tie
@@ -24,11 +24,14 @@ loop-holds c = search needs
 shared-slice-read-dci : tie.Need-shared-slice-read-dci Inv-loop μ-loop
 shared-slice-read-dci c = search needs
 
-route-requires : tie.Need-route-requires Inv-loop μ-loop
-route-requires c κs = search needs
+route-index-requires : tie.Need-route-index-requires Inv-loop μ-loop
+route-index-requires c κs = search needs
 
 word-at-requires : tie.Need-word-at-requires Inv-loop μ-loop
 word-at-requires c κs = search needs
+
+word-at-requires-2 : tie.Need-word-at-requires-2 Inv-loop μ-loop
+word-at-requires-2 c κs = search needs
 
 add-i : tie.Need-add-i Inv-loop μ-loop
 add-i c = search needs
@@ -37,13 +40,15 @@ is-among-requires : tie.Need-is-among-requires Inv-loop μ-loop
 is-among-requires c κs = search needs
 
 returns : tie.Need-returns Inv-loop μ-loop
-returns c = let word = c .before .before .before .before .before .route .result in let ring = c .before .before .before .before .word-at .result in sym (c .before .before .before .before .before .before .before .before .loop .inv .1 ∙ free-stop _ _ _ _ _ _ (c .before .before .before .before .before .before .before .loop-test .taken) word ring (c .before .before .before .before .before .route .ensures) (c .before .before .before .before .word-at .ensures) (sym (c .before .is-among .ensures) ∙ not-true (c .before .is-among .result) (c .if3 .taken)) (not-true (eqb word ring) (c .before .before .if2 .taken)) (ne-eqb word 0 (c .before .before .before .if1 .taken)))
+unfolding routeOf
+returns c = let word = c .before .before .before .before .before .word-at .result in let ring = c .before .before .before .before .word-at2 .result in let e = c .before .before .before .before .before .word-at .ensures ∙ ap (λ (k : ℕ). getD (c .before .before .before .before .before .before .before .before .before .before .before .before .before .before .args .routes .now) k 0) (c .before .before .before .before .before .before .route-index .ensures) in sym (c .before .before .before .before .before .before .before .before .before .loop .inv .1 ∙ free-stop _ _ _ _ _ _ (c .before .before .before .before .before .before .before .before .loop-test .taken) word ring e (c .before .before .before .before .word-at2 .ensures) (sym (c .before .is-among .ensures) ∙ not-true (c .before .is-among .result) (c .if3 .taken)) (not-true (eqb word ring) (c .before .before .if2 .taken)) (ne-eqb word 0 (c .before .before .before .if1 .taken)))
 
 loop-less : tie.Need-loop-less Inv-loop μ-loop
 loop-less c = search needs
 
 loop-again : tie.Need-loop-again Inv-loop μ-loop
-loop-again c = let word = c .before .before .route .result in let ring = c .before .word-at .result in (search needs, c .before .before .before .before .before .loop .inv .1 ∙ free-go _ _ _ _ _ _ (c .before .before .before .before .loop-test .taken) word ring (c .before .before .route .ensures) (c .before .word-at .ensures) (⊎-elim (λ w. inl (sym (w .2 .ensures) ∙ not-false (w .2 .result) (w .3 .left))) (⊎-elim (λ w. inr (inl (not-false (eqb word ring) (w .1 .left)))) (λ w. inr (inr (eq-eqb word 0 (w .left))))) (c .if1 .came)))
+unfolding routeOf
+loop-again c = let word = c .before .before .word-at .result in let ring = c .before .word-at2 .result in let e = c .before .before .word-at .ensures ∙ ap (λ (k : ℕ). getD (c .before .before .before .before .before .before .before .before .before .before .before .args .routes .now) k 0) (c .before .before .before .route-index .ensures) in (search needs, c .before .before .before .before .before .before .loop .inv .1 ∙ free-go _ _ _ _ _ _ (c .before .before .before .before .before .loop-test .taken) word ring e (c .before .word-at2 .ensures) (⊎-elim (λ w. inl (sym (w .2 .ensures) ∙ not-false (w .2 .result) (w .3 .left))) (⊎-elim (λ w. inr (inl (not-false (eqb word ring) (w .1 .left)))) (λ w. inr (inr (eq-eqb word 0 (w .left))))) (c .if1 .came)))
 
 returns-2 : tie.Need-returns-2 Inv-loop μ-loop
 returns-2 c = sym (c .before .loop .inv .1 ∙ free-none _ _ _ _ _ _ (c .loop-test .left))
@@ -56,8 +61,9 @@ new-free-spec =
     μ-loop
     loop-holds
     shared-slice-read-dci
-    route-requires
+    route-index-requires
     word-at-requires
+    word-at-requires-2
     add-i
     is-among-requires
     returns

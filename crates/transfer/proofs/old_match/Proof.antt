@@ -3,7 +3,7 @@ use Prim.Native.Nat.{_≤_, _-_}
 use mathlib.Core.Path.{_≡_, sym, _∙_}
 use borrow.Author.Tests.{eq-eqb, ne-eqb}
 use lib.ListN.{length, drop}
-use Rattle.transfer.specs.Routes.{queues, oldMatch}
+use Rattle.transfer.specs.Routes.{queues, routeOf, oldMatch}
 use Rattle.transfer.proofs.Steps.{match-next, match-none}
 use Rattle.transfer.proofs.old_match.Statement.{statement}
 use Rattle.transfer.proofs.old_match.Tie as tie
@@ -21,14 +21,18 @@ loop-holds c = search needs
 shared-slice-read-t10 : tie.Need-shared-slice-read-t10 Inv-loop μ-loop
 shared-slice-read-t10 c = search needs
 
-route-requires : tie.Need-route-requires Inv-loop μ-loop
-route-requires c κs = search needs
+route-index-requires : tie.Need-route-index-requires Inv-loop μ-loop
+route-index-requires c κs = search needs
 
 word-at-requires : tie.Need-word-at-requires Inv-loop μ-loop
 word-at-requires c κs = search needs
 
+word-at-requires-2 : tie.Need-word-at-requires-2 Inv-loop μ-loop
+word-at-requires-2 c κs = search needs
+
 returns : tie.Need-returns Inv-loop μ-loop
-returns c = sym (c .before .before .before .before .before .loop .inv .1 ∙ match-next _ _ _ _ _ (c .before .before .before .before .loop-test .taken) ∙ rw (← c .before .before .route .ensures, ← c .before .word-at .ensures, ne-eqb _ _ (c .if1 .taken)))
+unfolding routeOf
+returns c = sym (c .before .before .before .before .before .before .loop .inv .1 ∙ match-next _ _ _ _ _ (c .before .before .before .before .before .loop-test .taken) ∙ rw (← c .before .before .before .route-index .ensures, ← c .before .before .word-at .ensures, ← c .before .word-at2 .ensures, ne-eqb _ _ (c .if1 .taken)))
 
 add-i : tie.Need-add-i Inv-loop μ-loop
 add-i c = search needs
@@ -37,7 +41,8 @@ loop-less : tie.Need-loop-less Inv-loop μ-loop
 loop-less c = search needs
 
 loop-again : tie.Need-loop-again Inv-loop μ-loop
-loop-again c = (search needs, c .before .before .before .before .before .loop .inv .1 ∙ match-next _ _ _ _ _ (c .before .before .before .before .loop-test .taken) ∙ rw (← c .before .before .route .ensures, ← c .before .word-at .ensures, eq-eqb _ _ (c .if1 .left)))
+unfolding routeOf
+loop-again c = (search needs, c .before .before .before .before .before .before .loop .inv .1 ∙ match-next _ _ _ _ _ (c .before .before .before .before .before .loop-test .taken) ∙ rw (← c .before .before .before .route-index .ensures, ← c .before .before .word-at .ensures, ← c .before .word-at2 .ensures, eq-eqb _ _ (c .if1 .left)))
 
 returns-2 : tie.Need-returns-2 Inv-loop μ-loop
 returns-2 c = sym (c .before .loop .inv .1 ∙ match-none _ _ _ _ _ (c .loop-test .left))
@@ -50,8 +55,9 @@ old-match-spec =
     μ-loop
     loop-holds
     shared-slice-read-t10
-    route-requires
+    route-index-requires
     word-at-requires
+    word-at-requires-2
     returns
     add-i
     loop-less

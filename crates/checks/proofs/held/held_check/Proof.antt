@@ -1,4 +1,7 @@
-use native.Mathlib.Nat.{sub-zero}
+use mathlib.Core.Path.{_≡_, sym}
+use native.Mathlib.Omega.{arith}
+use lib.ListN.{length}
+use lib.Seq.{length-take-le}
 use Rattle.settings.specs.Held.{isFound}
 use borrow.Author.Needs.{needs}
 use Rattle.checks.proofs.held.held_check.Statement.{statement}
@@ -10,14 +13,11 @@ is-held-requires c κs = search needs
 returns : tie.Need-returns
 returns c = λ alternates. rw (← c .before .is-held .ensures alternates, c .if1 .taken)
 
-sub-find-interface-endpoints : tie.Need-sub-find-interface-endpoints
-sub-find-interface-endpoints c = search needs
+array-share-prefix-list : tie.Need-array-share-prefix-list
+array-share-prefix-list c = search needs
 
-part-find-interface-endpoints-start : tie.Need-part-find-interface-endpoints-start
-part-find-interface-endpoints-start c = search needs
-
-part-find-interface-endpoints-end : tie.Need-part-find-interface-endpoints-end
-part-find-interface-endpoints-end c = search needs
+slice-aggregate-find-interface-endpoints : tie.Need-slice-aggregate-find-interface-endpoints
+slice-aggregate-find-interface-endpoints c = let full : length (c .before .before .before .args .t1) ≡ 256 = search needs in sym (length-take-le (c .before .before .before .args .n) (c .before .before .before .args .t1) (omega (arith, full, c .before .before .before .pre)))
 
 find-interface-endpoints-requires : tie.Need-find-interface-endpoints-requires
 find-interface-endpoints-requires c κs = search needs
@@ -30,11 +30,11 @@ enum-told-2 c = search needs
 
 returns-2 : tie.Need-returns-2
 unfolding isFound
-returns-2 c = λ alternates. rw (← c .before .before .before .before .before .before .is-held .ensures alternates, c .before .before .before .before .before .if1 .left, ← (rw sub-zero at (c .before .before .find-interface-endpoints .ensures)), c .enum-told .given .1)
+returns-2 c = λ alternates. rw (← c .before .before .before .before .before .is-held .ensures alternates, c .before .before .before .before .if1 .left, ← c .before .before .find-interface-endpoints .ensures, c .enum-told .given .1)
 
 returns-3 : tie.Need-returns-3
 unfolding isFound
-returns-3 c = λ alternates. rw (← c .before .before .before .before .before .before .is-held .ensures alternates, c .before .before .before .before .before .if1 .left, ← (rw sub-zero at (c .before .before .find-interface-endpoints .ensures)), c .enum-told2 .given .1)
+returns-3 c = λ alternates. rw (← c .before .before .before .before .before .is-held .ensures alternates, c .before .before .before .before .if1 .left, ← c .before .before .find-interface-endpoints .ensures, c .enum-told2 .given .1)
 
 pub held-check-spec : {M : Type 1} → statement M
 held-check-spec =
@@ -42,9 +42,8 @@ held-check-spec =
     (tie.spec
     is-held-requires
     returns
-    sub-find-interface-endpoints
-    part-find-interface-endpoints-start
-    part-find-interface-endpoints-end
+    array-share-prefix-list
+    slice-aggregate-find-interface-endpoints
     find-interface-endpoints-requires
     enum-told
     enum-told-2

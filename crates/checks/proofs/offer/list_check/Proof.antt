@@ -1,22 +1,21 @@
-use Rattle.checks.proofs.Steps.{part-count}
-use mathlib.Core.Path.{sym, _∙_}
+use mathlib.Core.Path.{_≡_, sym, _∙_}
 use native.Mathlib.Omega.{arith}
-use native.Mathlib.Nat.{sub-zero, add-sub-cancel-left}
+use native.Mathlib.Nat.{add-sub-cancel-left}
 use borrow.Author.Tests.{not-true, not-false}
+use lib.ListN.{length, take}
+use lib.Seq.{length-take-le}
 use Rattle.configuration.proofs.Laws.{found-inside}
 use Rattle.settings.specs.Held.{isFound, foundWords, settingWords}
+use Rattle.checks.proofs.Steps.{part-count}
 use borrow.Author.Needs.{needs}
 use Rattle.checks.proofs.offer.list_check.Statement.{statement}
 use Rattle.checks.proofs.offer.list_check.Tie as tie
 
-sub-words : tie.Need-sub-words
-sub-words c = search needs
+array-share-prefix-list : tie.Need-array-share-prefix-list
+array-share-prefix-list c = search needs
 
-part-words-start : tie.Need-part-words-start
-part-words-start c = search needs
-
-part-words-end : tie.Need-part-words-end
-part-words-end c = search needs
+slice-aggregate-words : tie.Need-slice-aggregate-words
+slice-aggregate-words c = let full : length (c .before .before .args .t1) ≡ 256 = search needs in sym (length-take-le (c .before .before .args .n) (c .before .before .args .t1) (omega (arith, full, c .before .before .pre)))
 
 find-interface-endpoints-requires : tie.Need-find-interface-endpoints-requires
 find-interface-endpoints-requires c κs = search needs
@@ -25,10 +24,10 @@ enum-known-found : tie.Need-enum-known-found
 enum-known-found c = search needs
 
 add-setting : tie.Need-add-setting
-add-setting c = let h = found-inside _ _ _ _ _ (sym (c .before .before .before .find-interface-endpoints .ensures) ∙ c .before .found .given .1) in omega (arith, h)
+add-setting c = let a = c .before .before .before .before .before .before .args in let full : length (a .t1) ≡ 256 = search needs in let k = length-take-le (a .n) (a .t1) (omega (arith, full, c .before .before .before .before .before .before .pre)) in let h = found-inside (take (a .n) (a .t1)) _ _ _ _ (sym (c .before .before .before .find-interface-endpoints .ensures) ∙ c .before .found .given .1) in omega (arith, h, k, c .before .before .before .before .before .before .pre)
 
 mul-setting : tie.Need-mul-setting
-mul-setting c = let h = found-inside _ _ _ _ _ (sym (c .before .before .before .find-interface-endpoints .ensures) ∙ c .before .found .given .1) in omega (arith, h)
+mul-setting c = let a = c .before .before .before .before .before .before .args in let full : length (a .t1) ≡ 256 = search needs in let k = length-take-le (a .n) (a .t1) (omega (arith, full, c .before .before .before .before .before .before .pre)) in let h = found-inside (take (a .n) (a .t1)) _ _ _ _ (sym (c .before .before .before .find-interface-endpoints .ensures) ∙ c .before .found .given .1) in omega (arith, h, k, c .before .before .before .before .before .before .pre)
 
 sub-setting : tie.Need-sub-setting
 sub-setting c = search needs
@@ -44,42 +43,38 @@ addresses-free-requires c κs = search needs
 
 returns : tie.Need-returns
 unfolding settingWords foundWords isFound
-returns c = rw (← (rw sub-zero at (c .before .before .before .before .before .before .find-interface-endpoints .ensures)), c .before .before .before .before .found .given .1, ← (rw (sub-zero, add-sub-cancel-left) at (c .before .addresses-free .ensures)), not-true (c .before .addresses-free .result) (c .if1 .taken))
+returns c = rw (← c .before .before .before .before .before .before .find-interface-endpoints .ensures, c .before .before .before .before .found .given .1, ← (rw add-sub-cancel-left at (c .before .addresses-free .ensures)), not-true (c .before .addresses-free .result) (c .if1 .taken))
 
-sub-kept : tie.Need-sub-kept
-sub-kept c = search needs
+array-share-prefix-quarantined : tie.Need-array-share-prefix-quarantined
+array-share-prefix-quarantined c = search needs
 
-part-kept-start : tie.Need-part-kept-start
-part-kept-start c = search needs
-
-part-kept-end : tie.Need-part-kept-end
-part-kept-end c = search needs
+slice-aggregate-kept : tie.Need-slice-aggregate-kept
+slice-aggregate-kept c = let full : length (c .before .before .before .before .before .before .before .before .before .before .args .t8) ≡ 61 = search needs in sym (length-take-le (c .before .before .before .before .before .before .before .before .before .before .args .m) (c .before .before .before .before .before .before .before .before .before .before .args .t8) (omega (arith, full, c .before .before .before .before .before .before .before .before .before .before .pre)))
 
 offer-ok-requires : tie.Need-offer-ok-requires
 offer-ok-requires c κs = search needs
 
 returns-2 : tie.Need-returns-2
 unfolding settingWords foundWords isFound
-returns-2 c = let F = rw sub-zero at (c .before .before .before .before .before .before .before .before .before .before .before .before .before .find-interface-endpoints .ensures) in let e = c .before .before .before .before .before .before .before .before .before .before .before .found .given .1 in rw (← F, e, ← (rw (sub-zero, add-sub-cancel-left) at (c .before .before .before .before .before .before .before .before .addresses-free .ensures)), not-false (c .before .before .before .before .before .before .before .before .addresses-free .result) (c .before .before .before .before .before .before .before .if1 .left), part-count _ _ _ (found-inside _ _ _ _ _ (sym F ∙ e)), ← (rw sub-zero at (c .before .offer-ok .ensures)), c .if2 .taken)
+returns-2 c = let f = c .before .before .before .before .before .before .before .before .before .before .before .before .find-interface-endpoints .ensures in let e = c .before .before .before .before .before .before .before .before .before .before .found .given .1 in rw (← f, e, ← (rw add-sub-cancel-left at (c .before .before .before .before .before .before .before .addresses-free .ensures)), not-false (c .before .before .before .before .before .before .before .addresses-free .result) (c .before .before .before .before .before .before .if1 .left), part-count _ _ _ (found-inside _ _ _ _ _ (sym f ∙ e)), ← c .before .offer-ok .ensures, c .if2 .taken)
 
 enum-told : tie.Need-enum-told
 enum-told c = search needs
 
 returns-3 : tie.Need-returns-3
 unfolding settingWords foundWords isFound
-returns-3 c = let F = rw sub-zero at (c .before .before .before .before .before .before .before .before .before .before .before .before .before .find-interface-endpoints .ensures) in let e = c .before .before .before .before .before .before .before .before .before .before .before .found .given .1 in rw (← F, e, ← (rw (sub-zero, add-sub-cancel-left) at (c .before .before .before .before .before .before .before .before .addresses-free .ensures)), not-false (c .before .before .before .before .before .before .before .before .addresses-free .result) (c .before .before .before .before .before .before .before .if1 .left), part-count _ _ _ (found-inside _ _ _ _ _ (sym F ∙ e)), ← (rw sub-zero at (c .before .offer-ok .ensures)), c .if2 .left)
+returns-3 c = let f = c .before .before .before .before .before .before .before .before .before .before .before .before .find-interface-endpoints .ensures in let e = c .before .before .before .before .before .before .before .before .before .before .found .given .1 in rw (← f, e, ← (rw add-sub-cancel-left at (c .before .before .before .before .before .before .before .addresses-free .ensures)), not-false (c .before .before .before .before .before .before .before .addresses-free .result) (c .before .before .before .before .before .before .if1 .left), part-count _ _ _ (found-inside _ _ _ _ _ (sym f ∙ e)), ← c .before .offer-ok .ensures, c .if2 .left)
 
 returns-4 : tie.Need-returns-4
 unfolding isFound
-returns-4 c = rw (← (rw sub-zero at (c .before .before .find-interface-endpoints .ensures)), c .enum-told .given .1)
+returns-4 c = rw (← c .before .before .find-interface-endpoints .ensures, c .enum-told .given .1)
 
 pub list-check-spec : {M : Type 1} → statement M
 list-check-spec =
     tie.close
     (tie.spec
-    sub-words
-    part-words-start
-    part-words-end
+    array-share-prefix-list
+    slice-aggregate-words
     find-interface-endpoints-requires
     enum-known-found
     add-setting
@@ -89,9 +84,8 @@ list-check-spec =
     part-setting-end
     addresses-free-requires
     returns
-    sub-kept
-    part-kept-start
-    part-kept-end
+    array-share-prefix-quarantined
+    slice-aggregate-kept
     offer-ok-requires
     returns-2
     enum-told

@@ -1,16 +1,16 @@
-use native.Mathlib.Nat.{sub-zero}
+use mathlib.Core.Path.{_≡_, sym, _∙_}
+use native.Mathlib.Omega.{arith}
+use lib.ListN.{length}
+use lib.Seq.{length-take-le}
 use borrow.Author.Needs.{needs}
 use Rattle.checks.proofs.offer.list_rings.Statement.{statement}
 use Rattle.checks.proofs.offer.list_rings.Tie as tie
 
-sub-setting-words : tie.Need-sub-setting-words
-sub-setting-words c = search needs
+array-share-prefix-list : tie.Need-array-share-prefix-list
+array-share-prefix-list c = search needs
 
-part-setting-words-start : tie.Need-part-setting-words-start
-part-setting-words-start c = search needs
-
-part-setting-words-end : tie.Need-part-setting-words-end
-part-setting-words-end c = search needs
+slice-aggregate-setting-words : tie.Need-slice-aggregate-setting-words
+slice-aggregate-setting-words c = let full : length (c .before .before .args .t1) ≡ 256 = search needs in sym (length-take-le (c .before .before .args .n) (c .before .before .args .t1) (omega (arith, full, c .before .before .pre)))
 
 setting-words-requires : tie.Need-setting-words-requires
 setting-words-requires c κs = search needs
@@ -19,15 +19,14 @@ pending-rings-requires : tie.Need-pending-rings-requires
 pending-rings-requires c κs = search needs
 
 returns : tie.Need-returns
-returns c = rw (c .pending-rings .ensures, c .before .setting-words .ensures, sub-zero)
+returns c = c .pending-rings .ensures ∙ rw (c .before .setting-words .ensures)
 
 pub list-rings-spec : {M : Type 1} → statement M
 list-rings-spec =
     tie.close
     (tie.spec
-    sub-setting-words
-    part-setting-words-start
-    part-setting-words-end
+    array-share-prefix-list
+    slice-aggregate-setting-words
     setting-words-requires
     pending-rings-requires
     returns)

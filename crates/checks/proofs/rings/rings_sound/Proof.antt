@@ -1,12 +1,12 @@
-use mathlib.Core.List.{_∷_, _++_}
-use Rattle.endpoint.specs.Endpoint.{ringsOf}
 use borrow.Author.Needs.{needs}
 use Prim.Native.Nat.{_≤_, _-_}
-use mathlib.Core.Path.{_≡_, sym, _∙_}
+use mathlib.Core.Path.{sym, _∙_}
 use mathlib.Core.Logic.{inl, inr, ⊎-elim}
-use native.Mathlib.Nat.{sub-zero}
+use mathlib.Core.List.{_∷_, _++_}
 use native.Mathlib.Omega.{arith}
 use lib.ListN.{take}
+use lib.Seq.{length-take-le}
+use Rattle.endpoint.specs.Endpoint.{ringsOf}
 use Rattle.checks.proofs.Steps.{All, all-none, all-next, all-many, all-fit, quarantine-open, quarantine-shut}
 use Rattle.checks.proofs.rings.rings_sound.Statement.{statement}
 use Rattle.checks.proofs.rings.rings_sound.Tie as tie
@@ -66,20 +66,17 @@ loop-less c = search needs
 loop-again : tie.Need-loop-again Inv-loop μ-loop
 loop-again c = (search needs, all-next (c .before .before .loop .inv .1) (omega (arith, c .before .before .before .before .before .pre)) (omega (arith, c .before .before .before .before .if1 .left)))
 
-sub-rings-fit : tie.Need-sub-rings-fit Inv-loop μ-loop
-sub-rings-fit c = search needs
+array-share-prefix-rings : tie.Need-array-share-prefix-rings Inv-loop μ-loop
+array-share-prefix-rings c = omega (arith, c .before .loop .inv .1 .room, c .before .before .before .if1 .left)
 
-part-rings-fit-start : tie.Need-part-rings-fit-start Inv-loop μ-loop
-part-rings-fit-start c = search needs
-
-part-rings-fit-end : tie.Need-part-rings-fit-end Inv-loop μ-loop
-part-rings-fit-end c = omega (arith, c .before .before .loop .inv .1 .room, c .before .before .before .before .if1 .left)
+slice-aggregate-rings-fit : tie.Need-slice-aggregate-rings-fit Inv-loop μ-loop
+slice-aggregate-rings-fit c = sym (length-take-le _ _ (omega (arith, c .before .before .loop .inv .1 .room, c .before .before .before .before .if1 .left)))
 
 rings-fit-requires : tie.Need-rings-fit-requires Inv-loop μ-loop
 rings-fit-requires c κs = search needs
 
 returns-3 : tie.Need-returns-3 Inv-loop μ-loop
-returns-3 c = let a = c .before .before .before .before .before .before .before .args in rw sub-zero at (c .rings-fit .ensures) ∙ sym (quarantine-shut (a .usable) (a .m) (ringsOf (take (a .n) (a .t2)) ++ (a .control ∷ take (a .m) (a .quarantined))) (⊎-elim (λ w. inl (w .0 .taken, w .1 .left)) (λ w. inr (w .left)) (c .before .before .before .before .before .if2 .came)) ∙ all-fit (a .t2) (a .n) (a .quarantined) (a .m) (a .control) (search needs) (search needs) (c .before .before .before .before .before .before .before .pre .0) (c .before .before .before .before .before .before .before .pre .1) (c .before .before .before .before .loop .inv .1) (omega (arith, c .before .before .before .before .loop .inv .0, c .before .before .before .loop-test .left)) (c .before .before .before .before .before .before .if1 .left))
+returns-3 c = let a = c .before .before .before .before .before .before .args in c .rings-fit .ensures ∙ sym (quarantine-shut (a .usable) (a .m) (ringsOf (take (a .n) (a .t2)) ++ (a .control ∷ take (a .m) (a .quarantined))) (⊎-elim (λ w. inl (w .0 .taken, w .1 .left)) (λ w. inr (w .left)) (c .before .before .before .before .if2 .came)) ∙ all-fit (a .t2) (a .n) (a .quarantined) (a .m) (a .control) (search needs) (search needs) (c .before .before .before .before .before .before .pre .0) (c .before .before .before .before .before .before .pre .1) (c .before .before .before .loop .inv .1) (omega (arith, c .before .before .before .loop .inv .0, c .before .before .loop-test .left)) (c .before .before .before .before .before .if1 .left))
 
 pub rings-sound-spec : {M : Type 1} → statement M
 rings-sound-spec =
@@ -103,8 +100,7 @@ rings-sound-spec =
     add-i
     loop-less
     loop-again
-    sub-rings-fit
-    part-rings-fit-start
-    part-rings-fit-end
+    array-share-prefix-rings
+    slice-aggregate-rings-fit
     rings-fit-requires
     returns-3)
