@@ -178,9 +178,8 @@ pub fn configure_failed(code: u8, s: Sent) -> Answer
     ensures { λ r. ⌜ r ≡ configureFailed code s ⌝ }
 {
     match s {
-        Sent::Done => Answer::Failed(code),
-        Sent::Failed(_) => Answer::Failed(code),
         Sent::Cut => Answer::Cut,
+        _ => Answer::Failed(code),
     }
 }
 
