@@ -10,7 +10,7 @@ ghost use mathlib.Core.Path.{_≡_};
 ghost use mathlib.Core.List.{List, []};
 ghost use mathlib.Core.Bool.{true, false};
 ghost use Prim.Native.Nat.{ℕ, _+_, _*_, _<_, _≤_};
-ghost use lib.ListN.{length, take};
+ghost use lib.ListN.{length};
 ghost use Rattle.command.specs.Course.{played};
 ghost use Rattle.command.specs.Sweep.{stopAll, resumeAll, SweptAs};
 ghost use Rattle.context.specs.Place.{written, Spaced};

@@ -1,9 +1,8 @@
 use Prim.Native.Nat.{ℕ, _≤_, _-_, _+_}
-use mathlib.Core.Path.{_≡_, refl, ap, _∙_}
+use mathlib.Core.Path.{_≡_, refl, _∙_}
 use mathlib.Core.List.{List}
-use native.Mathlib.Omega.{arith}
 use borrow.Author.Needs.{needs}
-use lib.ListN.{length, drop, take}
+use lib.ListN.{length, drop}
 use Rattle.command.specs.Course.{played}
 use Rattle.command.specs.Sweep.{resumeAll, resumeFrom}
 use Rattle.phase.specs.Arrays.{dcisIn}
