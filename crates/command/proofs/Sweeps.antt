@@ -2,11 +2,9 @@
 use Prim.Native.Nat.{ℕ, zero, suc, _+_, _*_, _<_, _≤_}
 use mathlib.Core.Path.{_≡_, refl, sym, ap, _∙_}
 use mathlib.Core.List.{List, [], _∷_, _++_, append-nil}
-use native.Mathlib.Numerals.{add-one}
 use native.Mathlib.Omega.{arith}
 use native.Mathlib.Decide.{decLt}
-use lib.ListN.{length, getD, drop, take, set, length-append, drop-of-length-le, List·getD-eq-default}
-use lib.Seq.{drop-cons, take-suc}
+use lib.ListN.{length, getD, length-append, List·getD-eq-default}
 use Rattle.command.specs.declared.Command.{Command}
 use Rattle.command.specs.declared.Command.the-variants as command
 use Rattle.command.specs.declared.Sent.{Sent}
@@ -15,7 +13,7 @@ use Rattle.command.specs.declared.Swept.{Swept}
 use Rattle.command.specs.Command.{commandWord, outcomeAt}
 use Rattle.command.specs.Course.{Course, ends, onSent, then, words, result, played, Ended, CutsTo, CutEnds, Uncut}
 use Rattle.command.specs.Sweep.{Sweep, swept, resumeFrom, resumeAll, orCode, undoStops, stopFrom, stopAll, SweptAs}
-use Rattle.command.proofs.Laws.{played-ends, played-sends, words-then, result-then}
+use Rattle.command.proofs.Laws.{words-then, result-then}
 use Rattle.command.proofs.Cuts.{done-cut, failed-cut, failed-done, on-sent, cuts-then, uncut-then, uncut-result, cut-last}
 use Rattle.command.proofs.Operations.{EachCommand, each-then}
 

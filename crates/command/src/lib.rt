@@ -77,7 +77,6 @@ pub fn or_code(code: u8, s: Sent) -> Sent
 {
     match s {
         Sent::Done => Sent::Failed(code),
-        Sent::Failed(later) => Sent::Failed(later),
-        Sent::Cut => Sent::Cut,
+        _ => s,
     }
 }

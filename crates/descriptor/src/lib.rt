@@ -1,7 +1,7 @@
 // Descriptor words, and the Dci of an endpoint's address (device.rs and endpoint.rs of the original).
 use def::Dci;
 ghost use mathlib.Core.Path.{_≡_};
-ghost use Rattle.descriptor.specs.Word.{kind, configurationValue, interfaceNumber, alternateSetting, transferType, endpointDescriptor, wordOk};
+ghost use Rattle.descriptor.specs.Word.{kind, configurationValue, interfaceNumber, alternateSetting, endpointDescriptor, wordOk};
 ghost use Rattle.descriptor.specs.Endpoint.{dciOf};
 
 pub enum TransferType {
@@ -73,24 +73,19 @@ pub fn alternate_setting(w: u32) -> u8
     (w / SETTING_LSB % 256) as u8
 }
 
-fn transfer_type(number: u32) -> TransferType
-    ensures { λ r. ⌜ r ≡ transferType number ⌝ }
-{
-    match number {
-        1 => TransferType::Isochronous,
-        2 => TransferType::Bulk,
-        3 => TransferType::Interrupt,
-        _ => TransferType::Control,
-    }
-}
-
 // An endpoint word taken apart.
 pub fn endpoint_descriptor(w: u32) -> EndpointDescriptor
     ensures { λ r. ⌜ r ≡ endpointDescriptor w ⌝ }
 {
+    let transfer_type = match w / TYPE_LSB % 4 {
+        1 => TransferType::Isochronous,
+        2 => TransferType::Bulk,
+        3 => TransferType::Interrupt,
+        _ => TransferType::Control,
+    };
     EndpointDescriptor {
         address: (w / IN_LSB % 2 * 128 + w / NUMBER_LSB % 16) as u8,
-        transfer_type: transfer_type(w / TYPE_LSB % 4),
+        transfer_type,
         max_packet_size: (w / PACKET_SIZE_LSB % 2048) as u16,
         packets_per_microframe: (w / PACKETS_LSB % 4) as u8,
         interval: (w / INTERVAL_LSB % 256) as u8,

@@ -8,11 +8,11 @@ use crate::hub_word::hub_at;
 pub fn route_string(hubs: &[u64], has_parent: bool, parent: usize, port: u8) -> u32
     ensures { λ r. ⌜ r ≡ routeString (now (hubs .entry)) «has_parent» parent port ⌝ }
 {
-    if !has_parent {
-        return 0;
+    if has_parent {
+        let h = hub_at(hubs, parent);
+        return route_from(hubs, parent, port, h.depth_plus_one);
     }
-    let h = hub_at(hubs, parent);
-    route_from(hubs, parent, port, h.depth_plus_one)
+    0
 }
 
 // By the depth of the hub that a port is on.

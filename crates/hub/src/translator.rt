@@ -26,14 +26,11 @@ pub fn transaction_translator(
 ) -> Translator
     ensures { λ r. ⌜ r ≡ translatorOf speed (now (hubs .entry)) «has_parent» parent port ⌝ }
 {
-    if speed != def::FULL && speed != def::LOW {
-        return NO_TRANSLATOR;
+    if has_parent && (speed == def::FULL || speed == def::LOW) {
+        let h = hub_at(hubs, parent);
+        return nearest_high(hubs, parent, port, h.depth_plus_one);
     }
-    if !has_parent {
-        return NO_TRANSLATOR;
-    }
-    let h = hub_at(hubs, parent);
-    nearest_high(hubs, parent, port, h.depth_plus_one)
+    NO_TRANSLATOR
 }
 
 // The nearest High hub, from a port of the hub at an index; the port is passed on as it is.

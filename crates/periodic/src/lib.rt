@@ -44,13 +44,10 @@ pub fn calculate_xhci_interval(byte: u8, t: TransferType, port_speed: u8) -> u8
 pub fn periodic_burst_size(t: TransferType, packets: u8, port_speed: u8) -> u8
     ensures { λ r. ⌜ r ≡ periodicBurst t packets «port_speed» ⌝ }
 {
-    if !is_periodic(t) {
-        return 0;
+    if is_periodic(t) && port_speed == def::HIGH && packets != 0 {
+        return packets - 1;
     }
-    if port_speed != def::HIGH {
-        return 0;
-    }
-    if packets == 0 { 0 } else { packets - 1 }
+    0
 }
 
 // Max ESIT Payload and Average TRB Length of a periodic endpoint.

@@ -10,7 +10,7 @@ ghost use mathlib.Core.Path.{_≡_};
 ghost use mathlib.Core.List.{List, []};
 ghost use mathlib.Core.Bool.{true, false};
 ghost use Prim.Native.Nat.{ℕ, _+_, _*_, _<_, _≤_};
-ghost use lib.ListN.{length, take};
+ghost use lib.ListN.{length};
 ghost use Rattle.command.specs.Course.{played};
 ghost use Rattle.command.specs.Sweep.{stopAll, resumeAll, SweptAs};
 ghost use Rattle.context.specs.Place.{written, Spaced};
@@ -34,7 +34,8 @@ pub fn resume_queues(log: &mut [u32], outcomes: &[u8], n: usize, q: Queues) -> S
 {
     let mut i = 0;
     while i < q.count {
-        let sent = command::send(log, outcomes, n + i, Command::Resume(q.dcis[i]));
+        let at = n + i;
+        let sent = command::send(log, outcomes, at, Command::Resume(q.dcis[i]));
         match sent {
             Sent::Done => {
                 i += 1;
@@ -42,7 +43,7 @@ pub fn resume_queues(log: &mut [u32], outcomes: &[u8], n: usize, q: Queues) -> S
             _ => {
                 return Swept {
                     sent,
-                    count: n + i + 1,
+                    count: at + 1,
                     active: i,
                 };
             }
@@ -62,17 +63,15 @@ pub fn stop_queues(log: &mut [u32], outcomes: &[u8], n: usize, q: Queues) -> Swe
 {
     let mut i = 0;
     while i < q.count {
-        match command::send(log, outcomes, n + i, Command::Stop(q.dcis[i])) {
+        let at = n + i;
+        match command::send(log, outcomes, at, Command::Stop(q.dcis[i])) {
             Sent::Done => {
                 i += 1;
             }
             Sent::Failed(code) => {
-                let stopped = Queues {
-                    dcis: q.dcis,
-                    rings: q.rings,
-                    count: i,
-                };
-                let back = resume_queues(log, outcomes, n + i + 1, stopped);
+                let mut stopped = q;
+                stopped.count = i;
+                let back = resume_queues(log, outcomes, at + 1, stopped);
                 let resumed = back.sent;
                 return Swept {
                     sent: command::or_code(code, resumed),
@@ -83,7 +82,7 @@ pub fn stop_queues(log: &mut [u32], outcomes: &[u8], n: usize, q: Queues) -> Swe
             Sent::Cut => {
                 return Swept {
                     sent: Sent::Cut,
-                    count: n + i + 1,
+                    count: at + 1,
                     active: 0,
                 };
             }
@@ -178,9 +177,8 @@ pub fn configure_failed(code: u8, s: Sent) -> Answer
     ensures { λ r. ⌜ r ≡ configureFailed code s ⌝ }
 {
     match s {
-        Sent::Done => Answer::Failed(code),
-        Sent::Failed(_) => Answer::Failed(code),
         Sent::Cut => Answer::Cut,
+        _ => Answer::Failed(code),
     }
 }
 

@@ -1,5 +1,5 @@
 use Prim.Native.Nat.{ℕ, _-_, _≤_, _<_, min, max}
-use mathlib.Core.Path.{_≡_, refl, sym, ap, _∙_}
+use mathlib.Core.Path.{_≡_, refl, sym, _∙_}
 use mathlib.Core.Logic.{_⊎_, ⊎-elim, inl, inr}
 use mathlib.Core.Bool.{true, false}
 use native.Mathlib.Nat.{le-trans}

@@ -1,4 +1,7 @@
-use borrow.Author.Tests.{eq-eqb, ne-eqb, not-true, not-false}
+use mathlib.Core.Logic.{_≢_, ⊎-elim}
+use native.Mathlib.Omega.{arith}
+use borrow.Author.Tests.{eqb-true, eqb-false, not-true, not-false}
+use lib.Dec.{eqb}
 use Rattle.descriptor.specs.Endpoint.{periodicBurst}
 use borrow.Author.Needs.{needs}
 use Rattle.periodic.proofs.periodic_burst_size.Statement.{statement}
@@ -7,25 +10,21 @@ use Rattle.periodic.proofs.periodic_burst_size.Tie as tie
 is-periodic-requires : tie.Need-is-periodic-requires
 is-periodic-requires c κs = search needs
 
+sub-result : tie.Need-sub-result
+sub-result c = let packets = c .before .before .before .before .args .packets in let some : packets ≢ 0 = eqb-false packets 0 (not-true (eqb packets 0) (c .if3 .taken)) in omega arith
+
 returns : tie.Need-returns
 unfolding periodicBurst
-returns c = rw (← c .before .is-periodic .ensures, not-true (c .before .is-periodic .result) (c .if1 .taken))
+returns c = rw (← c .before .before .before .is-periodic .ensures, c .before .before .if1 .taken, c .before .if2 .taken)
 
 returns-2 : tie.Need-returns-2
 unfolding periodicBurst
-returns-2 c = rw (← c .before .before .is-periodic .ensures, not-false (c .before .before .is-periodic .result) (c .before .if1 .left), ne-eqb _ _ (c .if2 .taken))
-
-sub-result : tie.Need-sub-result
-sub-result c = search needs
-
-returns-3 : tie.Need-returns-3
-unfolding periodicBurst
-returns-3 c = rw (← c .before .before .before .is-periodic .ensures, not-false (c .before .before .before .is-periodic .result) (c .before .before .if1 .left), eq-eqb _ _ (c .before .if2 .left), c .if3 .taken)
-
-returns-4 : tie.Need-returns-4
-unfolding periodicBurst
-returns-4 c = rw (← c .before .before .before .is-periodic .ensures, not-false (c .before .before .before .is-periodic .result) (c .before .before .if1 .left), eq-eqb _ _ (c .before .if2 .left))
+returns-2 c =
+    let packets = c .before .before .args .packets in
+    ⊎-elim
+    (λ w. rw (← c .before .is-periodic .ensures, w .0 .taken, w .1 .taken, eqb-true packets 0 (not-false (eqb packets 0) (w .2 .left))))
+    (⊎-elim (λ w. rw (← c .before .is-periodic .ensures, w .0 .taken, w .1 .left)) (λ w. rw (← c .before .is-periodic .ensures, w .left)))
+    (c .if1 .came)
 
 pub periodic-burst-size-spec : {M : Type 1} → statement M
-periodic-burst-size-spec =
-    tie.close (tie.spec is-periodic-requires returns returns-2 sub-result returns-3 returns-4)
+periodic-burst-size-spec = tie.close (tie.spec is-periodic-requires sub-result returns returns-2)

@@ -1,7 +1,6 @@
 use Prim.Native.Nat.{ℕ, _≤_, _-_, _+_}
 use mathlib.Core.Path.{_≡_, refl, ap, _∙_}
 use mathlib.Core.List.{List}
-use native.Mathlib.Omega.{arith}
 use borrow.Author.Needs.{needs}
 use lib.ListN.{length, drop, take}
 use Rattle.command.specs.Course.{played}
@@ -22,11 +21,11 @@ abbrev μ-loop : tie.MeasureT-loop
 loop-holds : tie.Need-loop-holds Inv-loop μ-loop
 loop-holds c = (search needs, search needs, search needs, λ ctx. stop-start _ _ _ ctx _)
 
-add-send : tie.Need-add-send Inv-loop μ-loop
-add-send c = search needs
+add-at : tie.Need-add-at Inv-loop μ-loop
+add-at c = search needs
 
-element-copy-out-t18 : tie.Need-element-copy-out-t18 Inv-loop μ-loop
-element-copy-out-t18 c = search needs
+element-copy-out-t19 : tie.Need-element-copy-out-t19 Inv-loop μ-loop
+element-copy-out-t19 c = search needs
 
 send-requires : tie.Need-send-requires Inv-loop μ-loop
 send-requires c κs = search needs
@@ -49,9 +48,6 @@ enum-known-code c = search needs
 add-resume-queues : tie.Need-add-resume-queues Inv-loop μ-loop
 add-resume-queues c = search needs
 
-add-resume-queues-2 : tie.Need-add-resume-queues-2 Inv-loop μ-loop
-add-resume-queues-2 c = search needs
-
 resume-queues-requires : tie.Need-resume-queues-requires Inv-loop μ-loop
 resume-queues-requires c κs = search needs
 
@@ -63,16 +59,13 @@ same-length c = search needs
 
 returns : tie.Need-returns Inv-loop μ-loop
 unfolding undoStops dcisIn
-returns c = λ ctx. rw (c .before .before .before .before .before .before .before .before .before .before .before .before .before .before .before .before .loop .inv .3 ctx ∙ stop-failed (c .before .before .before .before .before .before .before .before .before .before .before .before .before .before .before .before .before .before .before .args .t4) _ _ _ ctx _ _ _ (c .before .before .before .before .before .before .before .before .before .before .before .before .before .before .before .before .loop .inv .2) (c .before .before .before .before .before .before .before .before .before .before .before .before .before .before .before .before .before .before .before .pre .0) (c .before .before .before .before .before .before .before .before .before .before .before .before .before .before .before .loop-test .taken) (c .before .before .before .before .before .before .before .before .before .before .before .before .send .ensures .0) (c .before .before .before .before .before .before .before .before .before .before .before .before .send .ensures .1) _ (c .before .before .before .before .before .before .before .before .code .given .1), played-then, played-ends) (record { sent = c .or-code .ensures ∙ ap (orCode _) (c .before .before .before .resume-queues .ensures ctx .sent); active = c .before .before .before .resume-queues .ensures ctx .active; count = c .before .before .before .resume-queues .ensures ctx .count; log = c .before .before .before .resume-queues .ensures ctx .log })
+returns c = λ ctx. rw (c .before .before .before .before .before .before .before .before .before .before .before .before .before .before .loop .inv .3 ctx ∙ stop-failed (c .before .before .before .before .before .before .before .before .before .before .before .before .before .before .before .before .before .args .t4) _ _ _ ctx _ _ _ (c .before .before .before .before .before .before .before .before .before .before .before .before .before .before .loop .inv .2) (c .before .before .before .before .before .before .before .before .before .before .before .before .before .before .before .before .before .pre .0) (c .before .before .before .before .before .before .before .before .before .before .before .before .before .loop-test .taken) (c .before .before .before .before .before .before .before .before .before .before .send .ensures .0) (c .before .before .before .before .before .before .before .before .before .before .send .ensures .1) _ (c .before .before .before .before .before .before .code .given .1), played-then, played-ends) (record { sent = c .or-code .ensures ∙ ap (orCode _) (c .before .before .before .resume-queues .ensures ctx .sent); active = c .before .before .before .resume-queues .ensures ctx .active; count = c .before .before .before .resume-queues .ensures ctx .count; log = c .before .before .before .resume-queues .ensures ctx .log })
 
 enum-told-2 : tie.Need-enum-told-2 Inv-loop μ-loop
 enum-told-2 c = search needs
 
-add-t28 : tie.Need-add-t28 Inv-loop μ-loop
-add-t28 c = search needs
-
-add-t29 : tie.Need-add-t29 Inv-loop μ-loop
-add-t29 c = search needs
+add-t26 : tie.Need-add-t26 Inv-loop μ-loop
+add-t26 c = search needs
 
 same-length-2 : tie.Need-same-length-2 Inv-loop μ-loop
 same-length-2 c = search needs
@@ -80,8 +73,8 @@ same-length-2 c = search needs
 returns-2 : tie.Need-returns-2 Inv-loop μ-loop
 returns-2 c = λ ctx. rw (c .before .before .before .before .before .before .before .before .loop .inv .3 ctx ∙ stop-cut _ _ _ _ ctx _ _ _ (c .before .before .before .before .before .before .before .before .loop .inv .2) (c .before .before .before .before .before .before .before .before .before .before .before .pre .0) (c .before .before .before .before .before .before .before .loop-test .taken) (c .before .before .before .before .send .ensures .0) (c .before .before .before .before .send .ensures .1) (c .enum-told2 .given .1)) (record { sent = refl; active = refl; count = refl; log = refl })
 
-add-t31 : tie.Need-add-t31 Inv-loop μ-loop
-add-t31 c = search needs
+add-t28 : tie.Need-add-t28 Inv-loop μ-loop
+add-t28 c = search needs
 
 same-length-3 : tie.Need-same-length-3 Inv-loop μ-loop
 same-length-3 c = search needs
@@ -96,8 +89,8 @@ stop-queues-spec =
     Inv-loop
     μ-loop
     loop-holds
-    add-send
-    element-copy-out-t18
+    add-at
+    element-copy-out-t19
     send-requires
     enum-told
     add-i
@@ -105,16 +98,14 @@ stop-queues-spec =
     loop-again
     enum-known-code
     add-resume-queues
-    add-resume-queues-2
     resume-queues-requires
     or-code-requires
     same-length
     returns
     enum-told-2
-    add-t28
-    add-t29
+    add-t26
     same-length-2
     returns-2
-    add-t31
+    add-t28
     same-length-3
     returns-3)
