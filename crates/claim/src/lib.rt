@@ -130,6 +130,7 @@ fn switch(
     }
 }
 
+// Where the Configure fails, the old endpoints are resumed; a failed resume's code is the answer.
 fn configure(
     ctx: &mut [u8],
     routes: &mut [u64],
