@@ -130,6 +130,7 @@ fn switch(
     }
 }
 
+// Where the Configure fails, the old endpoints are resumed; a failed resume's code is the answer.
 fn configure(
     ctx: &mut [u8],
     routes: &mut [u64],
@@ -170,16 +171,6 @@ fn configure(
     }
 }
 
-// The endpoint words of the setting that an interface holds; none where it holds none.
-fn held_words<'a>(list: &'a [u32], held: bool, interface: u8, alternate: u8) -> &'a [u32]
-    ensures { λ r. ⌜ now r ≡ cond held (settingWords (now (list .entry)) interface alternate) [] ⌝ }
-{
-    if held {
-        return settings::setting_words(list, interface, alternate);
-    }
-    &list[0..0]
-}
-
 // Claims an interface after the checks. The endpoint words of its settings are those that lookup finds in a list, the first n words of an array.
 pub fn claim_interface(
     ctx: &mut [u8],
@@ -197,23 +188,19 @@ pub fn claim_interface(
 {
     let stop = phase::stop_queues(log, outcomes, 0, a.old);
     let s = stop.sent;
+    let count = stop.count;
     match s {
         Sent::Done => {
             let words = &list[0..n];
-            let old_words = held_words(words, a.held, a.interface, a.old_alternate);
+            let old_words = if a.held {
+                settings::setting_words(words, a.interface, a.old_alternate)
+            } else {
+                &words[0..0]
+            };
             let new_words = settings::setting_words(words, a.interface, a.alternate);
-            configure(
-                ctx,
-                routes,
-                log,
-                outcomes,
-                stop.count,
-                a,
-                old_words,
-                new_words,
-            )
+            configure(ctx, routes, log, outcomes, count, a, old_words, new_words)
         }
-        Sent::Failed(code) => phase::stays(Answer::Failed(code), stop.count, a.old.count),
-        Sent::Cut => phase::stays(Answer::Cut, stop.count, stop.active),
+        Sent::Failed(code) => phase::stays(Answer::Failed(code), count, a.old.count),
+        Sent::Cut => phase::stays(Answer::Cut, count, stop.active),
     }
 }

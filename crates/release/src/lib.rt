@@ -40,6 +40,7 @@ fn publish(routes: &mut [u64], n: usize, a: ReleaseArgs) -> Ended
     }
 }
 
+// Where the Configure fails, the endpoints are resumed; its code is the answer, even if a resume fails.
 fn configure(
     ctx: &mut [u8],
     routes: &mut [u64],

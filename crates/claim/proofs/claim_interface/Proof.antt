@@ -1,13 +1,53 @@
-use mathlib.Core.List.{[]}
+use Prim.Native.Nat.{ℕ}
+use mathlib.Core.Path.{_≡_}
+use mathlib.Core.Bool.{cond, false}
+use mathlib.Core.List.{List, []}
+use mathlib.Core.Logic.{⊎-elim}
 use native.Mathlib.Nat.{sub-zero}
 use native.Mathlib.Omega.{arith}
-use Rattle.phase.proofs.Laws.{dcis-in, stopped-count}
+use lib.ListN.{length, take}
+use Rattle.answer.specs.declared.Answer.the-variants as answer
+use Rattle.command.specs.declared.Sent.the-variants as sent
+use Rattle.command.specs.declared.Swept.{Swept}
+use Rattle.command.specs.Course.{onSent, Played, played}
+use Rattle.command.specs.Sweep.{stopAll, SweptAs}
 use Rattle.command.proofs.Laws.{played-ends, played-then}
-use Rattle.command.specs.Course.{onSent}
-use Rattle.claim.specs.Claim.{claimCourse}
+use Rattle.phase.specs.declared.Ended.{Ended}
+use Rattle.phase.specs.End.{End}
+use Rattle.phase.specs.Arrays.{dcisIn, queuesIn, leaves}
+use Rattle.phase.proofs.Laws.{dcis-in, stopped-count}
+use Rattle.settings.specs.Held.{settingWords}
+use Rattle.claim.specs.declared.ClaimArgs.{ClaimArgs}
+use Rattle.claim.specs.Claim.{claimOf, claimConfigure, claimCourse}
 use borrow.Author.Needs.{needs}
 use Rattle.claim.proofs.claim_interface.Statement.{statement}
 use Rattle.claim.proofs.claim_interface.Tie as tie
+
+module _ (a : ClaimArgs) (old new ctx routes o log left : List ℕ) (stop : Swept)
+    (t : SweptAs stop left (played o 0 (stopAll ctx (dcisIn (a .old))) log)) where
+  -- the old endpoints are stopped
+  done : {x : Played End} (olds news : List ℕ) → old ≡ olds → new ≡ news → stop .sent ≡ sent.Done →
+      x ≡ played o (stop .count) (claimConfigure (claimOf a old new) ctx routes) left →
+      x ≡ played o 0 (claimCourse (claimOf a olds news) ctx routes) log
+  unfolding claimCourse onSent
+  done olds news p q d x = rw (← p, ← q, dcis-in, played-then, ← t .sent, ← t .count, ← t .log, d) x
+
+  failed : {r : Ended} (code : ℕ) → length (queuesIn (a .old)) ≡ a .old .count → stop .sent ≡ sent.Failed code →
+      r ≡ record { answer = answer.Failed code; count = stop .count; active = a .old .count; moved = false } →
+      leaves r ctx routes left ≡ played o 0 (claimCourse (claimOf a old new) ctx routes) log
+  unfolding claimCourse onSent
+  failed code f d r = rw (dcis-in, played-then, ← t .sent, ← t .count, ← t .log, d, played-ends, f, r)
+
+  cut : {r : Ended} → stop .sent ≡ sent.Cut →
+      r ≡ record { answer = answer.Cut; count = stop .count; active = stop .active; moved = false } →
+      leaves r ctx routes left ≡ played o 0 (claimCourse (claimOf a old new) ctx routes) log
+  unfolding claimCourse onSent
+  cut d r = rw (dcis-in, played-then, ← t .sent, ← t .active, ← t .count, ← t .log, d, played-ends, r)
+
+-- the words of the setting that is held, none where none is
+held : (c : tie.Joined1) → c .if1 .old-words .now ≡ cond (c .before .before .before .before .before .before .before .before .before .before .before .before .before .args .a .held) (settingWords (take (c .before .before .before .before .before .before .before .before .before .before .before .before .before .args .n) (c .before .before .before .before .before .before .before .before .before .before .before .before .before .args .t6)) (c .before .before .before .before .before .before .before .before .before .before .before .before .before .args .a .interface) (c .before .before .before .before .before .before .before .before .before .before .before .before .before .args .a .«old_alternate»)) []
+held c =
+    ⊎-elim (λ w. rw (w .0 .taken, w .2) (rw sub-zero at (w .1 .ensures))) (λ w. rw (w .0 .left, w .2)) (c .if1 .came)
 
 stop-queues-requires : tie.Need-stop-queues-requires
 stop-queues-requires c κs = search needs
@@ -24,11 +64,20 @@ part-words-start c = search needs
 part-words-end : tie.Need-part-words-end
 part-words-end c = search needs
 
-held-words-requires : tie.Need-held-words-requires
-held-words-requires c κs = search needs
-
 setting-words-requires : tie.Need-setting-words-requires
 setting-words-requires c κs = search needs
+
+sub-old-words : tie.Need-sub-old-words
+sub-old-words c = search needs
+
+part-old-words-start : tie.Need-part-old-words-start
+part-old-words-start c = search needs
+
+part-old-words-end : tie.Need-part-old-words-end
+part-old-words-end c = search needs
+
+setting-words-requires-2 : tie.Need-setting-words-requires-2
+setting-words-requires-2 c κs = search needs
 
 configure-requires : tie.Need-configure-requires
 configure-requires c κs =
@@ -56,25 +105,22 @@ same-length-3 : tie.Need-same-length-3
 same-length-3 c = search needs
 
 returns : tie.Need-returns
-unfolding claimCourse onSent
 returns c =
-    let a = c .before .before .before .before .before .before .before .before .before .before .before .before .before .before .before .before .before .before .stop-queues .ensures (c .before .before .before .before .before .before .before .before .before .before .before .before .before .before .before .before .before .before .before .before .before .before .before .before .args .ctx .now) in let old = rw sub-zero at (c .before .before .before .before .before .before .before .before .before .before .before .held-words .ensures) in let new = rw sub-zero at (c .before .before .before .before .before .before .before .before .before .before .setting-words .ensures) in rw (dcis-in, played-then, ← a .sent, ← a .count, ← a .log, c .before .before .before .before .before .before .before .before .before .before .before .before .before .before .enum-told .given .1, ← old, ← new) (c .before .before .before .before .before .before .configure .ensures)
+    done _ _ _ _ _ _ _ _ _ (c .before .before .before .before .before .before .before .before .before .before .before .before .before .before .before .before .before .before .stop-queues .ensures _) _ _ (held (c .before .before .before .before .before .before .before .before .before .before .before)) (rw sub-zero at (c .before .before .before .before .before .before .before .before .before .before .setting-words2 .ensures)) (c .before .before .before .before .before .before .before .before .before .before .before .before .before .before .enum-told .given .1) (c .before .before .before .before .before .before .configure .ensures)
 
 same-length-4 : tie.Need-same-length-4
 same-length-4 c = search needs
 
 returns-2 : tie.Need-returns-2
-unfolding claimCourse onSent
 returns-2 c =
-    let a = c .before .before .before .before .before .before .stop-queues .ensures (c .before .before .before .before .before .before .before .before .before .before .before .before .args .ctx .now) in rw (dcis-in, played-then, ← a .sent, ← a .count, ← a .log, c .before .before .s .given .1, played-ends, c .before .before .before .before .before .before .before .before .before .before .before .before .pre .0 .full, c .stays .ensures)
+    failed _ _ _ _ _ _ _ _ _ (c .before .before .before .before .before .before .stop-queues .ensures _) _ (c .before .before .before .before .before .before .before .before .before .before .before .before .pre .0 .full) (c .before .before .s .given .1) (c .stays .ensures)
 
 same-length-5 : tie.Need-same-length-5
 same-length-5 c = search needs
 
 returns-3 : tie.Need-returns-3
-unfolding claimCourse onSent
 returns-3 c =
-    let a = c .before .before .before .before .before .stop-queues .ensures (c .before .before .before .before .before .before .before .before .before .before .before .args .ctx .now) in rw (dcis-in, played-then, ← a .sent, ← a .active, ← a .count, ← a .log, c .before .enum-told2 .given .1, played-ends, c .stays2 .ensures)
+    cut _ _ _ _ _ _ _ _ _ (c .before .before .before .before .before .stop-queues .ensures _) (c .before .enum-told2 .given .1) (c .stays2 .ensures)
 
 pub claim-interface-spec : {M : Type 1} → statement M
 claim-interface-spec =
@@ -85,8 +131,11 @@ claim-interface-spec =
     sub-words
     part-words-start
     part-words-end
-    held-words-requires
     setting-words-requires
+    sub-old-words
+    part-old-words-start
+    part-old-words-end
+    setting-words-requires-2
     configure-requires
     enum-known-s
     stays-requires

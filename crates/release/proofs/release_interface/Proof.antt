@@ -1,13 +1,46 @@
-use mathlib.Core.List.{[]}
+use Prim.Native.Nat.{ℕ}
+use mathlib.Core.Path.{_≡_}
+use mathlib.Core.Bool.{false}
+use mathlib.Core.List.{List, []}
 use native.Mathlib.Nat.{sub-zero}
 use native.Mathlib.Omega.{arith}
-use Rattle.phase.proofs.Laws.{dcis-in, stopped-count}
+use lib.ListN.{length}
+use Rattle.answer.specs.declared.Answer.the-variants as answer
+use Rattle.command.specs.declared.Sent.the-variants as sent
+use Rattle.command.specs.declared.Swept.{Swept}
+use Rattle.command.specs.Course.{onSent, Played, played}
+use Rattle.command.specs.Sweep.{stopAll, SweptAs}
 use Rattle.command.proofs.Laws.{played-ends, played-then}
-use Rattle.command.specs.Course.{onSent}
-use Rattle.release.specs.Release.{releaseCourse}
+use Rattle.phase.specs.declared.Ended.{Ended}
+use Rattle.phase.specs.End.{End}
+use Rattle.phase.specs.Arrays.{dcisIn, queuesIn, leaves}
+use Rattle.phase.proofs.Laws.{dcis-in, stopped-count}
+use Rattle.release.specs.declared.ReleaseArgs.{ReleaseArgs}
+use Rattle.release.specs.Release.{releaseOf, releaseConfigure, releaseCourse}
 use borrow.Author.Needs.{needs}
 use Rattle.release.proofs.release_interface.Statement.{statement}
 use Rattle.release.proofs.release_interface.Tie as tie
+
+module _ (a : ReleaseArgs) (words ctx routes o log left : List ℕ) (stop : Swept)
+    (t : SweptAs stop left (played o 0 (stopAll ctx (dcisIn (a .old))) log)) where
+  -- the endpoints are stopped
+  done : {x : Played End} (found : List ℕ) → words ≡ found → stop .sent ≡ sent.Done →
+      x ≡ played o (stop .count) (releaseConfigure (releaseOf a words) ctx routes) left →
+      x ≡ played o 0 (releaseCourse (releaseOf a found) ctx routes) log
+  unfolding releaseCourse onSent
+  done found p d x = rw (← p, dcis-in, played-then, ← t .sent, ← t .count, ← t .log, d) x
+
+  failed : {r : Ended} (code : ℕ) → length (queuesIn (a .old)) ≡ a .old .count → stop .sent ≡ sent.Failed code →
+      r ≡ record { answer = answer.Failed code; count = stop .count; active = a .old .count; moved = false } →
+      leaves r ctx routes left ≡ played o 0 (releaseCourse (releaseOf a words) ctx routes) log
+  unfolding releaseCourse onSent
+  failed code f d r = rw (dcis-in, played-then, ← t .sent, ← t .count, ← t .log, d, played-ends, f, r)
+
+  cut : {r : Ended} → stop .sent ≡ sent.Cut →
+      r ≡ record { answer = answer.Cut; count = stop .count; active = stop .active; moved = false } →
+      leaves r ctx routes left ≡ played o 0 (releaseCourse (releaseOf a words) ctx routes) log
+  unfolding releaseCourse onSent
+  cut d r = rw (dcis-in, played-then, ← t .sent, ← t .active, ← t .count, ← t .log, d, played-ends, r)
 
 stop-queues-requires : tie.Need-stop-queues-requires
 stop-queues-requires c κs = search needs
@@ -53,25 +86,22 @@ same-length-3 : tie.Need-same-length-3
 same-length-3 c = search needs
 
 returns : tie.Need-returns
-unfolding releaseCourse onSent
 returns c =
-    let a = c .before .before .before .before .before .before .before .before .before .before .before .before .before .before .before .before .before .stop-queues .ensures (c .before .before .before .before .before .before .before .before .before .before .before .before .before .before .before .before .before .before .before .before .before .before .before .args .ctx .now) in let w = rw sub-zero at (c .before .before .before .before .before .before .before .before .before .before .setting-words .ensures) in rw (dcis-in, played-then, ← a .sent, ← a .count, ← a .log, c .before .before .before .before .before .before .before .before .before .before .before .before .before .enum-told .given .1, ← w) (c .before .before .before .before .before .before .configure .ensures)
+    done _ _ _ _ _ _ _ _ (c .before .before .before .before .before .before .before .before .before .before .before .before .before .before .before .before .before .stop-queues .ensures _) _ (rw sub-zero at (c .before .before .before .before .before .before .before .before .before .before .setting-words .ensures)) (c .before .before .before .before .before .before .before .before .before .before .before .before .before .enum-told .given .1) (c .before .before .before .before .before .before .configure .ensures)
 
 same-length-4 : tie.Need-same-length-4
 same-length-4 c = search needs
 
 returns-2 : tie.Need-returns-2
-unfolding releaseCourse onSent
 returns-2 c =
-    let a = c .before .before .before .before .before .before .stop-queues .ensures (c .before .before .before .before .before .before .before .before .before .before .before .before .args .ctx .now) in rw (dcis-in, played-then, ← a .sent, ← a .count, ← a .log, c .before .before .s .given .1, played-ends, c .before .before .before .before .before .before .before .before .before .before .before .before .pre .0 .full, c .stays .ensures)
+    failed _ _ _ _ _ _ _ _ (c .before .before .before .before .before .before .stop-queues .ensures _) _ (c .before .before .before .before .before .before .before .before .before .before .before .before .pre .0 .full) (c .before .before .s .given .1) (c .stays .ensures)
 
 same-length-5 : tie.Need-same-length-5
 same-length-5 c = search needs
 
 returns-3 : tie.Need-returns-3
-unfolding releaseCourse onSent
 returns-3 c =
-    let a = c .before .before .before .before .before .stop-queues .ensures (c .before .before .before .before .before .before .before .before .before .before .before .args .ctx .now) in rw (dcis-in, played-then, ← a .sent, ← a .active, ← a .count, ← a .log, c .before .enum-told2 .given .1, played-ends, c .stays2 .ensures)
+    cut _ _ _ _ _ _ _ _ (c .before .before .before .before .before .stop-queues .ensures _) (c .before .enum-told2 .given .1) (c .stays2 .ensures)
 
 pub release-interface-spec : {M : Type 1} → statement M
 release-interface-spec =
