@@ -1,4 +1,4 @@
-// The phases of a bring-up, each with its one command; what comes after a done command is the next phase.
+// A bring-up: what it reads takes the log alone, and says how far it got.
 use answer::Answer;
 use command::Command;
 use command::Sent;
@@ -7,13 +7,13 @@ use set_configuration::SettingsArgs;
 ghost use mathlib.Core.Path.{_≡_};
 ghost use mathlib.Core.Bool.{true, false};
 ghost use mathlib.Core.List.{List};
-ghost use Prim.Native.Nat.{ℕ, _+_, _<_, _≤_};
+ghost use Prim.Native.Nat.{ℕ, _<_, _≤_};
 ghost use lib.ListN.{length};
 ghost use Rattle.configuration.specs.Valid.{validList};
 ghost use Rattle.answer.specs.Answer.{isAccepted};
+ghost use Rattle.command.specs.declared.Command.the-variants as commands;
 ghost use Rattle.command.specs.Course.{played};
 ghost use Rattle.context.specs.Place.{Spaced};
-ghost use Rattle.command.specs.declared.Command.the-variants as commands;
 ghost use Rattle.phase.specs.End.{answerOf};
 ghost use Rattle.init.specs.Reading.{bringUpOf, nothingRead, leavesRead};
 ghost use Rattle.init.specs.Init.{step, bringUpSet, bringUpConfiguration, bringUpPacket, bringUpHeader, bringUpAddress};
@@ -150,7 +150,7 @@ fn read_header(log: &mut [u32], outcomes: &[u8], a: BringUpArgs) -> Ended
     before_reading(header, 2)
 }
 
-// Sends Evaluate with the packet size, and reads the value of the configuration that is set now, the device descriptor and each configuration descriptor.
+// Sends the packet size's Evaluate, and reads the value of the configuration that is set now, the device descriptor and each configuration descriptor.
 fn read_descriptors(log: &mut [u32], outcomes: &[u8], a: BringUpArgs, list: &[u32]) -> Ended
     requires { ⌜ 64 ≤ length (now log) ⌝ }
     requires { ⌜ validList (now list) ≡ true ⌝ }

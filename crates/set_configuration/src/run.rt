@@ -1,4 +1,4 @@
-// The phases of a set configuration, each with its one command; what comes after a done command is the next phase.
+// The phases of a set configuration; what comes after a done command is the next phase.
 use super::held;
 use answer::Answer;
 use command::Command;

@@ -3,7 +3,7 @@ use native.Mathlib.Omega.{arith}
 use native.Mathlib.Nat.{sub-zero}
 use mathlib.Core.Path.{_≡_, _∙_}
 use mathlib.Core.List.{[]}
-use Prim.Native.Nat.{ℕ, _≤_, _-_, max}
+use Prim.Native.Nat.{_≤_, _-_, max}
 use lib.ListN.{length}
 use Rattle.transfer.specs.Routes.{queues}
 use Rattle.context.specs.Place.{written}
