@@ -1,19 +1,21 @@
-// The phases of a bring-up, each with its one command; what comes after a done command is the next phase.
+// A bring-up: what it reads takes the log alone, and says how far it got.
+use address_context::address_context;
 use answer::Answer;
 use command::Command;
 use command::Sent;
 use def::SlotId;
 use set_configuration::SettingsArgs;
+use set_configuration::run_set_configuration;
 ghost use mathlib.Core.Path.{_≡_};
 ghost use mathlib.Core.Bool.{true, false};
 ghost use mathlib.Core.List.{List};
-ghost use Prim.Native.Nat.{ℕ, _+_, _<_, _≤_};
+ghost use Prim.Native.Nat.{ℕ, _<_, _≤_};
 ghost use lib.ListN.{length};
 ghost use Rattle.configuration.specs.Valid.{validList};
 ghost use Rattle.answer.specs.Answer.{isAccepted};
+ghost use Rattle.command.specs.declared.Command.the-variants as commands;
 ghost use Rattle.command.specs.Course.{played};
 ghost use Rattle.context.specs.Place.{Spaced};
-ghost use Rattle.command.specs.declared.Command.the-variants as commands;
 ghost use Rattle.phase.specs.End.{answerOf};
 ghost use Rattle.init.specs.Reading.{bringUpOf, nothingRead, leavesRead};
 ghost use Rattle.init.specs.Init.{step, bringUpSet, bringUpConfiguration, bringUpPacket, bringUpHeader, bringUpAddress};
@@ -85,34 +87,20 @@ pub fn address(
     requires { ⌜ validList (now list) ≡ true ⌝ }
     ensures { λ r. ⌜ leavesRead r (now (list .entry)) (now (ctx .exit)) (now (routes .exit)) (now (log .exit)) ≡ played (now (outcomes .entry)) 0 (bringUpAddress (bringUpOf a (now (hubs .entry)) (now (list .entry))) spacing (now (ctx .entry)) (now (routes .entry))) (now (log .entry)) ⌝ }
 {
-    let route = hub::route_string(hubs, a.has_parent, a.parent, a.port);
+    let path = hub::route_string(hubs, a.has_parent, a.parent, a.port);
     let translator = hub::transaction_translator(a.speed, hubs, a.has_parent, a.parent, a.port);
-    address_context::address_context(
-        ctx,
-        spacing,
-        a.speed,
-        route,
-        translator,
-        a.root_port,
-        a.ring,
-    );
+    address_context(ctx, spacing, a.speed, path, translator, a.root_port, a.ring);
     let addressed = read_header(log, outcomes, a);
     let answer = addressed.answer;
-    match answer {
-        Answer::Accepted => {}
-        _ => {
-            return addressed;
-        }
-    }
+    let Answer::Accepted = answer else {
+        return addressed;
+    };
     address_context::setup_max_packet(ctx, spacing, a.packet);
     let read = read_descriptors(log, outcomes, a, list);
     let answer = read.answer;
-    match answer {
-        Answer::Accepted => {}
-        _ => {
-            return read;
-        }
-    }
+    let Answer::Accepted = answer else {
+        return read;
+    };
     if list.len() == 0 {
         return read;
     }
@@ -150,7 +138,7 @@ fn read_header(log: &mut [u32], outcomes: &[u8], a: BringUpArgs) -> Ended
     before_reading(header, 2)
 }
 
-// Sends Evaluate with the packet size, and reads the value of the configuration that is set now, the device descriptor and each configuration descriptor.
+// Sends the packet size's Evaluate, and reads the value of the configuration that is set now, the device descriptor and each configuration descriptor.
 fn read_descriptors(log: &mut [u32], outcomes: &[u8], a: BringUpArgs, list: &[u32]) -> Ended
     requires { ⌜ 64 ≤ length (now log) ⌝ }
     requires { ⌜ validList (now list) ≡ true ⌝ }
@@ -214,12 +202,10 @@ fn set_first(
     spacing: usize,
     list: &[u32],
 ) -> Ended
-    requires { ⌜ Spaced spacing (length (now ctx)) ⌝ }
-    requires { ⌜ (0 < length (now list)) × (64 ≤ length (now log)) × AllRead read (now list) ⌝ }
+    requires { ⌜ Spaced spacing (length (now ctx)) × ((0 < length (now list)) × (64 ≤ length (now log)) × AllRead read (now list)) ⌝ }
     ensures { λ r. ⌜ ((hubs : List ℕ) → leavesRead r (now (list .entry)) (now (ctx .exit)) (now (routes .exit)) (now (log .exit)) ≡ played (now (outcomes .entry)) (read .count) (bringUpSet (bringUpOf a hubs (now (list .entry))) spacing (now (ctx .entry)) (now (routes .entry))) (now (log .entry))) ⌝ }
 {
     let value = descriptor::configuration_value(list[0]);
-    let none = phase::no_queues();
     let slot = a.slot;
     let settings = SettingsArgs {
         slot,
@@ -229,17 +215,9 @@ fn set_first(
         interfaces: [0; 32],
         alternates: [0; 32],
         held: 0,
-        old: none,
+        old: phase::no_queues(),
     };
-    let e = set_configuration::run_set_configuration(
-        ctx,
-        routes,
-        log,
-        outcomes,
-        read.count,
-        settings,
-        list,
-    );
+    let e = run_set_configuration(ctx, routes, log, outcomes, read.count, settings, list);
     let answer = e.answer;
     let mut r = Ended {
         answer,
@@ -248,11 +226,8 @@ fn set_first(
         value: a.value,
         configurations: read.configurations,
     };
-    match answer {
-        Answer::Accepted => {
-            r.value = value;
-        }
-        _ => {}
+    if let Answer::Accepted = answer {
+        r.value = value;
     }
     r
 }

@@ -6,13 +6,12 @@ use mathlib.Core.List.{List, [], _∷_}
 use types.Run.{OneOf, miss}
 use denote.Enum.Declared.{tagOf}
 use lib.ListN.{set}
-use Rattle.answer.specs.declared.Answer.{Answer}
 use Rattle.answer.specs.declared.Answer.the-variants as answer
 use Rattle.command.specs.declared.Command.the-variants as command
 use Rattle.command.specs.declared.Sent.{Sent}
 use Rattle.command.specs.declared.Sent.the-variants as sent
 use Rattle.command.specs.Command.{commandWord, outcomeAt}
-use Rattle.command.specs.Course.{Course, ends, onSent, Played, played}
+use Rattle.command.specs.Course.{ends, onSent, Played, played}
 use Rattle.command.proofs.Laws.{played-ends, played-sends, played-then}
 use Rattle.transfer.proofs.Replaced as replaced-type
 use Rattle.transfer.specs.declared.Replaced.{Replaced}

@@ -1,17 +1,9 @@
 // The contexts of the two Configures: the endpoint words of all held settings dropped, or added again.
 use super::run::SettingsArgs;
 ghost use mathlib.Core.Path.{_≡_};
-ghost use mathlib.Core.List.{[], _∷_};
-ghost use Prim.Native.Nat.{ℕ, _+_, _<_, _≤_, max};
-ghost use lib.ListN.{length, take};
-ghost use Rattle.block.specs.Blocks.{dropFlags};
-ghost use Rattle.block.specs.Fields.{CONTEXT-ENTRIES};
-ghost use Rattle.block.specs.Setting.{_:=_};
-ghost use Rattle.context.specs.Place.{inBlock, CONTROL, SLOT, written, Spaced};
-ghost use Rattle.context.specs.Steps.{addAll, contextEntries, highestDci};
-ghost use Rattle.transfer.specs.Routes.{queues};
+ghost use Prim.Native.Nat.{_≤_};
+ghost use lib.ListN.{length};
 ghost use Rattle.phase.specs.Arrays.{Room};
-ghost use Rattle.settings.specs.Held.{heldIn, heldWords};
 ghost use Rattle.set_configuration.specs.SetConfiguration.{settingsOf, dropContext, restoreContext};
 
 // What the first Configure is given: the endpoints of the held settings dropped.

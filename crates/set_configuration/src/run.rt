@@ -1,4 +1,4 @@
-// The phases of a set configuration, each with its one command; what comes after a done command is the next phase.
+// The phases of a set configuration; what comes after a done command is the next phase.
 use super::held;
 use answer::Answer;
 use command::Command;
@@ -65,8 +65,7 @@ fn configure(
     list: &[u32],
 ) -> Ended
     requires { ⌜ Room (a .spacing) (length (now ctx)) (a .old) (a .old) ⌝ }
-    requires { ⌜ a .held ≤ 32 ⌝ }
-    requires { ⌜ n + a .old .count + 3 ≤ length (now log) ⌝ }
+    requires { ⌜ (a .held ≤ 32) × (n + a .old .count + 3 ≤ length (now log)) ⌝ }
     ensures { λ r. ⌜ leaves r (now (ctx .exit)) (now (routes .exit)) (now (log .exit)) ≡ played (now (outcomes .entry)) n (setConfigure (settingsOf a (now (list .entry))) (now (ctx .entry)) (now (routes .entry))) (now (log .entry)) ⌝ }
 {
     held::prepare_drop(ctx, a, list);
@@ -75,14 +74,8 @@ fn configure(
     match dropped {
         Sent::Done => {}
         Sent::Failed(code) => {
-            return resume(
-                log,
-                outcomes,
-                next,
-                a.old,
-                Answer::Failed(code),
-                Answer::Failed(code),
-            );
+            let failed = Answer::Failed(code);
+            return resume(log, outcomes, next, a.old, failed, failed);
         }
         Sent::Cut => {
             return phase::stays(Answer::Cut, next, 0);

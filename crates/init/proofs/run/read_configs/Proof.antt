@@ -51,7 +51,26 @@ same-length : tie.Need-same-length Inv-loop μ-loop
 same-length c = search needs
 
 returns : tie.Need-returns Inv-loop μ-loop
-returns c = (λ t. none-accepted _ _ (c .before .match .keys2) (ap (λ (e : Ended). e .answer) (c .after-reading .ensures)) t, λ hubs ctx routes spacing. let n : 0 < configurations (c .before .before .before .before .before .before .before .before .before .before .before .before .args .list .now) = omega (arith, c .before .before .before .before .before .before .loop-test .taken, c .before .before .before .before .before .before .before .before .count-configurations .ensures) in rw (rest-some (bringUpOf (c .before .before .before .before .before .before .before .before .before .before .before .before .args .a) hubs (c .before .before .before .before .before .before .before .before .before .before .before .before .args .list .now)) spacing ctx routes (c .before .before .before .before .before .before .before .before .before .before .before .before .args .outcomes .now) (c .before .before .before .before .before .before .before .before .before .before .before .before .args .log .now) n, ← c .before .before .before .before .before .before .before .before .count-configurations .ensures) (c .before .before .before .before .before .before .before .loop .inv .4 hubs ctx routes spacing ∙ configs-stopped _ _ _ _ _ _ _ _ _ _ (c .before .before .before .before .before .before .loop-test .taken) (c .before .before .before .before .send .ensures) _ _ (c .before .match .keys2) (c .after-reading .ensures)))
+returns c =
+    let c4 = c .before .before .before .before in
+    let c6 = c4 .before .before in
+    let c7 = c6 .before in
+    let c8 = c7 .before in
+    let c12 = c8 .before .before .before .before in (
+      λ t. none-accepted _ _ (c .before .match .keys2) (ap (λ (e : Ended). e .answer) (c .after-reading .ensures)) t,
+      λ hubs
+          ctx routes spacing. let n : 0 < configurations (c12 .args .list .now) = omega (
+            arith,
+            c6 .loop-test .taken,
+            c8 .count-configurations .ensures,
+          ) in rw (
+            rest-some (bringUpOf (c12 .args .a) hubs (c12 .args .list .now)) spacing ctx
+                routes (c12 .args .outcomes .now) (c12 .args .log .now) n,
+            ← c8 .count-configurations .ensures,
+          ) (c7 .loop .inv .4 hubs
+          ctx routes spacing ∙ configs-stopped _ _ _ _ _ _ _ _ _ _ (c6 .loop-test .taken) (c4 .send .ensures) _ _
+          (c .before .match .keys2) (c .after-reading .ensures)),
+    )
 
 add-i : tie.Need-add-i Inv-loop μ-loop
 add-i c = search needs
@@ -60,7 +79,18 @@ loop-less : tie.Need-loop-less Inv-loop μ-loop
 loop-less c = search needs
 
 loop-again : tie.Need-loop-again Inv-loop μ-loop
-loop-again c = (search needs, search needs, search needs, λ z. absurd (omega (arith, z)), λ hubs ctx routes spacing. c .before .before .before .before .before .before .before .loop .inv .4 hubs ctx routes spacing ∙ configs-next _ _ _ _ _ _ _ _ _ _ (c .before .before .before .before .before .before .loop-test .taken) (c .before .before .before .before .send .ensures) (c .enum-told .given .1))
+loop-again c =
+    let c4 = c .before .before .before .before in
+    let c6 = c4 .before .before in
+    let c7 = c6 .before in (
+      search needs,
+      search needs,
+      search needs,
+      λ z. absurd (omega (arith, z)),
+      λ hubs ctx routes spacing. c7 .loop .inv .4
+          hubs ctx routes spacing ∙ configs-next _ _ _ _ _ _ _ _ _ _ (c6 .loop-test .taken) (c4 .send .ensures)
+          (c .enum-told .given .1),
+    )
 
 add-after-reading-2 : tie.Need-add-after-reading-2 Inv-loop μ-loop
 add-after-reading-2 c = search needs
@@ -73,7 +103,31 @@ same-length-2 c = search needs
 
 returns-2 : tie.Need-returns-2 Inv-loop μ-loop
 unfolding answerOf
-returns-2 c = (λ t. let e = c .after-reading2 .ensures in record { few = rw e (omega (arith, c .before .before .loop .inv .0, c .before .before .loop .inv .1)); whole = rw e (omega (arith, c .before .loop-test .left, c .before .before .loop .inv .0, c .before .before .before .count-configurations .ensures)) }, λ hubs ctx routes spacing. let l = c .before .before .before .count-configurations .ensures in rest-read (bringUpOf (c .before .before .before .before .before .before .before .args .a) hubs (c .before .before .before .before .before .before .before .args .list .now)) spacing ctx routes (c .before .before .before .before .before .before .before .args .outcomes .now) _ (c .before .before .before .before .before .before .before .args .log .now) _ _ (omega (arith, l, c .before .before .loop .inv .0)) (omega (arith, l, c .before .loop-test .left)) (c .before .before .loop .inv .3) (c .after-reading2 .ensures) (rw (← l) (c .before .before .loop .inv .4 hubs ctx routes spacing)))
+returns-2 c =
+    let c3 = c .before .before .before in
+    let c7 = c3 .before .before .before .before in (
+      λ t. let e = c .after-reading2 .ensures in record {
+        few = rw e (omega (
+          arith,
+          c .before .before .loop .inv .0,
+          c .before .before .loop .inv .1,
+        ));
+        whole = rw e (omega (
+          arith,
+          c .before .loop-test .left,
+          c .before .before .loop .inv .0,
+          c3 .count-configurations .ensures,
+        ));
+      },
+      λ hubs ctx routes spacing. let l =
+          c3 .count-configurations .ensures in rest-read (bringUpOf (c7 .args .a) hubs (c7 .args .list .now)) spacing ctx routes
+          (c7 .args .outcomes .now) _ (c7 .args .log .now) _ _ (omega (arith, l, c .before .before .loop .inv .0)) (omega (
+            arith,
+            l,
+            c .before .loop-test .left,
+          )) (c .before .before .loop .inv .3) (c .after-reading2 .ensures) (rw (← l)
+          (c .before .before .loop .inv .4 hubs ctx routes spacing)),
+    )
 
 pub read-configs-spec : {M : Type 1} → statement M
 read-configs-spec =

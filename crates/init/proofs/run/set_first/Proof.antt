@@ -19,7 +19,20 @@ no-queues-requires : tie.Need-no-queues-requires
 no-queues-requires c κs = search needs
 
 run-set-configuration-requires : tie.Need-run-set-configuration-requires
-run-set-configuration-requires c κs = let e = c .before .before .before .before .no-queues .ensures in (first-room _ _ _ (c .before .before .before .before .before .before .before .before .before .before .before .before .pre .0) (e .1) (e .0), (omega arith, rw (e .1) (omega (arith, c .before .before .before .before .before .before .before .before .before .before .before .before .pre .1 .1, c .before .before .before .before .before .before .before .before .before .before .before .before .pre .1 .2 .few))))
+run-set-configuration-requires c κs =
+    let c3 = c .before .before .before in
+    let c12 = c3 .before .before .before .before .before .before .before .before .before in
+    let e = c3 .no-queues .ensures in (
+      first-room _ _ _ (c12 .pre .0) (e .1) (e .0),
+      (
+        omega arith,
+        rw (e .1) (omega (
+          arith,
+          c12 .pre .1 .1,
+          c12 .pre .1 .2 .few,
+        )),
+      ),
+    )
 
 enum-told : tie.Need-enum-told
 enum-told c = search needs
@@ -35,7 +48,17 @@ same-length-3 c = search needs
 
 returns : tie.Need-returns
 unfolding bringUpSettings heldIn heldWords
-returns c = λ hubs. let a = c .before .before .before .before .before .before .before .before .before .before .before .before .before .before .before .before .before .before .before .before .before .args .a in let list = c .before .before .before .before .before .before .before .before .before .before .before .before .before .before .before .before .before .before .before .before .before .args .list .now in let p = leaves (c .before .before .before .before .before .before .before .before .run-set-configuration .result) (c .before .before .before .before .before .before .before .before .run-set-configuration .last .0) (c .before .before .before .before .before .before .before .before .run-set-configuration .last .1 .0) (c .before .before .before .before .before .before .before .before .run-set-configuration .last .1 .1 .0) in set-done (bringUpOf a hubs list) (c .before .before .before .before .before .before .before .before .before .before .before .before .before .before .before .before .before .before .before .before .before .args .spacing) (c .before .before .before .before .before .before .before .before .before .before .before .before .before .before .before .before .before .before .before .before .before .args .ctx .now) (c .before .before .before .before .before .before .before .before .before .before .before .before .before .before .before .before .before .before .before .before .before .args .routes .now) (c .before .before .before .before .before .before .before .before .before .before .before .before .before .before .before .before .before .before .before .before .before .args .outcomes .now) (c .before .before .before .before .before .before .before .before .before .before .before .before .before .before .before .before .before .before .before .before .before .args .read .count) (c .before .before .before .before .before .before .before .before .before .before .before .before .before .before .before .before .before .before .before .before .before .args .log .now) p (sym (c .before .before .before .before .before .before .before .before .run-set-configuration .ensures ∙ rw (c .before .before .before .before .before .before .before .before .before .before .before .before .before .no-queues .ensures .0, c .before .before .before .before .before .before .before .before .before .before .before .before .before .before .configuration-value .ensures))) (c .before .before .before .before .before .before .before .before .before .before .before .before .before .before .before .before .before .before .before .before .before .args .read .configurations) (c .before .before .before .before .before .before .before .before .before .before .before .before .before .before .before .before .before .before .before .before .before .pre .1 .2 .whole) (c .before .before .before .before .before .before .before .before .before .before .before .before .before .before .configuration-value .result) (c .enum-told .given .1) (c .before .before .before .before .before .before .before .before .before .before .before .before .before .before .configuration-value .ensures)
+returns c =
+    let c8 = c .before .before .before .before .before .before .before .before in
+    let c12 = c8 .before .before .before .before in
+    let c14 = c12 .before .before in
+    let c21 = c14 .before .before .before .before .before .before .before in
+    λ hubs. let a = c21 .args .a in let list = c21 .args .list .now in let p = leaves (c8 .run-set-configuration .result)
+    (c8 .run-set-configuration .last .0) (c8 .run-set-configuration .last .1 .0) (c8 .run-set-configuration .last .1 .1 .0)
+    in set-done (bringUpOf a hubs list) (c21 .args .spacing) (c21 .args .ctx .now) (c21 .args .routes .now)
+    (c21 .args .outcomes .now) (c21 .args .read .count) (c21 .args .log .now) p (sym (c8 .run-set-configuration .ensures ∙
+    rw (c12 .no-queues .ensures .0, c14 .configuration-value .ensures))) (c21 .args .read .configurations)
+    (c21 .pre .1 .2 .whole) (c14 .configuration-value .result) (c .enum-told .given .1) (c14 .configuration-value .ensures)
 
 same-length-4 : tie.Need-same-length-4
 same-length-4 c = search needs
@@ -48,7 +71,17 @@ same-length-6 c = search needs
 
 returns-2 : tie.Need-returns-2
 unfolding bringUpSettings heldIn heldWords
-returns-2 c = λ hubs. let a = c .before .before .before .before .before .before .before .before .before .before .before .before .before .before .before .before .before .before .before .before .args .a in let list = c .before .before .before .before .before .before .before .before .before .before .before .before .before .before .before .before .before .before .before .before .args .list .now in let p = leaves (c .before .before .before .before .before .before .before .run-set-configuration .result) (c .before .before .before .before .before .before .before .run-set-configuration .last .0) (c .before .before .before .before .before .before .before .run-set-configuration .last .1 .0) (c .before .before .before .before .before .before .before .run-set-configuration .last .1 .1 .0) in set-refused (bringUpOf a hubs list) (c .before .before .before .before .before .before .before .before .before .before .before .before .before .before .before .before .before .before .before .before .args .spacing) (c .before .before .before .before .before .before .before .before .before .before .before .before .before .before .before .before .before .before .before .before .args .ctx .now) (c .before .before .before .before .before .before .before .before .before .before .before .before .before .before .before .before .before .before .before .before .args .routes .now) (c .before .before .before .before .before .before .before .before .before .before .before .before .before .before .before .before .before .before .before .before .args .outcomes .now) (c .before .before .before .before .before .before .before .before .before .before .before .before .before .before .before .before .before .before .before .before .args .read .count) (c .before .before .before .before .before .before .before .before .before .before .before .before .before .before .before .before .before .before .before .before .args .log .now) p (sym (c .before .before .before .before .before .before .before .run-set-configuration .ensures ∙ rw (c .before .before .before .before .before .before .before .before .before .before .before .before .no-queues .ensures .0, c .before .before .before .before .before .before .before .before .before .before .before .before .before .configuration-value .ensures))) (c .before .before .before .before .before .before .before .before .before .before .before .before .before .before .before .before .before .before .before .before .args .read .configurations) (c .before .before .before .before .before .before .before .before .before .before .before .before .before .before .before .before .before .before .before .before .pre .1 .2 .whole) (c .match .keys2)
+returns-2 c =
+    let c7 = c .before .before .before .before .before .before .before in
+    let c11 = c7 .before .before .before .before in
+    let c13 = c11 .before .before in
+    let c20 = c13 .before .before .before .before .before .before .before in
+    λ hubs. let a = c20 .args .a in let list = c20 .args .list .now in let p = leaves (c7 .run-set-configuration .result)
+    (c7 .run-set-configuration .last .0) (c7 .run-set-configuration .last .1 .0) (c7 .run-set-configuration .last .1 .1 .0)
+    in set-refused (bringUpOf a hubs list) (c20 .args .spacing) (c20 .args .ctx .now) (c20 .args .routes .now)
+    (c20 .args .outcomes .now) (c20 .args .read .count) (c20 .args .log .now) p (sym (c7 .run-set-configuration .ensures ∙
+    rw (c11 .no-queues .ensures .0, c13 .configuration-value .ensures))) (c20 .args .read .configurations)
+    (c20 .pre .1 .2 .whole) (c .match .keys2)
 
 pub set-first-spec : {M : Type 1} → statement M
 set-first-spec =

@@ -3,7 +3,7 @@ use native.Mathlib.Omega.{arith}
 use native.Mathlib.Nat.{sub-zero}
 use mathlib.Core.Path.{_≡_, _∙_}
 use mathlib.Core.List.{[]}
-use Prim.Native.Nat.{ℕ, _≤_, _-_, max}
+use Prim.Native.Nat.{_≤_, _-_, max}
 use lib.ListN.{length}
 use Rattle.transfer.specs.Routes.{queues}
 use Rattle.context.specs.Place.{written}
@@ -53,16 +53,34 @@ loop-holds : tie.Need-loop-holds Inv-loop μ-loop
 loop-holds c = (search needs, search needs, omega (arith, c .context-entries .ensures), entries-start _ _ _ _ _ _ (c .context-entries .ensures), add-start _ _ _ _ _ _ _ _)
 
 element-copy-out-setting-words : tie.Need-element-copy-out-setting-words Inv-loop μ-loop
-element-copy-out-setting-words c = let known : length (c .before .before .before .before .before .before .before .before .before .before .before .before .before .before .before .before .args .t2 .interfaces) ≡ 32 = search needs in omega (arith, known, c .loop-test .taken, c .before .before .before .before .before .before .before .before .before .before .before .before .before .before .before .before .pre .1)
+element-copy-out-setting-words c =
+    let c16 = c .before .before .before .before .before .before .before .before .before .before .before .before .before .before .before .before in
+    let known : length (c16 .args .t2 .interfaces) ≡ 32 = search needs in omega (
+      arith,
+      known,
+      c .loop-test .taken,
+      c16 .pre .1,
+    )
 
 element-copy-out-setting-words-2 : tie.Need-element-copy-out-setting-words-2 Inv-loop μ-loop
-element-copy-out-setting-words-2 c = let known : length (c .before .before .before .before .before .before .before .before .before .before .before .before .before .before .before .before .before .args .t2 .alternates) ≡ 32 = search needs in omega (arith, known, c .before .loop-test .taken, c .before .before .before .before .before .before .before .before .before .before .before .before .before .before .before .before .before .pre .1)
+element-copy-out-setting-words-2 c =
+    let c17 = c .before .before .before .before .before .before .before .before .before .before .before .before .before .before .before .before .before in
+    let known : length (c17 .args .t2 .alternates) ≡ 32 = search needs in omega (
+      arith,
+      known,
+      c .before .loop-test .taken,
+      c17 .pre .1,
+    )
 
 setting-words-requires : tie.Need-setting-words-requires Inv-loop μ-loop
 setting-words-requires c κs = search needs
 
 add-endpoints-requires : tie.Need-add-endpoints-requires Inv-loop μ-loop
-add-endpoints-requires c κs = rw (c .before .before .before .before .before .loop .inv .1, c .before .before .before .before .before .before .before .before .before .before .begin-configure .kept .0) (c .before .before .before .before .before .before .before .before .before .before .before .before .before .before .before .before .before .before .before .before .pre .0 .spaced)
+add-endpoints-requires c κs =
+    let c5 = c .before .before .before .before .before in
+    let c10 = c5 .before .before .before .before .before in
+    let c20 = c10 .before .before .before .before .before .before .before .before .before .before in
+    rw (c5 .loop .inv .1, c10 .begin-configure .kept .0) (c20 .pre .0 .spaced)
 
 context-entries-requires-2 : tie.Need-context-entries-requires-2 Inv-loop μ-loop
 unfolding dcisIn
@@ -75,23 +93,57 @@ loop-less : tie.Need-loop-less Inv-loop μ-loop
 loop-less c = search needs
 
 loop-again : tie.Need-loop-again Inv-loop μ-loop
-loop-again c = (search needs, search needs, omega (arith, c .if1 .taken, c .before .before .before .before .before .before .before .before .before .before .loop .inv .2), c .before .before .before .before .before .before .before .before .before .before .loop .inv .3 ∙ entries-more _ _ _ _ _ _ (c .before .before .before .before .before .before .before .before .before .loop-test .taken) (c .before .before .before .before .before .before .setting-words .ensures) _ _ _ (c .before .context-entries2 .ensures) (c .if1 .taken), c .before .before .before .before .before .before .before .before .before .before .loop .inv .4 ∙ add-next _ _ _ _ _ _ (c .before .before .before .before .before .before .before .before .before .loop-test .taken) (c .before .before .before .before .before .before .setting-words .ensures) _ _ _ _ _ (c .before .before .before .before .add-endpoints .ensures))
+loop-again c =
+    let c4 = c .before .before .before .before in
+    let c6 = c4 .before .before in
+    let c9 = c6 .before .before .before in
+    let c10 = c9 .before in (
+      search needs,
+      search needs,
+      omega (arith, c .if1 .taken, c10 .loop .inv .2),
+      c10 .loop .inv .3 ∙ entries-more _ _ _ _ _
+          _ (c9 .loop-test .taken) (c6 .setting-words .ensures) _ _ _ (c .before .context-entries2 .ensures) (c .if1 .taken),
+      c10 .loop .inv .4 ∙ add-next _ _ _ _ _ _ (c9 .loop-test .taken) (c6 .setting-words .ensures) _ _ _ _ _
+          (c4 .add-endpoints .ensures),
+    )
 
 loop-less-2 : tie.Need-loop-less-2 Inv-loop μ-loop
 loop-less-2 c = search needs
 
 loop-again-2 : tie.Need-loop-again-2 Inv-loop μ-loop
-loop-again-2 c = (search needs, search needs, c .before .before .before .before .before .before .before .before .before .before .loop .inv .2, c .before .before .before .before .before .before .before .before .before .before .loop .inv .3 ∙ entries-same _ _ _ _ _ _ (c .before .before .before .before .before .before .before .before .before .loop-test .taken) (c .before .before .before .before .before .before .setting-words .ensures) _ _ _ (c .before .context-entries2 .ensures) (c .if1 .left), c .before .before .before .before .before .before .before .before .before .before .loop .inv .4 ∙ add-next _ _ _ _ _ _ (c .before .before .before .before .before .before .before .before .before .loop-test .taken) (c .before .before .before .before .before .before .setting-words .ensures) _ _ _ _ _ (c .before .before .before .before .add-endpoints .ensures))
+loop-again-2 c =
+    let c4 = c .before .before .before .before in
+    let c6 = c4 .before .before in
+    let c9 = c6 .before .before .before in
+    let c10 = c9 .before in (
+      search needs,
+      search needs,
+      c10 .loop .inv .2,
+      c10 .loop .inv .3 ∙ entries-same _ _ _ _ _ _ (c9 .loop-test .taken)
+          (c6 .setting-words .ensures) _ _ _ (c .before .context-entries2 .ensures) (c .if1 .left),
+      c10 .loop .inv .4 ∙ add-next _
+          _ _ _ _ _ (c9 .loop-test .taken) (c6 .setting-words .ensures) _ _ _ _ _ (c4 .add-endpoints .ensures),
+    )
 
 finish-configure-requires : tie.Need-finish-configure-requires Inv-loop μ-loop
-finish-configure-requires c κs = rw (c .before .before .loop .inv .1, c .before .before .before .before .before .before .before .begin-configure .kept .0) (c .before .before .before .before .before .before .before .before .before .before .before .before .before .before .before .before .before .pre .0 .spaced)
+finish-configure-requires c κs =
+    let c7 = c .before .before .before .before .before .before .before in
+    let c17 = c7 .before .before .before .before .before .before .before .before .before .before in
+    rw (c .before .before .loop .inv .1, c7 .begin-configure .kept .0) (c17 .pre .0 .spaced)
 
 same-length : tie.Need-same-length Inv-loop μ-loop
 same-length c = search needs
 
 returns : tie.Need-returns Inv-loop μ-loop
 unfolding dcisIn ringsIn
-returns c = added (c .before .before .before .before .before .before .before .before .before .before .before .before .before .before .before .before .before .before .before .before .args .t2) (c .before .before .before .before .before .before .before .before .before .before .before .before .before .before .before .before .before .before .before .before .args .list .now) (c .before .before .before .before .before .before .before .before .before .before .before .before .before .before .before .before .before .before .before .before .args .ctx .now) _ _ _ _ _ (c .before .before .before .before .loop-test .left) (c .before .before .before .before .before .before .before .before .before .before .begin-configure .ensures (c .before .before .before .before .before .before .before .before .before .before .before .before .before .before .before .before .before .before .before .before .args .t2 .spacing)) (c .before .before .finish-configure .ensures) _ _ (c .before .before .before .before .before .loop .inv .4) (c .before .before .before .before .before .loop .inv .3) (c .before .before .before .before .before .loop .inv .2) (rw sub-zero) (rw sub-zero)
+returns c =
+    let c4 = c .before .before .before .before in
+    let c5 = c4 .before in
+    let c10 = c5 .before .before .before .before .before in
+    let c20 = c10 .before .before .before .before .before .before .before .before .before .before in
+    added (c20 .args .t2) (c20 .args .list .now) (c20 .args .ctx .now) _ _ _ _ _ (c4 .loop-test .left)
+    (c10 .begin-configure .ensures (c20 .args .t2 .spacing)) (c .before .before .finish-configure .ensures) _ _
+    (c5 .loop .inv .4) (c5 .loop .inv .3) (c5 .loop .inv .2) (rw sub-zero) (rw sub-zero)
 
 pub prepare-restore-spec : {M : Type 1} → statement M
 prepare-restore-spec =

@@ -21,7 +21,14 @@ same-length : tie.Need-same-length
 same-length c = search needs
 
 returns : tie.Need-returns
-returns c = λ list. let e = c .before .before .before .before .publish-endpoint-routes .ensures in let r = rw (c .before .before .before .before .before .before .no-queues .ensures .0) at (e .0) in let t = rw (c .before .before .before .before .before .before .no-queues .ensures .0) at (e .1) in not-published (settingsOf (c .before .before .before .before .before .before .before .before .before .before .before .args .a) list) (c .before .before .before .before .before .before .before .before .before .before .before .args .outcomes .now) (c .before .before .before .before .before .before .before .before .before .before .before .args .ctx .now) (c .before .before .before .before .before .before .before .before .before .before .before .args .routes .now) (c .before .before .before .before .before .before .before .before .before .before .before .args .log .now) (c .before .before .before .before .publish-endpoint-routes .last .0) (c .before .before .before .before .before .before .before .before .before .before .before .args .n) _ (c .before .before .before .before .publish-endpoint-routes .result) (r, t) (c .before .match .keys2) (c .stays .ensures)
+returns c =
+    let c4 = c .before .before .before .before in
+    let c6 = c4 .before .before in
+    let c11 = c6 .before .before .before .before .before in
+    λ list. let e = c4 .publish-endpoint-routes .ensures in let r = rw (c6 .no-queues .ensures .0) at (e .0) in let t = rw
+    (c6 .no-queues .ensures .0) at (e .1) in not-published (settingsOf (c11 .args .a) list) (c11 .args .outcomes .now)
+    (c11 .args .ctx .now) (c11 .args .routes .now) (c11 .args .log .now) (c4 .publish-endpoint-routes .last .0)
+    (c11 .args .n) _ (c4 .publish-endpoint-routes .result) (r, t) (c .before .match .keys2) (c .stays .ensures)
 
 configuration-context-requires : tie.Need-configuration-context-requires
 configuration-context-requires c κs = search needs
@@ -49,7 +56,19 @@ same-length-4 c = search needs
 
 returns-2 : tie.Need-returns-2
 unfolding valueContext
-returns-2 c = λ list. let e = c .before .before .before .before .before .before .before .before .before .before .before .before .before .before .publish-endpoint-routes .ensures in let r = rw (c .before .before .before .before .before .before .before .before .before .before .before .before .before .before .before .before .no-queues .ensures .0) at (e .0) in let t = rw (c .before .before .before .before .before .before .before .before .before .before .before .before .before .before .before .before .no-queues .ensures .0) at (e .1) in published (settingsOf (c .before .before .before .before .before .before .before .before .before .before .before .before .before .before .before .before .before .before .before .before .before .args .a) list) (c .before .before .before .before .before .before .before .before .before .before .before .before .before .before .before .before .before .before .before .before .before .args .outcomes .now) (c .before .before .before .before .before .before .before .before .before .before .before .before .before .before .before .before .before .before .before .before .before .args .ctx .now) (c .before .before .before .before .before .before .before .before .before .before .before .before .before .before .before .before .before .before .before .before .before .args .routes .now) (c .before .before .before .before .before .before .before .before .before .before .before .before .before .before .before .before .before .before .before .before .before .args .log .now) (c .before .before .before .before .before .before .before .before .before .before .before .before .before .before .publish-endpoint-routes .last .0) (c .before .before .before .before .before .before .before .before .before .before .before .before .before .before .before .before .before .before .before .before .before .args .n) _ (c .before .before .before .before .before .before .before .before .before .before .before .before .before .before .publish-endpoint-routes .result) (r, t) (c .before .before .before .before .before .before .before .before .configuration-context .last .0) (c .before .before .before .before .send .last .0) (c .before .before .before .before .send .result) (c .before .before .before .before .before .before .before .before .before .before .enum-told .given .1) (c .before .before .before .before .before .before .before .before .configuration-context .ensures (c .before .before .before .before .before .before .before .before .before .before .before .before .before .before .before .before .before .before .before .before .before .args .a .spacing)) (c .before .before .before .before .send .ensures) (c .moves .ensures ∙ rw (c .before .answer-after .ensures))
+returns-2 c =
+    let c4 = c .before .before .before .before in
+    let c8 = c4 .before .before .before .before in
+    let c10 = c8 .before .before in
+    let c14 = c10 .before .before .before .before in
+    let c16 = c14 .before .before in
+    let c21 = c16 .before .before .before .before .before in
+    λ list. let e = c14 .publish-endpoint-routes .ensures in let r = rw (c16 .no-queues .ensures .0) at (e .0) in let t = rw
+    (c16 .no-queues .ensures .0) at (e .1) in published (settingsOf (c21 .args .a) list) (c21 .args .outcomes .now)
+    (c21 .args .ctx .now) (c21 .args .routes .now) (c21 .args .log .now) (c14 .publish-endpoint-routes .last .0)
+    (c21 .args .n) _ (c14 .publish-endpoint-routes .result) (r, t) (c8 .configuration-context .last .0) (c4 .send .last .0)
+    (c4 .send .result) (c10 .enum-told .given .1) (c8 .configuration-context .ensures (c21 .args .a .spacing))
+    (c4 .send .ensures) (c .moves .ensures ∙ rw (c .before .answer-after .ensures))
 
 pub publish-spec : {M : Type 1} → statement M
 publish-spec =

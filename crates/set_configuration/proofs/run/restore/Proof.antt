@@ -29,7 +29,14 @@ same-length-2 : tie.Need-same-length-2
 same-length-2 c = search needs
 
 returns : tie.Need-returns
-returns c = λ routes. not-restored (settingsOf (c .before .before .before .before .before .before .before .before .before .before .before .before .before .before .before .args .a) (c .before .before .before .before .before .before .before .before .before .before .before .before .before .before .before .args .list .now)) (c .before .before .before .before .before .before .before .before .before .before .before .before .before .before .before .args .outcomes .now) (c .before .before .before .before .before .before .before .before .before .before .before .before .before .before .before .args .ctx .now) routes (c .before .before .before .before .before .before .before .before .before .before .before .before .before .before .before .args .log .now) (c .before .before .before .before .before .before .before .before .before .before .before .before .before .before .before .args .n) (c .before .before .before .before .before .before .before .before .before .before .before .before .before .before .before .args .code) (c .before .before .before .before .before .before .before .before .before .prepare-restore .last .0) (c .before .before .before .before .before .send .last .0) (c .before .before .before .before .before .send .result) (c .before .before .before .before .before .before .before .before .before .prepare-restore .ensures) (c .before .before .before .before .before .send .ensures) (c .stays .result) _ (c .before .enum-told2 .given .1) (c .stays .ensures)
+returns c =
+    let c5 = c .before .before .before .before .before in
+    let c9 = c5 .before .before .before .before in
+    let c15 = c9 .before .before .before .before .before .before in
+    λ routes. not-restored (settingsOf (c15 .args .a) (c15 .args .list .now)) (c15 .args .outcomes .now)
+    (c15 .args .ctx .now) routes (c15 .args .log .now) (c15 .args .n) (c15 .args .code) (c9 .prepare-restore .last .0)
+    (c5 .send .last .0) (c5 .send .result) (c9 .prepare-restore .ensures) (c5 .send .ensures) (c .stays .result) _
+    (c .before .enum-told2 .given .1) (c .stays .ensures)
 
 enum-told-3 : tie.Need-enum-told-3
 enum-told-3 c = search needs
@@ -44,7 +51,14 @@ same-length-4 : tie.Need-same-length-4
 same-length-4 c = search needs
 
 returns-2 : tie.Need-returns-2
-returns-2 c = λ routes. restore-cut (settingsOf (c .before .before .before .before .before .before .before .before .before .before .before .before .before .before .before .args .a) (c .before .before .before .before .before .before .before .before .before .before .before .before .before .before .before .args .list .now)) (c .before .before .before .before .before .before .before .before .before .before .before .before .before .before .before .args .outcomes .now) (c .before .before .before .before .before .before .before .before .before .before .before .before .before .before .before .args .ctx .now) routes (c .before .before .before .before .before .before .before .before .before .before .before .before .before .before .before .args .log .now) (c .before .before .before .before .before .before .before .before .before .before .before .before .before .before .before .args .n) (c .before .before .before .before .before .before .before .before .before .before .before .before .before .before .before .args .code) (c .before .before .before .before .before .before .before .before .before .prepare-restore .last .0) (c .before .before .before .before .before .send .last .0) (c .before .before .before .before .before .send .result) (c .before .before .before .before .before .before .before .before .before .prepare-restore .ensures) (c .before .before .before .before .before .send .ensures) (c .stays2 .result) (c .before .enum-told3 .given .1) (c .stays2 .ensures)
+returns-2 c =
+    let c5 = c .before .before .before .before .before in
+    let c9 = c5 .before .before .before .before in
+    let c15 = c9 .before .before .before .before .before .before in
+    λ routes. restore-cut (settingsOf (c15 .args .a) (c15 .args .list .now)) (c15 .args .outcomes .now)
+    (c15 .args .ctx .now) routes (c15 .args .log .now) (c15 .args .n) (c15 .args .code) (c9 .prepare-restore .last .0)
+    (c5 .send .last .0) (c5 .send .result) (c9 .prepare-restore .ensures) (c5 .send .ensures) (c .stays2 .result)
+    (c .before .enum-told3 .given .1) (c .stays2 .ensures)
 
 resume-requires : tie.Need-resume-requires
 resume-requires c κs = search needs
@@ -56,7 +70,16 @@ same-length-6 : tie.Need-same-length-6
 same-length-6 c = search needs
 
 returns-3 : tie.Need-returns-3
-returns-3 c = λ routes. restored (settingsOf (c .before .before .before .before .before .before .before .before .before .before .before .before .before .before .before .before .before .before .args .a) (c .before .before .before .before .before .before .before .before .before .before .before .before .before .before .before .before .before .before .args .list .now)) (c .before .before .before .before .before .before .before .before .before .before .before .before .before .before .before .before .before .before .args .outcomes .now) (c .before .before .before .before .before .before .before .before .before .before .before .before .before .before .before .before .before .before .args .ctx .now) routes (c .before .before .before .before .before .before .before .before .before .before .before .before .before .before .before .before .before .before .args .log .now) (c .before .before .before .before .before .before .before .before .before .before .before .before .before .before .before .before .before .before .args .n) (c .before .before .before .before .before .before .before .before .before .before .before .before .before .before .before .before .before .before .args .code) (c .before .before .before .before .before .before .before .before .before .before .before .before .prepare-restore .last .0) (c .before .before .before .before .before .before .before .before .send .last .0) (c .before .before .before .before .before .before .before .before .send .result) (c .before .before .before .before .before .before .before .before .before .before .before .before .prepare-restore .ensures) (c .before .before .before .before .before .before .before .before .send .ensures) (c .before .before .before .before .enum-told .given .1) (resumed-restored (c .before .before .before .before .before .before .before .before .before .before .before .before .before .before .before .before .before .before .args .a) (c .before .before .before .before .before .before .before .before .before .before .before .before .before .before .before .before .before .before .args .list .now) (c .before .before .before .before .before .before .before .before .before .before .before .before .prepare-restore .last .0) routes (c .before .before .before .before .before .before .before .before .before .before .before .before .before .before .before .before .before .before .args .outcomes .now) (c .before .before .before .before .before .before .before .before .send .last .0) _ (c .before .before .before .before .before .before .before .before .before .before .before .before .before .before .before .before .before .before .args .code) (c .before .before .resume .ensures (c .before .before .before .before .before .before .before .before .before .before .before .before .prepare-restore .last .0) routes))
+returns-3 c =
+    let c4 = c .before .before .before .before in
+    let c8 = c4 .before .before .before .before in
+    let c12 = c8 .before .before .before .before in
+    let c18 = c12 .before .before .before .before .before .before in
+    λ routes. restored (settingsOf (c18 .args .a) (c18 .args .list .now)) (c18 .args .outcomes .now) (c18 .args .ctx .now)
+    routes (c18 .args .log .now) (c18 .args .n) (c18 .args .code) (c12 .prepare-restore .last .0) (c8 .send .last .0)
+    (c8 .send .result) (c12 .prepare-restore .ensures) (c8 .send .ensures) (c4 .enum-told .given .1) (resumed-restored
+    (c18 .args .a) (c18 .args .list .now) (c12 .prepare-restore .last .0) routes (c18 .args .outcomes .now)
+    (c8 .send .last .0) _ (c18 .args .code) (c .before .before .resume .ensures (c12 .prepare-restore .last .0) routes))
 
 pub restore-spec : {M : Type 1} → statement M
 restore-spec =
