@@ -28,7 +28,6 @@ fn claim_args(d: Device, c: Cells, interface: u8, alternate: u8, pending: [u64; 
 {
     let interfaces = d.interfaces;
     let alternates = d.alternates;
-    let n = d.held_count;
     let slot = d.slot;
     let rings = c.rings;
     let own = endpoint::owned_rings(Owner::Interface(interface), c);
@@ -38,8 +37,8 @@ fn claim_args(d: Device, c: Cells, interface: u8, alternate: u8, pending: [u64; 
         speed: d.port_speed,
         interface: interface,
         alternate: alternate,
-        held: settings::is_held(interfaces, n, interface),
-        old_alternate: settings::alternate_of(interfaces, alternates, n, interface),
+        held: settings::is_held(interfaces, d.held_count, interface),
+        old_alternate: settings::alternate_of(interfaces, alternates, d.held_count, interface),
         old: endpoint::queues_of(own),
         pending: endpoint::queues_of(pending),
         all: endpoint::queues_of(rings),
