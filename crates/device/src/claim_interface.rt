@@ -45,30 +45,9 @@ fn claim_args(d: Device, c: Cells, interface: u8, alternate: u8, pending: [u64; 
     }
 }
 
-// Where the settings did not move, 14 puts the pending rings in quarantine.
-fn with_quarantined(mut d: Device, e: Ended, q: Queues) -> Device
-    requires { ⌜ (quarantinedOf d ≡ []) × (q .count ≤ 30) ⌝ }
-    ensures { λ r. ⌜ r ≡ cond (e .moved) d (quarantines (e .answer) (take (q .count) (q .rings)) d) ⌝ }
-{
-    if e.moved {
-        return d;
-    }
-    let a = e.answer;
-    match a {
-        Answer::InterfaceBroken => {
-            let rings = q.rings;
-            let quarantined = checks::quarantined_rings(rings, q.count);
-            d.quarantined = quarantined;
-            d.quarantined_count = q.count;
-            d
-        }
-        _ => d,
-    }
-}
-
-// The end of the course makes the record, and what the call hands back.
+// The end of the course makes the record; where the settings did not move, 14 puts the pending rings in quarantine.
 fn claim_end(
-    d: Device,
+    mut d: Device,
     c: Cells,
     interface: u8,
     alternate: u8,
@@ -84,8 +63,16 @@ fn claim_end(
     let alternates = d.alternates;
     let held = settings::with_setting(interfaces, alternates, d.held_count, interface, alternate);
     let claimed = endpoint::claimed_cells(interface, pending, c);
-    let left = with_quarantined(d, e, q);
-    update::at_end(left, c, e, Owner::Interface(interface), claimed, held)
+    let answer = e.answer;
+    if !e.moved {
+        if let Answer::InterfaceBroken = answer {
+            let rings = q.rings;
+            let quarantined = checks::quarantined_rings(rings, q.count);
+            d.quarantined = quarantined;
+            d.quarantined_count = q.count;
+        }
+    }
+    update::at_end(d, c, e, Owner::Interface(interface), claimed, held)
 }
 
 impl Device {
