@@ -1,8 +1,8 @@
 -- The record changed before the end of its course is taken in, where the settings moved or where they did not.
-use mathlib.Core.Path.{_≡_, refl, _∙_}
+use mathlib.Core.Path.{_≡_, refl}
 use mathlib.Core.Bool.{Bool, true, false, cond}
 use mathlib.Core.Logic.{_⊎_, inl, inr}
-use mathlib.Core.List.{List, []}
+use mathlib.Core.List.{List}
 use Prim.Native.Nat.{ℕ}
 use Rattle.answer.specs.Answer.{isAccepted, isBroken}
 use Rattle.answer.specs.declared.Answer.{Answer}

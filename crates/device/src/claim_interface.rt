@@ -10,17 +10,17 @@ use endpoint::Owner;
 use endpoint::Queues;
 use phase::Ended;
 ghost use mathlib.Core.Path.{_≡_};
-ghost use mathlib.Core.Bool.{true, cond};
+ghost use mathlib.Core.Bool.{true};
 ghost use mathlib.Core.List.{List, []};
 ghost use Prim.Native.Nat.{ℕ, _≤_};
-ghost use lib.ListN.{length, take};
+ghost use lib.ListN.{length};
 ghost use Rattle.endpoint.specs.Cells.{QueuesAs};
 ghost use Rattle.settings.specs.Held.{withSetting};
 ghost use Rattle.phase.specs.Arrays as arrays;
 ghost use Rattle.device.specs.Device.{cellsIn, heldOf, quarantinedOf};
 ghost use Rattle.device.specs.Sound.{countsFit};
 ghost use Rattle.device.specs.Left.{leaves, ended};
-ghost use Rattle.device.specs.Claim.{pendingOf, ClaimAs, quarantines, claimRecord, claim};
+ghost use Rattle.device.specs.Claim.{pendingOf, ClaimAs, claimRecord, claim};
 
 fn claim_args(d: Device, c: Cells, interface: u8, alternate: u8, pending: [u64; 30]) -> ClaimArgs
     requires { ⌜ countsFit d ≡ true ⌝ }
@@ -102,6 +102,7 @@ impl Device {
         let owners = self.ep_interfaces;
         let quarantined = self.quarantined;
         let c = endpoint::cells_of(eps, owners, self.ep_count);
+        // 8, 9, 10.
         let offer = checks::list_check(
             list,
             self.list_len,

@@ -33,6 +33,7 @@ impl Device {
         let interfaces = self.interfaces;
         let alternates = self.alternates;
         let slot = self.slot;
+        // 8, for an unclaimed interface only.
         let known = checks::held_check(list, self.list_len, interfaces, self.held_count, interface);
         if let Check::Refuse(a) = known {
             return Called {
