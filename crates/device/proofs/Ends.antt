@@ -1,12 +1,14 @@
 -- The record changed before the end of its course is taken in, where the settings moved or where they did not.
-use mathlib.Core.Path.{_≡_, refl, _∙_}
+use mathlib.Core.Path.{_≡_, refl}
 use mathlib.Core.Bool.{Bool, true, false, cond}
-use mathlib.Core.List.{List, []}
+use mathlib.Core.Logic.{_⊎_, inl, inr}
+use mathlib.Core.List.{List}
 use Prim.Native.Nat.{ℕ}
 use Rattle.answer.specs.Answer.{isAccepted, isBroken}
 use Rattle.answer.specs.declared.Answer.{Answer}
 use Rattle.endpoint.specs.declared.cells.Cells.{Cells}
-use Rattle.settings.specs.Held.{Held}
+use Rattle.settings.specs.declared.held.Settings.{Settings}
+use Rattle.settings.specs.Held.{Held, SettingsAs}
 use Rattle.phase.specs.declared.Ended.{Ended}
 use Rattle.device.specs.declared.record.Device.{Device}
 use Rattle.device.specs.declared.record.Called.{Called}
@@ -47,3 +49,37 @@ pub then-configured :
     ≡ cond b (cond (isAccepted a) (withConfiguration value (withHeld hs (withCells m d))) (withHeld hs (withCells m d))) (withCells l d)
 then-configured true a d x hs m l value p = rw p (value-first (isAccepted a) hs m value d)
 then-configured false a d x hs m l value p = rw p
+
+-- the record with the arrays of other settings
+abbrev pub holding : Settings → Device → Device
+holding held d =
+    record {
+      usable = d .usable;
+      slot = d .slot;
+      n = d .n;
+      spacing = d .spacing;
+      «port_speed» = d .«port_speed»;
+      configured = d .configured;
+      «current_config_value» = d .«current_config_value»;
+      list = d .list;
+      «list_len» = d .«list_len»;
+      eps = d .eps;
+      «ep_interfaces» = d .«ep_interfaces»;
+      «ep_count» = d .«ep_count»;
+      interfaces = held .interfaces;
+      alternates = held .alternates;
+      «held_count» = held .count;
+      control = d .control;
+      «control_handle» = d .«control_handle»;
+      quarantined = d .quarantined;
+      «quarantined_count» = d .«quarantined_count»;
+    }
+
+-- the record that an end leaves, by whether the settings moved
+pub settled :
+    (b : Bool) (d x : Device) (m l left : Cells) (held : Settings) (hs : List Held) → SettingsAs held hs →
+    ((b ≡ true) × (x ≡ holding held d) × (left ≡ m)) ⊎ ((b ≡ false) × (x ≡ d) × (left ≡ l)) →
+    withCells left x ≡ cond b (withHeld hs (withCells m d)) (withCells l d)
+unfolding withHeld withCells
+settled b d x m l left held hs s (inl w) = rw (w .0, w .1, w .2, s .interfaces, s .alternates, s .count)
+settled b d x m l left held hs s (inr w) = rw (w .0, w .1, w .2)

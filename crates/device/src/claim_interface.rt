@@ -10,17 +10,17 @@ use endpoint::Owner;
 use endpoint::Queues;
 use phase::Ended;
 ghost use mathlib.Core.Path.{_≡_};
-ghost use mathlib.Core.Bool.{true, cond};
+ghost use mathlib.Core.Bool.{true};
 ghost use mathlib.Core.List.{List, []};
 ghost use Prim.Native.Nat.{ℕ, _≤_};
-ghost use lib.ListN.{length, take};
+ghost use lib.ListN.{length};
 ghost use Rattle.endpoint.specs.Cells.{QueuesAs};
 ghost use Rattle.settings.specs.Held.{withSetting};
 ghost use Rattle.phase.specs.Arrays as arrays;
 ghost use Rattle.device.specs.Device.{cellsIn, heldOf, quarantinedOf};
 ghost use Rattle.device.specs.Sound.{countsFit};
 ghost use Rattle.device.specs.Left.{leaves, ended};
-ghost use Rattle.device.specs.Claim.{pendingOf, ClaimAs, quarantines, claimRecord, claim};
+ghost use Rattle.device.specs.Claim.{pendingOf, ClaimAs, claimRecord, claim};
 
 fn claim_args(d: Device, c: Cells, interface: u8, alternate: u8, pending: [u64; 30]) -> ClaimArgs
     requires { ⌜ countsFit d ≡ true ⌝ }
@@ -28,7 +28,6 @@ fn claim_args(d: Device, c: Cells, interface: u8, alternate: u8, pending: [u64; 
 {
     let interfaces = d.interfaces;
     let alternates = d.alternates;
-    let n = d.held_count;
     let slot = d.slot;
     let rings = c.rings;
     let own = endpoint::owned_rings(Owner::Interface(interface), c);
@@ -38,38 +37,17 @@ fn claim_args(d: Device, c: Cells, interface: u8, alternate: u8, pending: [u64; 
         speed: d.port_speed,
         interface: interface,
         alternate: alternate,
-        held: settings::is_held(interfaces, n, interface),
-        old_alternate: settings::alternate_of(interfaces, alternates, n, interface),
+        held: settings::is_held(interfaces, d.held_count, interface),
+        old_alternate: settings::alternate_of(interfaces, alternates, d.held_count, interface),
         old: endpoint::queues_of(own),
         pending: endpoint::queues_of(pending),
         all: endpoint::queues_of(rings),
     }
 }
 
-// Where the settings did not move, 14 puts the pending rings in quarantine.
-fn with_quarantined(mut d: Device, e: Ended, q: Queues) -> Device
-    requires { ⌜ (quarantinedOf d ≡ []) × (q .count ≤ 30) ⌝ }
-    ensures { λ r. ⌜ r ≡ cond (e .moved) d (quarantines (e .answer) (take (q .count) (q .rings)) d) ⌝ }
-{
-    if e.moved {
-        return d;
-    }
-    let a = e.answer;
-    match a {
-        Answer::InterfaceBroken => {
-            let rings = q.rings;
-            let quarantined = checks::quarantined_rings(rings, q.count);
-            d.quarantined = quarantined;
-            d.quarantined_count = q.count;
-            d
-        }
-        _ => d,
-    }
-}
-
-// The end of the course makes the record, and what the call hands back.
+// The end of the course makes the record; where the settings did not move, 14 puts the pending rings in quarantine.
 fn claim_end(
-    d: Device,
+    mut d: Device,
     c: Cells,
     interface: u8,
     alternate: u8,
@@ -85,8 +63,16 @@ fn claim_end(
     let alternates = d.alternates;
     let held = settings::with_setting(interfaces, alternates, d.held_count, interface, alternate);
     let claimed = endpoint::claimed_cells(interface, pending, c);
-    let left = with_quarantined(d, e, q);
-    update::at_end(left, c, e, Owner::Interface(interface), claimed, held)
+    let answer = e.answer;
+    if !e.moved {
+        if let Answer::InterfaceBroken = answer {
+            let rings = q.rings;
+            let quarantined = checks::quarantined_rings(rings, q.count);
+            d.quarantined = quarantined;
+            d.quarantined_count = q.count;
+        }
+    }
+    update::at_end(d, c, e, Owner::Interface(interface), claimed, held)
 }
 
 impl Device {
@@ -116,6 +102,7 @@ impl Device {
         let owners = self.ep_interfaces;
         let quarantined = self.quarantined;
         let c = endpoint::cells_of(eps, owners, self.ep_count);
+        // 8, 9, 10.
         let offer = checks::list_check(
             list,
             self.list_len,

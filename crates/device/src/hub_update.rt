@@ -30,6 +30,7 @@ impl Device {
                 count: 0,
             };
         }
+        // 7, at High speed only.
         let known = checks::think_check(self.port_speed, ns);
         if let Check::Refuse(a) = known {
             return Called {

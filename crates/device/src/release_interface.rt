@@ -32,9 +32,9 @@ impl Device {
         let list = self.list;
         let interfaces = self.interfaces;
         let alternates = self.alternates;
-        let n = self.held_count;
         let slot = self.slot;
-        let known = checks::held_check(list, self.list_len, interfaces, n, interface);
+        // 8, for an unclaimed interface only.
+        let known = checks::held_check(list, self.list_len, interfaces, self.held_count, interface);
         if let Check::Refuse(a) = known {
             return Called {
                 device: self,
@@ -52,12 +52,12 @@ impl Device {
             spacing: self.spacing,
             speed: self.port_speed,
             interface: interface,
-            alternate: settings::alternate_of(interfaces, alternates, n, interface),
+            alternate: settings::alternate_of(interfaces, alternates, self.held_count, interface),
             old: endpoint::queues_of(own),
             all: endpoint::queues_of(rings),
         };
         let e = release::release_interface(ctx, routes, log, outcomes, args, list, self.list_len);
-        let held = settings::without_setting(interfaces, alternates, n, interface);
+        let held = settings::without_setting(interfaces, alternates, self.held_count, interface);
         let others = endpoint::claimed_cells(interface, [0u64; 30], c);
         update::at_end(self, c, e, Owner::Interface(interface), others, held)
     }

@@ -27,11 +27,21 @@ pub fn marked(mut d: Device, a: Answer) -> Device
     }
 }
 
-// The record with these endpoints, as a call hands it back.
-fn with_cells(mut d: Device, c: Cells, e: Ended) -> Called
-    ensures { λ r. ⌜ r ≡ record { device = marked (e .answer) (withCells c d); answer = e .answer; count = e .count } ⌝ }
+// Other endpoints and held settings where the course moved them, else the owner's endpoints as far as they were made active again.
+pub fn at_end(mut d: Device, c: Cells, e: Ended, who: Owner, moved: Cells, held: Settings) -> Called
+    ensures { λ r. ⌜ ((hs : List Held) → SettingsAs held hs → r ≡ record { device = marked (e .answer) (cond (e .moved) (withHeld hs (withCells moved d)) (withCells (withActive who (e .active) c) d)); answer = e .answer; count = e .count }) ⌝ }
 {
-    let live = endpoint::endpoints_of(c);
+    let mut left = moved;
+    if e.moved {
+        let interfaces = held.interfaces;
+        let alternates = held.alternates;
+        d.interfaces = interfaces;
+        d.alternates = alternates;
+        d.held_count = held.count;
+    } else {
+        left = endpoint::with_active(who, e.active, c);
+    }
+    let live = endpoint::endpoints_of(left);
     let eps = live.eps;
     let owners = live.owners;
     d.eps = eps;
@@ -43,20 +53,4 @@ fn with_cells(mut d: Device, c: Cells, e: Ended) -> Called
         answer: answer,
         count: e.count,
     }
-}
-
-// Other endpoints and held settings where the course moved them, else the owner's endpoints as far as they were made active again.
-pub fn at_end(mut d: Device, c: Cells, e: Ended, who: Owner, moved: Cells, held: Settings) -> Called
-    ensures { λ r. ⌜ ((hs : List Held) → SettingsAs held hs → r ≡ record { device = marked (e .answer) (cond (e .moved) (withHeld hs (withCells moved d)) (withCells (withActive who (e .active) c) d)); answer = e .answer; count = e .count }) ⌝ }
-{
-    if e.moved {
-        let interfaces = held.interfaces;
-        let alternates = held.alternates;
-        d.interfaces = interfaces;
-        d.alternates = alternates;
-        d.held_count = held.count;
-        return with_cells(d, moved, e);
-    }
-    let left = endpoint::with_active(who, e.active, c);
-    with_cells(d, left, e)
 }

@@ -1,24 +1,32 @@
-use mathlib.Core.Path.{_∙_}
-use Rattle.device.specs.Device.{withCells, withHeld}
+use mathlib.Core.Path.{ap, _∙_}
+use mathlib.Core.Logic.{inl, inr, ⊎-elim}
+use Rattle.endpoint.specs.Cells.{withActive}
+use Rattle.device.specs.Device.{withCells}
+use Rattle.device.proofs.Ends.{handed, settled}
 use borrow.Author.Needs.{needs}
 use Rattle.device.proofs.update.at_end.Statement.{statement}
 use Rattle.device.proofs.update.at_end.Tie as tie
 
-with-cells-requires : tie.Need-with-cells-requires
-with-cells-requires c κs = search needs
-
-returns : tie.Need-returns
-unfolding withHeld withCells
-returns c = λ hs s. rw (c .with-cells .ensures, c .before .before .before .if1 .taken, s .interfaces, s .alternates, s .count)
-
 with-active-requires : tie.Need-with-active-requires
 with-active-requires c κs = search needs
 
-with-cells-requires-2 : tie.Need-with-cells-requires-2
-with-cells-requires-2 c κs = search needs
+endpoints-of-requires : tie.Need-endpoints-of-requires
+endpoints-of-requires c κs = search needs
 
-returns-2 : tie.Need-returns-2
-returns-2 c = λ hs s. c .with-cells2 .ensures ∙ rw (c .before .before .if1 .left, c .before .with-active .ensures)
+marked-requires : tie.Need-marked-requires
+marked-requires c κs = search needs
+
+returns : tie.Need-returns
+unfolding withCells
+returns c =
+    let s = c .before .before .before .before .before in
+    let j = c .before .before .before .before .if1 in
+    let e = c .before .before .before .endpoints-of .ensures in
+    λ hs h. rw (c .marked .ensures, e .eps, e .owners, e .count)
+    (ap (handed (s .args .e))
+    (settled (s .args .e .moved) (s .args .d) (j .d) (s .args .moved) (withActive (s .args .who) (s .args .e .active) (s .args .c)) (j .left)
+    (s .args .held) hs h
+    (⊎-elim (λ w. inl (w .0 .taken, w .3, w .4)) (λ w. inr (w .0 .left, w .2, w .3 ∙ w .1 .ensures)) (j .came))))
 
 pub at-end-spec : {M : Type 1} → statement M
-at-end-spec = tie.close (tie.spec with-cells-requires returns with-active-requires with-cells-requires-2 returns-2)
+at-end-spec = tie.close (tie.spec with-active-requires endpoints-of-requires marked-requires returns)
