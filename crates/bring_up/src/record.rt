@@ -17,7 +17,7 @@ ghost use Rattle.device.specs.Left.{leaves};
 ghost use Rattle.bring_up.specs.BringUp.{broughtRecord, noDevice, broughtLeft};
 
 // Unusable and otherwise empty.
-fn no_device() -> Device
+pub fn no_device() -> Device
     ensures { λ r. ⌜ r ≡ noDevice ⌝ }
 {
     let blank = Endpoint {
