@@ -1,7 +1,7 @@
 -- One turn of each loop, and what is known before and after.
 use Prim.Native.Nat.{ℕ, zero, suc, _+_, _-_, _≤_, _<_}
-use mathlib.Core.Path.{_≡_, refl, sym, ap, subst, _∙_}
-use mathlib.Core.Bool.{true, false, not, cond, _&&_}
+use mathlib.Core.Path.{_≡_, refl, sym, ap, _∙_}
+use mathlib.Core.Bool.{true, false, not, _&&_}
 use lib.Dec.{eqb, ltb}
 use mir.Val.{Val}
 use denote.Shadow.{shadow}
@@ -9,14 +9,12 @@ use denote.Array.{each}
 use denote.Struct.Field.{array-field}
 use mathlib.Core.List.{List, [], _∷_, _++_, map}
 use native.Mathlib.Numerals.{add-one}
-use native.Mathlib.Nat.{add-zero, zero-add}
-use native.Mathlib.Decide.{decLt}
+use native.Mathlib.Nat.{add-zero}
 use native.Mathlib.Omega.{arith}
-use borrow.Author.Tests.{lt-ltb, le-ltb, eq-eqb, eqb-true, ltb-true}
+use borrow.Author.Tests.{lt-ltb, le-ltb, eqb-true, ltb-true}
 use lib.ListN.{length, getD, set, take, drop, length-set, length-drop, drop-of-length-le}
 use lib.Seq.{take-suc-set, take-all, drop-cons, set-comm, sets}
-use Rattle.laws.proofs.Tests.{and-left, and-right, and-true}
-use Rattle.laws.proofs.Cases.{false-if}
+use Rattle.laws.proofs.Tests.{and-left, and-right}
 use Rattle.endpoint.specs.Cells.{tabulated}
 use Rattle.endpoint.specs.declared.entry.Handle.{Handle}
 use Rattle.endpoint.specs.declared.entry.Endpoint.{Endpoint}
@@ -26,7 +24,7 @@ use Rattle.endpoint.specs.Endpoint.{blank}
 use Rattle.device.specs.declared.record.Device.{Device}
 use Rattle.image.specs.Image.{handleWord, addressWord, ringWord, isSet, handleIn, numberAt, endpointIn, read, below, isImage, decode}
 use Rattle.image.specs.Fits.{Below}
-use Rattle.image.proofs.Parts.{below-run, below-in}
+use Rattle.image.proofs.Parts.{below-in}
 
 tabulated-snoc : {A : Type 0} (f : ℕ → A) (k a : ℕ) → tabulated f (suc k) a ≡ tabulated f k a ++ (f (a + k) ∷ [])
 unfolding tabulated
@@ -194,6 +192,23 @@ endpoints-all eps owners l i e o g =
     rest-all _ _ _ _ (omega arith) ∙ rest-all _ _ _ _ (omega arith) ∙ rest-all _ _ _ _ (omega arith)
     ∙ rest-all _ _ _ _ (omega arith)
 
+-- One word more tested.
+pub below-next :
+    (bound k i : ℕ) (l : List ℕ) → i < k → getD l i 0 < bound → below bound (k - i) i l ≡ below bound (k - (i + 1)) (i + 1) l
+unfolding below
+below-next bound k i l h g =
+    let e : k - i ≡ suc (k - (i + 1)) = omega arith in rw (e, lt-ltb (getD l i 0) bound g)
+
+pub below-not :
+    (bound k i : ℕ) (l : List ℕ) → i < k → bound ≤ getD l i 0 → below bound (k - i) i l ≡ false
+unfolding below
+below-not bound k i l h g =
+    let e : k - i ≡ suc (k - (i + 1)) = omega arith in rw (e, le-ltb (getD l i 0) bound g)
+
+pub below-none : (bound k i : ℕ) (l : List ℕ) → k ≤ i → below bound (k - i) i l ≡ true
+unfolding below
+below-none bound k i l h = let e : k - i ≡ 0 = omega arith in rw e
+
 -- What an image is.
 module _ (l : List ℕ) (e : isImage l ≡ true) where
   bounds : (below 2 33 0 l && (below 256 128 33 l && below 4294967296 256 161 l)) ≡ true
@@ -218,55 +233,6 @@ module _ (l : List ℕ) (e : isImage l ≡ true) where
 
   pub image-word : (i : ℕ) → 161 ≤ i → i < 417 → getD l i 0 < 4294967296
   image-word i g h = below-in 4294967296 256 161 l (and-right (below 256 128 33 l) _ numbers) i g (omega arith)
-
--- What the word of a place is below.
-unfoldable pub boundAt : ℕ → ℕ
-boundAt i = cond (ltb i 33) 2 (cond (ltb i 161) 256 4294967296)
-
-pub bound-flag : (i : ℕ) → i < 33 → boundAt i ≡ 2
-unfolding boundAt
-bound-flag i h = rw (lt-ltb i 33 h)
-
-pub bound-byte : (i : ℕ) → 33 ≤ i → i < 161 → boundAt i ≡ 256
-unfolding boundAt
-bound-byte i g h = rw (le-ltb i 33 g, lt-ltb i 161 h)
-
-pub bound-word : (i : ℕ) → 161 ≤ i → boundAt i ≡ 4294967296
-unfolding boundAt
-bound-word i g = rw (le-ltb i 33 (omega arith), le-ltb i 161 g)
-
-abbrev pub Bounded : ℕ → List ℕ → Type 0
-Bounded n l = (i : ℕ) → i < n → getD l i 0 < boundAt i
-
-pub bounded-next :
-    (n : ℕ) (l : List ℕ) {b : ℕ} → Bounded n l → b ≡ boundAt n → getD l n 0 < b → Bounded (n + 1) l
-bounded-next n l h e g i q = go (decLt i n)
-  where
-    go : Dec (i < n) → getD l i 0 < boundAt i
-    go (yes p) = h i p
-    go (no p) = let same : n ≡ i = omega arith in subst (λ (m : ℕ). getD l m 0 < boundAt m) same (rw (← e) g)
-
-pub bounded-image : (l : List ℕ) → length l ≡ 514 → Bounded 417 l → isImage l ≡ true
-unfolding isImage
-bounded-image l e h =
-    and-true _ _ (eq-eqb (length l) 514 e)
-    (and-true _ _
-    (below-run 2 33 0 l (λ i q. rw (zero-add, ← bound-flag i q) (h i (omega arith))))
-    (and-true _ _
-    (below-run 256 128 33 l (λ i q. rw (← bound-byte (33 + i) (omega arith) (omega arith)) (h (33 + i) (omega arith))))
-    (below-run 4294967296 256 161 l (λ i q. rw (← bound-word (161 + i) (omega arith)) (h (161 + i) (omega arith))))))
-
-image-bounded : (l : List ℕ) → isImage l ≡ true → Bounded 417 l
-image-bounded l e i h = go (decLt i 33) (decLt i 161)
-  where
-    go : Dec (i < 33) → Dec (i < 161) → getD l i 0 < boundAt i
-    go (yes p) q = rw (bound-flag i p) (image-flag l e i p)
-    go (no p) (yes q) = rw (bound-byte i (omega arith) q) (image-byte l e i (omega arith) q)
-    go (no p) (no q) = rw (bound-word i (omega arith)) (image-word l e i (omega arith) h)
-
-pub not-image : (l : List ℕ) (i : ℕ) {b : ℕ} → i < 417 → b ≡ boundAt i → b ≤ getD l i 0 → isImage l ≡ false
-not-image l i h e g =
-    false-if (isImage l) (λ t. let low : getD l i 0 < boundAt i = image-bounded l t i h in omega (arith, low, e, g))
 
 -- A record of what was read.
 pub read-of :

@@ -3,7 +3,7 @@ use device::Device;
 use endpoint::Endpoint;
 use endpoint::Handle;
 ghost use mathlib.Core.Path.{_≡_};
-ghost use mathlib.Core.List.{[], _∷_, map};
+ghost use mathlib.Core.List.{map};
 ghost use lib.ListN.{length};
 ghost use lib.Seq.{sets};
 ghost use Rattle.image.specs.Image.{WORDS, handleWord, addressWord, ringWord, stored};
