@@ -11,6 +11,7 @@ ghost use Rattle.device.specs.Left.{leaves};
 ghost use Rattle.init.specs.Reading.{bringUpOf};
 ghost use Rattle.bring_up.specs.BringUp.{bringUp};
 pub use init::BringUpArgs;
+pub use record::no_device;
 
 // The bring-up of a slot: checks, the last of which registers control's route; then the course, and the record that its end makes.
 pub fn bring_up(

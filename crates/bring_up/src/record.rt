@@ -15,7 +15,7 @@ ghost use Rattle.init.specs.Reading.{bringUpOf, leavesRead};
 ghost use Rattle.device.specs.Left.{leaves};
 ghost use Rattle.bring_up.specs.BringUp.{noDevice, broughtLeft};
 
-// What a refused bring-up hands back: unusable and otherwise empty.
+// Unusable and otherwise empty: what a refused bring-up hands back.
 pub fn no_device() -> Device
     ensures { λ r. ⌜ r ≡ noDevice ⌝ }
 {

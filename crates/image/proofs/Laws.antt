@@ -103,12 +103,12 @@ module _ (d : Device) (fits : Fits d) where
 
   -- What is left where each part is written over a buffer.
   pub encoded :
-      (l : List ℕ) → length l ≡ 514 → {l1 l2 l3 l4 : List ℕ} {w : ℕ} →
-      l1
-      ≡ sets (sets (sets (sets l 3 (map handleWord (d .eps))) 37 (map addressWord (d .eps))) 67 (d .«ep_interfaces»)) 423
+      (l : List ℕ) → length l ≡ 514 → {l1 l2 l3 l4 : List ℕ} {w : ℕ} → l1 ≡ sets l 161 (d .list) →
+      l2
+      ≡ sets (sets (sets (sets l1 3 (map handleWord (d .eps))) 37 (map addressWord (d .eps))) 67 (d .«ep_interfaces»)) 423
       (map ringWord (d .eps)) →
-      l2 ≡ sets (sets l1 97 (d .interfaces)) 129 (d .alternates) → l3 ≡ sets l2 161 (d .list) →
-      l4 ≡ sets l3 453 (d .quarantined) → w ≡ revoked (d .«control_handle») →
+      l3 ≡ sets (sets l2 97 (d .interfaces)) 129 (d .alternates) → l4 ≡ sets l3 453 (d .quarantined) →
+      w ≡ revoked (d .«control_handle») →
       sets (sets (sets l4 0 (boolByte (d .usable) ∷ boolByte (d .configured) ∷ w ∷ [])) 33 (bytesOf d)) 417 (countsOf d)
       ≡ stored d l
   unfolding encode parts stored sum cuts
@@ -118,13 +118,13 @@ module _ (d : Device) (fits : Fits d) where
       (lay 2 (bytesOf d) refl
       (lay 0 (flagsOf d) refl
       (lay 10 (d .quarantined) (fits .quarantined)
-      (lay 7 (d .list) (fits .list .0)
       (lay 6 (d .alternates) (fits .alternates .0)
       (lay 5 (d .interfaces) (fits .interfaces .0)
       (lay 9 (map ringWord (d .eps)) (length-mapped ringWord (d .eps) (fits .eps .0))
       (lay 4 (d .«ep_interfaces») (fits .owners .0)
       (lay 3 (map addressWord (d .eps)) (length-mapped addressWord (d .eps) (fits .eps .0))
-      (lay 1 (map handleWord (d .eps)) (length-mapped handleWord (d .eps) (fits .eps .0)) (laid-cuts SIZES l e))))))))))) .joined)
+      (lay 1 (map handleWord (d .eps)) (length-mapped handleWord (d .eps) (fits .eps .0))
+      (lay 7 (d .list) (fits .list .0) (laid-cuts SIZES l e))))))))))) .joined)
 
   module _ (j k a : ℕ) (p : List ℕ) (ek : getD SIZES j 0 ≡ k) (ea : sum (take j SIZES) ≡ a) (ep : getD (parts d) j [] ≡ p) where
     word : (i : ℕ) → i < k → getD (encode d) (a + i) 0 ≡ getD p i 0

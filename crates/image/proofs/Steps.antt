@@ -2,7 +2,7 @@
 use Prim.Native.Nat.{ℕ, zero, suc, _+_, _-_, _≤_, _<_}
 use mathlib.Core.Path.{_≡_, refl, sym, ap, _∙_}
 use mathlib.Core.Bool.{true, false, not, _&&_}
-use lib.Dec.{eqb}
+use lib.Dec.{eqb, ltb}
 use mir.Val.{Val}
 use denote.Shadow.{shadow}
 use denote.Array.{each}
@@ -11,7 +11,7 @@ use mathlib.Core.List.{List, [], _∷_, _++_, map}
 use native.Mathlib.Numerals.{add-one}
 use native.Mathlib.Nat.{add-zero}
 use native.Mathlib.Omega.{arith}
-use borrow.Author.Tests.{lt-ltb, le-ltb, eqb-true}
+use borrow.Author.Tests.{lt-ltb, le-ltb, eqb-true, ltb-true}
 use lib.ListN.{length, getD, set, take, drop, length-set, length-drop, drop-of-length-le}
 use lib.Seq.{take-suc-set, take-all, drop-cons, set-comm, sets}
 use Rattle.laws.proofs.Tests.{and-left, and-right}
@@ -22,7 +22,7 @@ use Rattle.endpoint.specs.declared.entry.Endpoints.{Endpoints}
 use Rattle.endpoint.proofs.entry.Endpoint.{the-field}
 use Rattle.endpoint.specs.Endpoint.{blank}
 use Rattle.device.specs.declared.record.Device.{Device}
-use Rattle.image.specs.Image.{handleWord, addressWord, ringWord, isSet, handleIn, numberAt, endpointIn, read, below, isImage}
+use Rattle.image.specs.Image.{handleWord, addressWord, ringWord, isSet, handleIn, numberAt, endpointIn, read, below, isImage, decode}
 use Rattle.image.specs.Fits.{Below}
 use Rattle.image.proofs.Parts.{below-in}
 
@@ -222,6 +222,9 @@ module _ (l : List ℕ) (e : isImage l ≡ true) where
   unfolding isImage
   image-length = eqb-true (length l) 514 (and-left (eqb (length l) 514) _ e)
 
+  pub image-within : (i : ℕ) → ltb i 514 ≡ true → i < length l
+  image-within i h = rw image-length (ltb-true i 514 h)
+
   pub image-flag : (i : ℕ) → i < 33 → getD l i 0 < 2
   image-flag i h = below-in 2 33 0 l (and-left (below 2 33 0 l) _ bounds) i (omega arith) (omega arith)
 
@@ -238,6 +241,7 @@ pub read-of :
     (e .eps ≡ tabulated (endpointIn l) 30 0) × (e .owners ≡ tabulated (numberAt l) 30 67) × (e .count ≡ getD l 419 0) →
     interfaces ≡ tabulated (numberAt l) 32 97 → alternates ≡ tabulated (numberAt l) 32 129 → handle ≡ handleIn (getD l 2 0) →
     quarantined ≡ tabulated (numberAt l) 61 453 →
+    isImage l ≡ true →
     _≡_ {A = Device}
     (record {
       usable = not (eqb (getD l 0 0) 0);
@@ -260,7 +264,7 @@ pub read-of :
       quarantined = quarantined;
       «quarantined_count» = getD l 421 0;
     })
-    (read l)
-unfolding read isSet
-read-of l list eps interfaces alternates handle quarantined =
-    rw (list, eps .0, eps .1, eps .2, interfaces, alternates, handle, quarantined)
+    (decode l)
+unfolding decode read isSet
+read-of l list eps interfaces alternates handle quarantined image =
+    rw (image, list, eps .0, eps .1, eps .2, interfaces, alternates, handle, quarantined)

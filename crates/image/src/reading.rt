@@ -8,18 +8,9 @@ use endpoint::Handle;
 ghost use mathlib.Core.Path.{_≡_};
 ghost use mathlib.Core.Bool.{true};
 ghost use Prim.Native.Nat.{_+_, _≤_};
-ghost use lib.ListN.{length, getD};
+ghost use lib.ListN.{getD};
 ghost use Rattle.endpoint.specs.Cells.{tabulated};
-ghost use Rattle.image.specs.Image.{handleIn, numberAt, endpointIn, read, isImage, decode};
-
-fn handle_in(w: u64) -> Handle
-    ensures { λ r. ⌜ r ≡ handleIn w ⌝ }
-{
-    if w == 0 {
-        return Handle::Active;
-    }
-    Handle::Revoked
-}
+ghost use Rattle.image.specs.Image.{numberAt, endpointIn, isImage, decode};
 
 fn list_in(image: &[u64]) -> [u32; 256]
     requires { ⌜ isImage (now image) ≡ true ⌝ }
@@ -47,7 +38,11 @@ fn endpoints_in(image: &[u64]) -> Endpoints
     let mut owners = [0u8; 30];
     let mut i = 0;
     while i < 30 {
-        let handle = handle_in(image[3 + i]);
+        let handle = if image[3 + i] == 0 {
+            Handle::Active
+        } else {
+            Handle::Revoked
+        };
         eps[i] = Endpoint {
             address: image[37 + i] as u8,
             ring: image[423 + i],
@@ -90,18 +85,21 @@ fn quarantined_in(image: &[u64]) -> [u64; 61]
     rings
 }
 
-fn read(image: &[u64]) -> Device
-    requires { ⌜ (length (now image) ≡ 514) × (isImage (now image) ≡ true) ⌝ }
-    ensures { λ r. ⌜ r ≡ read (now (image .entry)) ⌝ }
+// Words that are no image say no device.
+pub fn decode(image: &[u64]) -> Device
+    ensures { λ r. ⌜ r ≡ decode (now (image .entry)) ⌝ }
 {
-    let list = list_in(image);
+    if !test::is_image(image) {
+        return bring_up::no_device();
+    }
+    let control_handle = if image[2] == 0 {
+        Handle::Active
+    } else {
+        Handle::Revoked
+    };
     let e = endpoints_in(image);
     let eps = e.eps;
     let owners = e.owners;
-    let interfaces = settings_in(image, 97);
-    let alternates = settings_in(image, 129);
-    let control_handle = handle_in(image[2]);
-    let quarantined = quarantined_in(image);
     Device {
         usable: image[0] != 0,
         slot: SlotId(image[33] as u8),
@@ -110,28 +108,17 @@ fn read(image: &[u64]) -> Device
         port_speed: image[35] as u8,
         configured: image[1] != 0,
         current_config_value: image[36] as u8,
-        list: list,
+        list: list_in(image),
         list_len: image[418] as usize,
         eps: eps,
         ep_interfaces: owners,
         ep_count: e.count,
-        interfaces: interfaces,
-        alternates: alternates,
+        interfaces: settings_in(image, 97),
+        alternates: settings_in(image, 129),
         held_count: image[420] as usize,
         control: image[422],
         control_handle: control_handle,
-        quarantined: quarantined,
+        quarantined: quarantined_in(image),
         quarantined_count: image[421] as usize,
     }
-}
-
-// Words that are no image say zeros.
-pub fn decode(image: &[u64]) -> Device
-    ensures { λ r. ⌜ r ≡ decode (now (image .entry)) ⌝ }
-{
-    if !test::is_image(image) {
-        let zeros = [0u64; 514];
-        return read(&zeros);
-    }
-    read(image)
 }

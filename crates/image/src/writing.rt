@@ -3,20 +3,11 @@ use device::Device;
 use endpoint::Endpoint;
 use endpoint::Handle;
 ghost use mathlib.Core.Path.{_≡_};
-ghost use mathlib.Core.List.{[], _∷_, map};
+ghost use mathlib.Core.List.{map};
 ghost use lib.ListN.{length};
 ghost use lib.Seq.{sets};
-ghost use Rattle.image.specs.Image.{WORDS, flag, revoked, handleWord, addressWord, ringWord, stored};
+ghost use Rattle.image.specs.Image.{WORDS, handleWord, addressWord, ringWord, stored};
 ghost use Rattle.image.specs.Fits.{Fits};
-
-fn revoked(h: Handle) -> u64
-    ensures { λ r. ⌜ r ≡ revoked h ⌝ }
-{
-    match h {
-        Handle::Active => 0,
-        Handle::Revoked => 1,
-    }
-}
 
 fn put_endpoints(image: &mut [u64], eps: [Endpoint; 30], owners: [u8; 30])
     requires { ⌜ length (now image) ≡ 514 ⌝ }
@@ -25,8 +16,12 @@ fn put_endpoints(image: &mut [u64], eps: [Endpoint; 30], owners: [u8; 30])
     let mut i = 0;
     while i < 30 {
         let e = eps[i];
-        let h = e.handle;
-        image[3 + i] = revoked(h);
+        let handle = e.handle;
+        let revoked: u64 = match handle {
+            Handle::Active => 0,
+            Handle::Revoked => 1,
+        };
+        image[3 + i] = revoked;
         image[37 + i] = e.address as u64;
         image[67 + i] = owners[i] as u64;
         image[423 + i] = e.ring;
@@ -42,17 +37,6 @@ fn put_settings(image: &mut [u64], interfaces: [u8; 32], alternates: [u8; 32])
     while i < 32 {
         image[97 + i] = interfaces[i] as u64;
         image[129 + i] = alternates[i] as u64;
-        i += 1;
-    }
-}
-
-fn put_list(image: &mut [u64], list: [u32; 256])
-    requires { ⌜ length (now image) ≡ 514 ⌝ }
-    ensures { λ r. ⌜ now (image .exit) ≡ sets (now (image .entry)) 161 list ⌝ }
-{
-    let mut i = 0;
-    while i < 256 {
-        image[161 + i] = list[i] as u64;
         i += 1;
     }
 }
@@ -75,20 +59,27 @@ pub fn encode(d: Device, image: &mut [u64])
     if image.len() != 514 {
         return;
     }
+    let mut i = 0;
+    while i < 256 {
+        image[161 + i] = d.list[i] as u64;
+        i += 1;
+    }
     let eps = d.eps;
     let owners = d.ep_interfaces;
     let interfaces = d.interfaces;
     let alternates = d.alternates;
-    let list = d.list;
     let quarantined = d.quarantined;
     put_endpoints(image, eps, owners);
     put_settings(image, interfaces, alternates);
-    put_list(image, list);
     put_quarantined(image, quarantined);
     let handle = d.control_handle;
+    let revoked: u64 = match handle {
+        Handle::Active => 0,
+        Handle::Revoked => 1,
+    };
     image[0] = d.usable as u64;
     image[1] = d.configured as u64;
-    image[2] = revoked(handle);
+    image[2] = revoked;
     image[33] = d.slot.0 as u64;
     image[34] = d.n as u64;
     image[35] = d.port_speed as u64;

@@ -1,11 +1,13 @@
 use borrow.Author.Needs.{needs}
 use Prim.Native.Nat.{_≤_, _-_, _+_}
 use mathlib.Core.Path.{_≡_, refl}
+use mathlib.Core.Logic.{⊎-elim}
 use mathlib.Core.Bool.{true}
 use native.Mathlib.Omega.{arith}
-use lib.ListN.{length}
+use lib.ListN.{length, getD}
+use borrow.Author.Tests.{eq-eqb, ne-eqb}
 use native.Mathlib.Nat.{zero-add}
-use Rattle.image.specs.Image.{numberAt, endpointIn, isImage}
+use Rattle.image.specs.Image.{handleIn, numberAt, endpointIn, isImage}
 use Rattle.image.proofs.Steps.{image-length, image-byte, Read, read-none, read-next, read-done}
 use Rattle.image.proofs.reading.endpoints_in.Statement.{statement}
 use Rattle.image.proofs.reading.endpoints_in.Tie as tie
@@ -18,19 +20,22 @@ abbrev μ-loop : tie.MeasureT-loop
 μ-loop image eps₀ owners₀ i₀ eps owners i = 30 - i
 
 loop-holds : tie.Need-loop-holds Inv-loop μ-loop
-loop-holds c = (search needs, image-length _ (c .before .pre), search needs, read-none _ _ _ _ refl, read-none _ _ _ _ refl)
+loop-holds c = (search needs, image-length _ (c .pre), search needs, read-none _ _ _ _ refl, read-none _ _ _ _ refl)
 
-add-handle-in : tie.Need-add-handle-in Inv-loop μ-loop
-add-handle-in c = search needs
+add-if1 : tie.Need-add-if1 Inv-loop μ-loop
+add-if1 c = search needs
 
-mul-handle-in : tie.Need-mul-handle-in Inv-loop μ-loop
-mul-handle-in c = search needs
+mul-if1 : tie.Need-mul-if1 Inv-loop μ-loop
+mul-if1 c = search needs
 
-shared-slice-read-handle-in : tie.Need-shared-slice-read-handle-in Inv-loop μ-loop
-shared-slice-read-handle-in c = search needs
+shared-slice-read-if1 : tie.Need-shared-slice-read-if1 Inv-loop μ-loop
+shared-slice-read-if1 c = search needs
 
-handle-in-requires : tie.Need-handle-in-requires Inv-loop μ-loop
-handle-in-requires c κs = search needs
+handle-made :
+    (c : tie.Joined1 Inv-loop μ-loop) → c .if1 .handle ≡ handleIn (getD (c .before .before .before .before .args .image .now) (3 + c .before .before .before .loop .i) 0)
+unfolding handleIn
+handle-made c =
+    ⊎-elim (λ w. rw (eq-eqb _ _ (w .0 .taken)) (w .1)) (λ w. rw (ne-eqb _ _ (w .0 .left)) (w .1)) (c .if1 .came)
 
 add-owners : tie.Need-add-owners Inv-loop μ-loop
 add-owners c = search needs
@@ -46,14 +51,14 @@ cast-owners c =
     let turn = c .before .before .before .before .loop in
     omega (arith, image-byte _ (turn .inv .0) (37 + turn .i) (omega arith) (omega (arith, c .before .before .before .loop-test .taken)))
 
-add-t15 : tie.Need-add-t15 Inv-loop μ-loop
-add-t15 c = search needs
+add-t16 : tie.Need-add-t16 Inv-loop μ-loop
+add-t16 c = search needs
 
-mul-t16 : tie.Need-mul-t16 Inv-loop μ-loop
-mul-t16 c = search needs
+mul-t17 : tie.Need-mul-t17 Inv-loop μ-loop
+mul-t17 c = search needs
 
-shared-slice-read-t18 : tie.Need-shared-slice-read-t18 Inv-loop μ-loop
-shared-slice-read-t18 c = search needs
+shared-slice-read-t19 : tie.Need-shared-slice-read-t19 Inv-loop μ-loop
+shared-slice-read-t19 c = search needs
 
 mul-eps : tie.Need-mul-eps Inv-loop μ-loop
 mul-eps c = search needs
@@ -92,12 +97,12 @@ loop-again c =
       search needs,
       search needs,
       search needs,
-      read-next _ (turn .3) test (rw (zero-add, c .before .before .before .handle-in .ensures) refl),
+      read-next _ (turn .3) test (rw (zero-add, handle-made (c .before .before .before)) refl),
       read-next _ (turn .4) test refl,
     )
 
-shared-slice-read-t29 : tie.Need-shared-slice-read-t29 Inv-loop μ-loop
-shared-slice-read-t29 c = search needs
+shared-slice-read-t30 : tie.Need-shared-slice-read-t30 Inv-loop μ-loop
+shared-slice-read-t30 c = search needs
 
 returns : tie.Need-returns Inv-loop μ-loop
 returns c =
@@ -112,17 +117,16 @@ endpoints-in-spec =
     Inv-loop
     μ-loop
     loop-holds
-    add-handle-in
-    mul-handle-in
-    shared-slice-read-handle-in
-    handle-in-requires
+    add-if1
+    mul-if1
+    shared-slice-read-if1
     add-owners
     mul-owners
     shared-slice-read-owners
     cast-owners
-    add-t15
-    mul-t16
-    shared-slice-read-t18
+    add-t16
+    mul-t17
+    shared-slice-read-t19
     mul-eps
     array-set-from-eps
     add-owners-2
@@ -133,5 +137,5 @@ endpoints-in-spec =
     add-i
     loop-less
     loop-again
-    shared-slice-read-t29
+    shared-slice-read-t30
     returns)

@@ -1,11 +1,13 @@
 use borrow.Author.Needs.{needs}
 use Prim.Native.Nat.{_≤_, _-_}
 use mathlib.Core.Path.{_≡_, sym, _∙_}
-use lib.ListN.{length, length-set}
+use mathlib.Core.Logic.{⊎-elim}
+use lib.ListN.{length, getD, length-set}
+use Rattle.endpoint.specs.Endpoint.{blank}
 use mathlib.Core.List.{map}
 use lib.Seq.{sets}
 use native.Mathlib.Omega.{arith}
-use Rattle.image.specs.Image.{handleWord, addressWord, ringWord}
+use Rattle.image.specs.Image.{revoked, handleWord, addressWord, ringWord}
 use Rattle.image.proofs.Steps.{rest, rest-none, endpoints-next, endpoints-all}
 use Rattle.image.proofs.writing.put_endpoints.Statement.{statement}
 use Rattle.image.proofs.writing.put_endpoints.Tie as tie
@@ -36,8 +38,17 @@ mul-e c = search needs
 array-copy-out-e : tie.Need-array-copy-out-e Inv-loop μ-loop
 array-copy-out-e c = search needs
 
-revoked-requires : tie.Need-revoked-requires Inv-loop μ-loop
-revoked-requires c κs = search needs
+enum-told : tie.Need-enum-told Inv-loop μ-loop
+enum-told c = search needs
+
+enum-told-2 : tie.Need-enum-told-2 Inv-loop μ-loop
+enum-told-2 c = search needs
+
+revoked-made :
+    (c : tie.At-match-came Inv-loop μ-loop) →
+    c .match .revoked ≡ revoked (getD (c .before .before .before .before .args .t2) (c .before .before .before .loop .i) blank .handle)
+unfolding revoked
+revoked-made c = ⊎-elim (λ w. rw (w .1 .given .1) (w .2)) (λ w. rw (w .1 .given .1) (w .2)) (c .match .came)
 
 add-image : tie.Need-add-image Inv-loop μ-loop
 add-image c = search needs
@@ -93,7 +104,7 @@ loop-less c = search needs
 loop-again : tie.Need-loop-again Inv-loop μ-loop
 unfolding handleWord addressWord ringWord
 loop-again c =
-    let start = c .before .before .before .before .before .before in
+    let start = c .before .before .before .before .before in
     let turn = c .before .before .before .before .loop in
     let test = c .before .before .before .loop-test .taken in (
       search needs,
@@ -103,7 +114,7 @@ loop-again c =
       search needs,
       turn .inv .5
           ∙ endpoints-next (start .args .t2) (start .args .t3) (turn .image) (turn .i) (turn .inv .2) (turn .inv .3) test
-          (c .before .revoked .ensures),
+          (revoked-made (c .before)),
     )
 
 same-length : tie.Need-same-length Inv-loop μ-loop
@@ -111,7 +122,7 @@ same-length c = omega (arith, c .before .loop .inv .0, c .before .loop .inv .1)
 
 returns : tie.Need-returns Inv-loop μ-loop
 returns c =
-    let start = c .before .before .before in
+    let start = c .before .before in
     let turn = c .before .loop in
     sym
     (turn .inv .5
@@ -126,7 +137,8 @@ put-endpoints-spec =
     loop-holds
     mul-e
     array-copy-out-e
-    revoked-requires
+    enum-told
+    enum-told-2
     add-image
     mul-image
     slice-write-image
