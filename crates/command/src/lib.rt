@@ -33,28 +33,51 @@ pub struct Swept {
     pub active: usize,
 }
 
-// The lowest bit of each operand of a log word; its operation is the highest four bits.
-const FIRST_LSB: u32 = 0x10_0000;
+// The operation of each command, the highest four bits of its log word.
+const ADDRESS: u32 = 0x1000_0000;
 
-const SECOND_LSB: u32 = 0x1000;
+const EVALUATE: u32 = 0x2000_0000;
+
+const CONFIGURE: u32 = 0x3000_0000;
+
+const STOP: u32 = 0x4000_0000;
+
+const RESUME: u32 = 0x5000_0000;
+
+const SET_INTERFACE: u32 = 0x6000_0000;
+
+const SET_CONFIGURATION: u32 = 0x7000_0000;
+
+const READ_HEADER: u32 = 0x8000_0000;
+
+const READ_CONFIGURATION: u32 = 0x9000_0000;
+
+const READ_DEVICE: u32 = 0xA000_0000;
+
+const READ_CONFIG: u32 = 0xB000_0000;
+
+// The lowest bit of each operand.
+const FIRST: u32 = 0x10_0000;
+
+const SECOND: u32 = 0x1000;
 
 fn command_word(c: Command) -> u32
     ensures { λ r. ⌜ r ≡ commandWord c ⌝ }
 {
     match c {
-        Command::Address => 0x1000_0000,
-        Command::Evaluate => 0x2000_0000,
-        Command::Configure => 0x3000_0000,
-        Command::Stop(dci) => 0x4000_0000 + (dci as u32) * FIRST_LSB,
-        Command::Resume(dci) => 0x5000_0000 + (dci as u32) * FIRST_LSB,
-        Command::SetInterface(interface, alternate) => 0x6000_0000
-            + (interface as u32) * FIRST_LSB
-            + (alternate as u32) * SECOND_LSB,
-        Command::SetConfiguration(value) => 0x7000_0000 + (value as u32) * FIRST_LSB,
-        Command::ReadHeader => 0x8000_0000,
-        Command::ReadConfiguration => 0x9000_0000,
-        Command::ReadDevice => 0xA000_0000,
-        Command::ReadConfig(index) => 0xB000_0000 + (index as u32) * FIRST_LSB,
+        Command::Address => ADDRESS,
+        Command::Evaluate => EVALUATE,
+        Command::Configure => CONFIGURE,
+        Command::Stop(dci) => STOP + (dci as u32) * FIRST,
+        Command::Resume(dci) => RESUME + (dci as u32) * FIRST,
+        Command::SetInterface(interface, alternate) => SET_INTERFACE
+            + (interface as u32) * FIRST
+            + (alternate as u32) * SECOND,
+        Command::SetConfiguration(value) => SET_CONFIGURATION + (value as u32) * FIRST,
+        Command::ReadHeader => READ_HEADER,
+        Command::ReadConfiguration => READ_CONFIGURATION,
+        Command::ReadDevice => READ_DEVICE,
+        Command::ReadConfig(index) => READ_CONFIG + (index as u32) * FIRST,
     }
 }
 
