@@ -36,27 +36,22 @@ taken-narrow false spacing e = omega arith
 
 module _ (a : BringUp) (ctx : ℕ) (routes : List ℕ) (log : ℕ) where
   -- 11
-  pub slot-zero : a .slot < 1 → Refuse answer.SlotLimitReached ≡ bringUpCheck a ctx routes log
+  pub slot-refused : (leb 1 (a .slot) && (leb (a .slot) (a .n) && leb (a .n) 255)) ≡ false → Refuse answer.SlotLimitReached ≡ bringUpCheck a ctx routes log
   unfolding bringUpCheck slotCheck
-  slot-zero e = rw (lt-leb 1 (a .slot) e)
+  slot-refused e = rw e
 
-  pub slot-above : 1 ≤ a .slot → a .n < a .slot → Refuse answer.SlotLimitReached ≡ bringUpCheck a ctx routes log
-  unfolding bringUpCheck slotCheck
-  slot-above e f = rw (le-leb 1 (a .slot) e, lt-leb (a .slot) (a .n) f)
-
-  pub slots-above : 1 ≤ a .slot → a .slot ≤ a .n → 255 < a .n → Refuse answer.SlotLimitReached ≡ bringUpCheck a ctx routes log
-  unfolding bringUpCheck slotCheck
-  slots-above e f g = rw (le-leb 1 (a .slot) e, le-leb (a .slot) (a .n) f, lt-leb (a .n) 255 g)
+  pub few-slots : (leb 1 (a .slot) && (leb (a .slot) (a .n) && leb (a .n) 255)) ≡ true → a .n ≤ 255
+  few-slots e = leb-true (a .n) 255 (and-right (leb (a .slot) (a .n)) _ (and-right (leb 1 (a .slot)) _ e))
 
   module _
-      (spacing : ℕ) (x : Check) (low : 1 ≤ a .slot) (high : a .slot ≤ a .n) (few : a .n ≤ 255)
+      (spacing : ℕ) (x : Check) (fits : (leb 1 (a .slot) && (leb (a .slot) (a .n) && leb (a .n) 255)) ≡ true)
       (s : spacing ≡ cond (eqb ctx 1056) 32 64) (k : x ≡ lengthsCheck spacing (a .n) ctx (length routes) log Pass) where
     -- 1, 2, 3
     lengths-then : bringUpCheck a ctx routes log ≡ andThen x (deviceCheck a (queueCheck a routes))
     unfolding bringUpCheck slotCheck andThen
     lengths-then =
         let next = deviceCheck a (queueCheck a routes) in
-        rw (le-leb 1 (a .slot) low, le-leb (a .slot) (a .n) high, le-leb (a .n) 255 few, ← known-length ctx (eqb ctx 1056) refl, ← s)
+        rw (fits, ← known-length ctx (eqb ctx 1056) refl, ← s)
         (then-if (eqb ctx (33 * spacing)) _ _ answer.ContextLength next
         (then-if (eqb (length routes) (32 * (a .n + 1))) _ _ answer.RoutesLength next
         (then-if (leb 64 log) _ _ answer.LogTooShort next refl))

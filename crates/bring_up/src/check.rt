@@ -5,13 +5,26 @@ use def::Dci;
 use init::BringUpArgs;
 use transfer::Registered;
 ghost use mathlib.Core.Path.{_≡_};
-ghost use mathlib.Core.Bool.{cond};
-ghost use lib.Dec.{eqb};
+ghost use mathlib.Core.Bool.{cond, _&&_};
+ghost use lib.Dec.{eqb, leb};
 ghost use Rattle.transfer.specs.Routes.{withRoute};
 ghost use Rattle.answer.specs.declared.Answer.{Answer};
 ghost use Rattle.answer.specs.declared.Check.the-variants.{Pass, Refuse};
 ghost use Rattle.init.specs.Reading.{bringUpOf};
 ghost use Rattle.bring_up.specs.BringUp.{bringUpCheck};
+
+// Whether a slot is one of n, of which there are 255 at most.
+fn slot_fits(slot: usize, n: usize) -> bool
+    ensures { λ r. ⌜ r ≡ (leb 1 slot && (leb slot n && leb n 255)) ⌝ }
+{
+    if slot < 1 {
+        return false;
+    }
+    if n < slot {
+        return false;
+    }
+    n <= 255
+}
 
 // 11, 1, 2, 3, 6, 4, 5, 10, 17; control's route is registered where they pass.
 pub fn enter(
@@ -27,13 +40,7 @@ pub fn enter(
     ensures { λ r. ⌜ (r ≡ bringUpCheck (bringUpOf a (now (hubs .entry)) (now (list .entry))) ctx (now (routes .entry)) log) × ((r ≡ Pass) → now (routes .exit) ≡ withRoute (now (routes .entry)) (a .slot .0) 1 (a .ring)) × ((x : Answer) → (r ≡ Refuse x) → now (routes .exit) ≡ now (routes .entry)) ⌝ }
 {
     let slot = a.slot.0 as usize;
-    if slot < 1 {
-        return Check::Refuse(Answer::SlotLimitReached);
-    }
-    if a.n < slot {
-        return Check::Refuse(Answer::SlotLimitReached);
-    }
-    if 255 < a.n {
+    if !slot_fits(slot, a.n) {
         return Check::Refuse(Answer::SlotLimitReached);
     }
     let lengths = checks::lengths_check(spacing, a.n as u8, ctx, routes.len(), log);

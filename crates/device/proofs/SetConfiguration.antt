@@ -1,6 +1,5 @@
 -- What a set configuration leaves whose checks have passed.
-use Prim.Native.Nat.{ℕ, _-_}
-use native.Mathlib.Nat.{sub-zero}
+use Prim.Native.Nat.{ℕ}
 use mathlib.Core.Path.{_≡_, sym}
 use mathlib.Core.Bool.{cond}
 use mathlib.Core.List.{List, []}
@@ -52,11 +51,11 @@ pub set-left :
     (d : Device) (value : ℕ) (x : Check) (c n : Cells) (old : Queues) (o ctx routes log ctx′ routes′ log′ : List ℕ) (e : Ended)
     (y : Device) (r : Called) →
     x ≡ recordCheck d (length ctx) (length routes) (length log) Pass → x ≡ Pass → c ≡ cellsIn d → QueuesAs old (c .rings) →
-    arrays.leaves e ctx′ routes′ log′ ≡ played o 0 (setCourse (settingsOf (argsOf d value old) (take (d .«list_len» - 0) (d .list))) ctx routes) log →
+    arrays.leaves e ctx′ routes′ log′ ≡ played o 0 (setCourse (settingsOf (argsOf d value old) (take (d .«list_len») (d .list))) ctx routes) log →
     y ≡ cond (e .moved) (cond (isAccepted (e .answer)) (withConfiguration value d) d) d → n ≡ noCells →
     r ≡ handed e (cond (e .moved) (withHeld [] (withCells n y)) (withCells (withActive Any (e .active) c) y)) →
     leaves r ctx′ routes′ log′ ≡ setConfiguration d ctx routes log o value
 unfolding setConfiguration onCheck listOf setRecord bare ended
 set-left d value x c n old o ctx routes log ctx′ routes′ log′ e y r k p h s run ey en er =
     rw (er, then-configured (e .moved) (e .answer) d y [] n (withActive Any (e .active) c) value ey, en, h)
-    (sym (rw (← k, p, ← settings-of d value c old h s, ← simp sub-zero at run)))
+    (sym (rw (← k, p, ← settings-of d value c old h s, ← run)))

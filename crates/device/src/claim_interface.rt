@@ -1,4 +1,5 @@
 // The claim of an interface's alternate setting.
+use super::cells;
 use super::record::Called;
 use super::record::Device;
 use super::update;
@@ -91,17 +92,11 @@ impl Device {
     {
         let check = self.record_check(ctx.len(), routes.len(), log.len());
         if let Check::Refuse(a) = check {
-            return Called {
-                device: self,
-                answer: a,
-                count: 0,
-            };
+            return update::refused(self, a);
         }
         let list = self.list;
-        let eps = self.eps;
-        let owners = self.ep_interfaces;
         let quarantined = self.quarantined;
-        let c = endpoint::cells_of(eps, owners, self.ep_count);
+        let c = cells::cells_in(self);
         // 8, 9, 10.
         let offer = checks::list_check(
             list,
@@ -115,11 +110,7 @@ impl Device {
             self.quarantined_count,
         );
         if let Check::Refuse(a) = offer {
-            return Called {
-                device: self,
-                answer: a,
-                count: 0,
-            };
+            return update::refused(self, a);
         }
         let pending = checks::list_rings(list, self.list_len, interface, alternate, rings);
         let args = claim_args(self, c, interface, alternate, pending);

@@ -24,20 +24,12 @@ impl Device {
     {
         let check = self.record_check(ctx.len(), routes.len(), log.len());
         if let Check::Refuse(a) = check {
-            return Called {
-                device: self,
-                answer: a,
-                count: 0,
-            };
+            return update::refused(self, a);
         }
         // 7, at High speed only.
         let known = checks::think_check(self.port_speed, ns);
         if let Check::Refuse(a) = known {
-            return Called {
-                device: self,
-                answer: a,
-                count: 0,
-            };
+            return update::refused(self, a);
         }
         let think = checks::think_value(ns);
         change_context::hub_context(ctx, self.spacing, self.port_speed, ports, multi, think);

@@ -1,4 +1,5 @@
 // The record of a device and the calls on it (device.rs of the original, and the lifecycle of src/device.rs above it).
+mod cells;
 mod check;
 mod claim_interface;
 mod hub_update;

@@ -1,4 +1,5 @@
 // The release of an interface.
+use super::cells;
 use super::record::Called;
 use super::record::Device;
 use super::update;
@@ -23,28 +24,17 @@ impl Device {
     {
         let check = self.record_check(ctx.len(), routes.len(), log.len());
         if let Check::Refuse(a) = check {
-            return Called {
-                device: self,
-                answer: a,
-                count: 0,
-            };
+            return update::refused(self, a);
         }
         let list = self.list;
         let interfaces = self.interfaces;
         let alternates = self.alternates;
         let slot = self.slot;
-        // 8, for an unclaimed interface only.
         let known = checks::held_check(list, self.list_len, interfaces, self.held_count, interface);
         if let Check::Refuse(a) = known {
-            return Called {
-                device: self,
-                answer: a,
-                count: 0,
-            };
+            return update::refused(self, a);
         }
-        let eps = self.eps;
-        let owners = self.ep_interfaces;
-        let c = endpoint::cells_of(eps, owners, self.ep_count);
+        let c = cells::cells_in(self);
         let rings = c.rings;
         let own = endpoint::owned_rings(Owner::Interface(interface), c);
         let args = ReleaseArgs {

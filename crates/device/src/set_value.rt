@@ -1,4 +1,5 @@
 // The setting of a configuration, which ends all held settings.
+use super::cells;
 use super::record::Called;
 use super::record::Device;
 use super::update;
@@ -48,18 +49,12 @@ impl Device {
     {
         let check = self.record_check(ctx.len(), routes.len(), log.len());
         if let Check::Refuse(a) = check {
-            return Called {
-                device: self,
-                answer: a,
-                count: 0,
-            };
+            return update::refused(self, a);
         }
         let list = self.list;
         let interfaces = self.interfaces;
         let alternates = self.alternates;
-        let eps = self.eps;
-        let owners = self.ep_interfaces;
-        let c = endpoint::cells_of(eps, owners, self.ep_count);
+        let c = cells::cells_in(self);
         let rings = c.rings;
         let slot = self.slot;
         let args = SettingsArgs {
@@ -72,8 +67,7 @@ impl Device {
             held: self.held_count,
             old: endpoint::queues_of(rings),
         };
-        let n = self.list_len;
-        let e = run_set_configuration(ctx, routes, log, outcomes, 0, args, &list[0..n]);
+        let e = run_set_configuration(ctx, routes, log, outcomes, 0, args, &list[..self.list_len]);
         self = configured(self, e, value);
         let none = Settings {
             interfaces: [0u8; 32],

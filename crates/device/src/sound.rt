@@ -7,6 +7,7 @@ impl Device {
     pub fn sound(self) -> bool
         ensures { λ r. ⌜ r ≡ sound self ⌝ }
     {
+        let n = self.ep_count;
         let list = self.list;
         let interfaces = self.interfaces;
         let alternates = self.alternates;
@@ -16,12 +17,7 @@ impl Device {
         if !checks::place_sound(self.slot.0, self.n, self.spacing, self.port_speed) {
             return false;
         }
-        if !checks::counts_fit(
-            self.list_len,
-            self.ep_count,
-            self.held_count,
-            self.quarantined_count,
-        ) {
+        if !checks::counts_fit(self.list_len, n, self.held_count, self.quarantined_count) {
             return false;
         }
         if !checks::lists_sound(
@@ -32,14 +28,14 @@ impl Device {
             self.held_count,
             eps,
             owners,
-            self.ep_count,
+            n,
         ) {
             return false;
         }
         checks::rings_sound(
             self.usable,
             eps,
-            self.ep_count,
+            n,
             self.control,
             quarantined,
             self.quarantined_count,

@@ -1,4 +1,4 @@
-// What the end of a course makes of a record.
+// What a refusal and the end of a course make of a record.
 use super::record::Called;
 use super::record::Device;
 use answer::Answer;
@@ -13,6 +13,17 @@ ghost use Rattle.endpoint.specs.Cells.{withActive};
 ghost use Rattle.settings.specs.Held.{Held, SettingsAs};
 ghost use Rattle.device.specs.Device.{withCells, withHeld};
 ghost use Rattle.device.specs.Left.{marked};
+
+// A refusal changes nothing.
+pub fn refused(d: Device, a: Answer) -> Called
+    ensures { λ r. ⌜ r ≡ record { device = d; answer = a; count = 0 } ⌝ }
+{
+    Called {
+        device: d,
+        answer: a,
+        count: 0,
+    }
+}
 
 // 14 and 15 make it unusable.
 pub fn marked(mut d: Device, a: Answer) -> Device

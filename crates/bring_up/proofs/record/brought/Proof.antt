@@ -21,7 +21,16 @@ cast-d c = search needs
 
 returns : tie.Need-returns
 unfolding broughtLeft broughtRecord noDevice
-returns c = λ hubs ctx routes log. let e = c .before .before .before .before .before .count-words .ensures in rw (c .before .answer-number .ensures, c .before .before .before .first-words .ensures, c .before .before .no-device .ensures, e .1, length-take-le _ _ (e .0))
+returns c =
+    let c3 = c .before .before .before in
+    let c5 = c3 .before .before in
+    λ hubs ctx routes log. let e = c5 .count-words .ensures in rw (
+      c .before .answer-number .ensures,
+      c3 .first-words .ensures,
+      c .before .before .no-device .ensures,
+      e .1,
+      length-take-le _ _ (e .0),
+    )
 
 pub brought-spec : {M : Type 1} → statement M
 brought-spec = tie.close (tie.spec count-words-requires first-words-requires no-device-requires answer-number-requires cast-d returns)

@@ -26,8 +26,21 @@ queues-of-requires-3 c κs = search needs
 returns : tie.Need-returns
 unfolding heldOf
 returns c =
-    record
-    { slot = refl; spacing = refl; speed = refl; interface = refl; alternate = refl; held = c .before .before .before .before .is-held .ensures _; oldAlternate = c .before .before .before .alternate-of .ensures; old = rw (← c .before .before .before .before .before .owned-rings .ensures) (c .before .before .queues-of .ensures); pending = c .before .queues-of2 .ensures; all = c .queues-of3 .ensures }
+    let c3 = c .before .before .before in
+    let c4 = c3 .before in
+    let c5 = c4 .before in
+    record {
+      slot = refl;
+      spacing = refl;
+      speed = refl;
+      interface = refl;
+      alternate = refl;
+      held = c4 .is-held .ensures _;
+      oldAlternate = c3 .alternate-of .ensures;
+      old = rw (← c5 .owned-rings .ensures) (c .before .before .queues-of .ensures);
+      pending = c .before .queues-of2 .ensures;
+      all = c .queues-of3 .ensures;
+    }
 
 pub claim-args-spec : {M : Type 1} → statement M
 claim-args-spec = tie.close (tie.spec owned-rings-requires is-held-requires alternate-of-requires queues-of-requires queues-of-requires-2 queues-of-requires-3 returns)

@@ -28,12 +28,18 @@ left :
     (quarantines (c .before .before .before .before .before .before .args .e .answer) (take (c .before .before .before .before .before .before .args .q .count) (c .before .before .before .before .before .before .args .q .rings)) (c .before .before .before .before .before .before .args .d))
 unfolding quarantines withQuarantined number
 left c =
-    let s = c .before .before .before .before .before .before in
-    ⊎-elim
-    (λ w. w .5 ∙ rw (not-true (s .args .e .moved) (w .0 .taken), w .2 .given .1, w .4 .ensures .0, s .pre .1 .1, w .4 .ensures .1))
-    (⊎-elim
-    (λ w. w .2 ∙ rw (not-true (s .args .e .moved) (w .0 .taken), other-answer keys 14 (s .args .e .answer) (miss keys 14 tt) (w .1 .keys2)))
-    (λ w. w .1 ∙ rw (not-false (s .args .e .moved) (w .0 .left))))
+    let c6 = c .before .before .before .before .before .before in
+    let s = c6 in ⊎-elim (λ w. w .5 ∙ rw (
+      not-true (s .args .e .moved) (w .0 .taken),
+      w .2 .given .1,
+      w .4 .ensures .0,
+      s .pre .1 .1,
+      w .4 .ensures .1,
+    )) (⊎-elim (λ w. w .2 ∙ rw (
+      not-true (s .args .e .moved) (w .0 .taken),
+      other-answer keys
+          14 (s .args .e .answer) (miss keys 14 tt) (w .1 .keys2),
+    )) (λ w. w .1 ∙ rw (not-false (s .args .e .moved) (w .0 .left))))
     (c .if1 .came)
 
 with-setting-requires : tie.Need-with-setting-requires
@@ -55,12 +61,14 @@ at-end-requires c κs = search needs
 returns : tie.Need-returns
 unfolding heldOf
 returns c =
-    let s = c .before .before .before .before .before .before .before in
-    λ ctx routes log rings h. claim-made (s .args .d) (s .args .interface) (s .args .alternate) rings (c .before .if1 .d) (s .args .c)
-    (c .before .before .before .claimed-cells .result) (s .args .q) (s .args .e) (s .args .pending) (c .at-end .result) (c .before .before .before .claimed-cells .ensures)
-    (left (c .before))
-    (c .at-end .ensures (withSetting (s .args .interface) (s .args .alternate) (heldOf (s .args .d))) (c .before .before .before .before .with-setting .ensures))
-    (s .pre .1 .0) (s .pre .1 .2) h ctx routes log
+    let c3 = c .before .before .before in
+    let c4 = c3 .before in
+    let c7 = c4 .before .before .before in
+    let s = c7 in λ ctx routes log rings h. claim-made (s .args .d) (s .args .interface) (s .args .alternate) rings
+    (c .before .if1 .d) (s .args .c) (c3 .claimed-cells .result) (s .args .q) (s .args .e) (s .args .pending)
+    (c .at-end .result) (c3 .claimed-cells .ensures) (left (c .before)) (c .at-end .ensures (withSetting
+    (s .args .interface) (s .args .alternate) (heldOf (s .args .d))) (c4 .with-setting .ensures)) (s .pre .1 .0)
+    (s .pre .1 .2) h ctx routes log
 
 pub claim-end-spec : {M : Type 1} → statement M
 claim-end-spec = tie.close (tie.spec with-setting-requires claimed-cells-requires enum-told quarantined-rings-requires at-end-requires returns)

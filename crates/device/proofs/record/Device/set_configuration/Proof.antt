@@ -1,7 +1,8 @@
 use native.Mathlib.Omega.{arith}
 use mathlib.Core.List.{[]}
-use mathlib.Core.Path.{_≡_, refl}
+use mathlib.Core.Path.{_≡_, refl, sym}
 use lib.ListN.{length}
+use lib.Seq.{length-take-le}
 use Rattle.endpoint.specs.Endpoint.{padded}
 use Rattle.settings.specs.Held.{interfacesOf, alternatesOf}
 use Rattle.phase.proofs.Laws.{room-as}
@@ -24,35 +25,61 @@ record-check-requires c κs = search needs
 enum-known-check : tie.Need-enum-known-check
 enum-known-check c = search needs
 
+refused-requires : tie.Need-refused-requires
+refused-requires c κs = search needs
+
 returns : tie.Need-returns
 unfolding setConfiguration
-returns c = refused-left _ _ (c .before .before .before .record-check .ensures) _ (c .before .check .given .1) (c .before .before .before .before .before .before .before .before .args .self) _ (c .before .before .before .before .before .before .before .before .args .ctx .now) (c .before .before .before .before .before .before .before .before .args .routes .now) (c .before .before .before .before .before .before .before .before .args .log .now)
+returns c =
+    let c4 = c .before .before .before .before in
+    let c9 = c4 .before .before .before .before .before in
+    rw (c .refused .ensures) (refused-left _ _ (c4 .record-check .ensures) _ (c .before .before .check .given .1)
+    (c9 .args .self) _ (c9 .args .ctx .now) (c9 .args .routes .now) (c9 .args .log .now))
 
 enum-told : tie.Need-enum-told
 enum-told c = search needs
 
-cells-of-requires : tie.Need-cells-of-requires
-cells-of-requires c κs = record-passed _ _ _ _ _ (c .before .before .before .before .before .before .before .record-check .ensures) (c .before .before .before .before .before .enum-told .given .1) .facts .counts .endpoints
+cells-in-requires : tie.Need-cells-in-requires
+cells-in-requires c κs = record-passed _ _ _ _ _ (c .before .before .before .before .before .record-check .ensures) (c .before .before .before .enum-told .given .1) .facts .counts .endpoints
 
 queues-of-requires : tie.Need-queues-of-requires
 queues-of-requires c κs = search needs
 
-sub-run-set-configuration : tie.Need-sub-run-set-configuration
-sub-run-set-configuration c = search needs
+array-share-prefix-list : tie.Need-array-share-prefix-list
+array-share-prefix-list c =
+    let c10 = c .before .before .before .before .before .before .before .before .before .before in
+    let c12 = c10 .before .before in
+    let c17 = c12 .before .before .before .before .before in
+    omega (
+      arith,
+      listed (c17),
+      record-passed _ _ _ _ _ (c12 .record-check .ensures)
+          (c10 .enum-told .given .1) .facts .counts .list,
+    )
 
-part-run-set-configuration-start : tie.Need-part-run-set-configuration-start
-part-run-set-configuration-start c = search needs
-
-part-run-set-configuration-end : tie.Need-part-run-set-configuration-end
-part-run-set-configuration-end c =
-    let f = record-passed _ _ _ _ _ (c .before .before .before .before .before .before .before .before .before .before .before .before .before .before .before .record-check .ensures) (c .before .before .before .before .before .before .before .before .before .before .before .before .before .enum-told .given .1) .facts .counts in
-    omega (arith, listed (c .before .before .before .before .before .before .before .before .before .before .before .before .before .before .before .before .before .before .before .before), f .list)
+slice-aggregate-run-set-configuration : tie.Need-slice-aggregate-run-set-configuration
+slice-aggregate-run-set-configuration c =
+    let c11 = c .before .before .before .before .before .before .before .before .before .before .before in
+    let c13 = c11 .before .before in
+    let c18 = c13 .before .before .before .before .before in
+    let s = c18 in sym (length-take-le (s .args .self .«list_len») (s .args .self .list) (omega (
+      arith,
+      listed s,
+      record-passed _ _ _ _ _ (c13 .record-check .ensures) (c11 .enum-told .given .1) .facts .counts .list,
+    )))
 
 run-set-configuration-requires : tie.Need-run-set-configuration-requires
 run-set-configuration-requires c κs =
-    let f = record-passed _ _ _ _ _ (c .before .before .before .before .before .before .before .before .before .before .before .before .before .before .before .before .record-check .ensures) (c .before .before .before .before .before .before .before .before .before .before .before .before .before .before .enum-told .given .1) in
-    let q = c .before .before .before .before .before .queues-of .ensures in
-    (room-as (c .before .before .before .before .before .before .before .before .before .before .before .before .before .before .before .before .before .before .before .before .before .args .self .spacing) _ (c .before .before .before .before .before .queues-of .result) (c .before .before .before .before .before .queues-of .result) _ _ (f .spaced) q q, (f .facts .counts .held, omega (arith, q .room, f .room)))
+    let c4 = c .before .before .before .before in
+    let c11 = c4 .before .before .before .before .before .before .before in
+    let c13 = c11 .before .before in
+    let c18 = c13 .before .before .before .before .before in
+    let f = record-passed _ _ _ _ _ (c13 .record-check .ensures) (c11 .enum-told .given .1) in let q =
+    c4 .queues-of .ensures in (
+      room-as (c18 .args .self .spacing) _ (c4 .queues-of .result) (c4 .queues-of .result) _ _
+          (f .spaced) q q,
+      (f .facts .counts .held, omega (arith, q .room, f .room)),
+    )
 
 configured-requires : tie.Need-configured-requires
 configured-requires c κs = search needs
@@ -75,13 +102,24 @@ same-length-3 c = search needs
 returns-2 : tie.Need-returns-2
 unfolding padded interfacesOf alternatesOf cellsIn
 returns-2 c =
-    let s = c .before .before .before .before .before .before .before .before .before .before .before .before .before .before .before .before .before .before .before .before .before .before .before .before .before .before .before .before .before .before .before in
-    set-left (s .args .self) (s .args .value) (c .before .before .before .before .before .before .before .before .before .before .before .before .before .before .before .before .before .before .before .before .before .before .before .before .before .before .record-check .result) (c .before .before .before .before .before .before .before .before .before .before .before .before .before .before .before .before .before .before .cells-of .result) (c .before .no-cells .result)
-    (c .before .before .before .before .before .before .before .before .before .before .before .before .before .before .before .queues-of .result) (s .args .outcomes .now) (s .args .ctx .now) (s .args .routes .now) (s .args .log .now) _ _ _
-    (c .before .before .before .before .before .before .before .before .before .run-set-configuration .result) (c .before .before .configured .result) (c .at-end .result) (c .before .before .before .before .before .before .before .before .before .before .before .before .before .before .before .before .before .before .before .before .before .before .before .before .before .before .record-check .ensures)
-    (c .before .before .before .before .before .before .before .before .before .before .before .before .before .before .before .before .before .before .before .before .before .before .before .before .enum-told .given .1) (c .before .before .before .before .before .before .before .before .before .before .before .before .before .before .before .before .before .before .cells-of .ensures) (c .before .before .before .before .before .before .before .before .before .before .before .before .before .before .before .queues-of .ensures)
-    (c .before .before .before .before .before .before .before .before .before .run-set-configuration .ensures) (c .before .before .configured .ensures) (c .before .no-cells .ensures)
-    (c .at-end .ensures [] (record { interfaces = refl; alternates = refl; count = refl; room = omega arith }))
+    let c9 = c .before .before .before .before .before .before .before .before .before in
+    let c14 = c9 .before .before .before .before .before in
+    let c17 = c14 .before .before .before in
+    let c21 = c17 .before .before .before .before in
+    let c23 = c21 .before .before in
+    let c28 = c23 .before .before .before .before .before in
+    let s = c28 in set-left (s .args .self) (s .args .value) (c23 .record-check .result) (c17 .cells-in .result)
+    (c .before .no-cells .result) (c14 .queues-of .result) (s .args .outcomes .now) (s .args .ctx .now)
+    (s .args .routes .now) (s .args .log .now) _ _ _ (c9 .run-set-configuration .result)
+    (c .before .before .configured .result) (c .at-end .result) (c23 .record-check .ensures) (c21 .enum-told .given .1)
+    (c17 .cells-in .ensures) (c14 .queues-of .ensures) (c9 .run-set-configuration .ensures)
+    (c .before .before .configured .ensures) (c .before .no-cells .ensures) (c .at-end .ensures [] (record {
+      interfaces =
+          refl;
+      alternates = refl;
+      count = refl;
+      room = omega arith;
+    }))
 
 pub set-configuration-spec : {M : Type 1} → statement M
-set-configuration-spec = tie.close (tie.spec record-check-requires enum-known-check returns enum-told cells-of-requires queues-of-requires sub-run-set-configuration part-run-set-configuration-start part-run-set-configuration-end run-set-configuration-requires configured-requires no-cells-requires at-end-requires same-length same-length-2 same-length-3 returns-2)
+set-configuration-spec = tie.close (tie.spec record-check-requires enum-known-check refused-requires returns enum-told cells-in-requires queues-of-requires array-share-prefix-list slice-aggregate-run-set-configuration run-set-configuration-requires configured-requires no-cells-requires at-end-requires same-length same-length-2 same-length-3 returns-2)

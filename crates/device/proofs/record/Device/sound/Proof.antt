@@ -19,7 +19,15 @@ counts-fit-requires c κs = search needs
 
 returns-2 : tie.Need-returns-2
 unfolding sound placeSound countsFit
-returns-2 c = rw (← c .before .before .before .place-sound .ensures, not-false (c .before .before .before .place-sound .result) (c .before .before .if1 .left), ← c .before .counts-fit .ensures, not-true (c .before .counts-fit .result) (c .if2 .taken))
+returns-2 c =
+    let c3 = c .before .before .before in
+    rw (
+      ← c3 .place-sound .ensures,
+      not-false (c3 .place-sound .result) (c .before .before .if1 .left),
+      ←
+          c .before .counts-fit .ensures,
+      not-true (c .before .counts-fit .result) (c .if2 .taken),
+    )
 
 lists-sound-requires : tie.Need-lists-sound-requires
 unfolding countsFit
@@ -27,15 +35,45 @@ lists-sound-requires c κs = let f = count-facts (c .before .before .before .bef
 
 returns-3 : tie.Need-returns-3
 unfolding sound placeSound countsFit listsSound listOf cellsIn heldOf
-returns-3 c = rw (← c .before .before .before .before .before .place-sound .ensures, not-false (c .before .before .before .before .before .place-sound .result) (c .before .before .before .before .if1 .left), ← c .before .before .before .counts-fit .ensures, not-false (c .before .before .before .counts-fit .result) (c .before .before .if2 .left), ← c .before .lists-sound .ensures, not-true (c .before .lists-sound .result) (c .if3 .taken))
+returns-3 c =
+    let c3 = c .before .before .before in
+    let c4 = c3 .before in
+    let c5 = c4 .before in
+    rw (
+      ← c5 .place-sound .ensures,
+      not-false (c5 .place-sound .result) (c4 .if1 .left),
+      ← c3 .counts-fit .ensures,
+      not-false (c3 .counts-fit .result) (c .before .before .if2 .left),
+      ← c .before .lists-sound .ensures,
+      not-true
+          (c .before .lists-sound .result) (c .if3 .taken),
+    )
 
 rings-sound-requires : tie.Need-rings-sound-requires
 unfolding countsFit
-rings-sound-requires c κs = let f = count-facts (c .before .before .before .before .before .before .before .before .before .before .before .before .args .self) (sym (c .before .before .before .counts-fit .ensures) ∙ not-false _ (c .before .before .if2 .left)) in (f .endpoints, f .quarantined)
+rings-sound-requires c κs =
+    let c3 = c .before .before .before in
+    let c12 = c3 .before .before .before .before .before .before .before .before .before in
+    let f = count-facts (c12 .args .self) (sym (c3 .counts-fit .ensures) ∙ not-false _ (c .before .before .if2 .left)) in
+    (f .endpoints, f .quarantined)
 
 returns-4 : tie.Need-returns-4
 unfolding sound placeSound countsFit listsSound listOf cellsIn heldOf ringsSound allRings quarantinedOf
-returns-4 c = rw (← c .before .before .before .before .before .before .place-sound .ensures, not-false (c .before .before .before .before .before .before .place-sound .result) (c .before .before .before .before .before .if1 .left), ← c .before .before .before .before .counts-fit .ensures, not-false (c .before .before .before .before .counts-fit .result) (c .before .before .before .if2 .left), ← c .before .before .lists-sound .ensures, not-false (c .before .before .lists-sound .result) (c .before .if3 .left), c .rings-sound .ensures)
+returns-4 c =
+    let c3 = c .before .before .before in
+    let c4 = c3 .before in
+    let c5 = c4 .before in
+    let c6 = c5 .before in
+    rw (
+      ← c6 .place-sound .ensures,
+      not-false (c6 .place-sound .result) (c5 .if1 .left),
+      ← c4 .counts-fit .ensures,
+      not-false (c4 .counts-fit .result) (c3 .if2 .left),
+      ← c .before .before .lists-sound .ensures,
+      not-false
+          (c .before .before .lists-sound .result) (c .before .if3 .left),
+      c .rings-sound .ensures,
+    )
 
 pub sound-spec : {M : Type 1} → statement M
 sound-spec =
