@@ -6,11 +6,34 @@ use bring_up::BringUpArgs;
 use def::SlotId;
 ghost use lib.Dec.{eqb};
 ghost use lib.ListN.{length};
+ghost use Rattle.init.specs.Reading.{bringUpOf};
 ghost use Rattle.bring_up.specs.BringUp.{bringUp};
 ghost use Rattle.image.specs.Image.{WORDS, isSet};
 ghost use Rattle.xhci_device.specs.Crossed.{crosses, CrossedAs};
 
 // The image may hold anything; it gets the new record.
+fn bring_up_into(
+    image: &mut [u64],
+    ctx: &mut [u8],
+    routes: &mut [u64],
+    log: &mut [u32],
+    outcomes: &[u8],
+    a: BringUpArgs,
+    hubs: &[u64],
+    list: &[u32],
+) -> Answered
+    ensures { λ r. ⌜ CrossedAs (crosses r (now (image .exit)) (now (ctx .exit)) (now (routes .exit)) (now (log .exit))) (eqb (length (now (image .entry))) WORDS) (bringUp (bringUpOf a (now (hubs .entry)) (now (list .entry))) (now (ctx .entry)) (now (routes .entry)) (now (log .entry)) (now (outcomes .entry))) (now (image .entry)) (now (ctx .entry)) (now (routes .entry)) (now (log .entry)) ⌝ }
+{
+    if image.len() != 514 {
+        return returned::answer_of(Answer::Unusable, 0);
+    }
+    let called = bring_up::bring_up(ctx, routes, log, outcomes, a, hubs, list);
+    let d = called.device;
+    let answer = called.answer;
+    image::encode(d, image);
+    returned::answer_of(answer, called.count)
+}
+
 #[no_mangle]
 pub extern "C" fn xhci_device_bring_up(
     image: &mut [u64],
@@ -34,9 +57,6 @@ pub extern "C" fn xhci_device_bring_up(
 ) -> Answered
     ensures { λ r. ⌜ CrossedAs (crosses r (now (image .exit)) (now (ctx .exit)) (now (routes .exit)) (now (log .exit))) (eqb (length (now (image .entry))) WORDS) (bringUp (record { slot = slot; n = n; speed = speed; hubs = now (hubs .entry); hasParent = isSet «has_parent»; parent = parent; port = port; rootPort = «root_port»; ring = ring; header = header; packet = packet; value = value; list = now (list .entry) }) (now (ctx .entry)) (now (routes .entry)) (now (log .entry)) (now (outcomes .entry))) (now (image .entry)) (now (ctx .entry)) (now (routes .entry)) (now (log .entry)) ⌝ }
 {
-    if image.len() != 514 {
-        return returned::answer_of(Answer::Unusable, 0);
-    }
     let a = BringUpArgs {
         slot: SlotId(slot),
         n: n,
@@ -50,9 +70,5 @@ pub extern "C" fn xhci_device_bring_up(
         packet: packet,
         value: value,
     };
-    let called = bring_up::bring_up(ctx, routes, log, outcomes, a, hubs, list);
-    let d = called.device;
-    let answer = called.answer;
-    image::encode(d, image);
-    returned::answer_of(answer, called.count)
+    bring_up_into(image, ctx, routes, log, outcomes, a, hubs, list)
 }

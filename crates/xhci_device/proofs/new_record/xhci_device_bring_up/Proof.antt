@@ -1,23 +1,10 @@
 use Rattle.image.specs.Image.{isSet}
-use Rattle.xhci_device.proofs.Steps.{made-none, made}
 use borrow.Author.Needs.{needs}
 use Rattle.xhci_device.proofs.new_record.xhci_device_bring_up.Statement.{statement}
 use Rattle.xhci_device.proofs.new_record.xhci_device_bring_up.Tie as tie
 
-answer-of-requires : tie.Need-answer-of-requires
-answer-of-requires c κs = search needs
-
-returns : tie.Need-returns
-returns c = made-none _ _ _ _ _ _ (c .before .if1 .taken) (c .answer-of .ensures)
-
-bring-up-requires : tie.Need-bring-up-requires
-bring-up-requires c κs = search needs
-
-encode-requires : tie.Need-encode-requires
-encode-requires c κs = search needs
-
-answer-of-requires-2 : tie.Need-answer-of-requires-2
-answer-of-requires-2 c κs = search needs
+bring-up-into-requires : tie.Need-bring-up-into-requires
+bring-up-into-requires c κs = search needs
 
 same-length : tie.Need-same-length
 same-length c = search needs
@@ -31,26 +18,11 @@ same-length-3 c = search needs
 same-length-4 : tie.Need-same-length-4
 same-length-4 c = search needs
 
-returns-2 : tie.Need-returns-2
+returns : tie.Need-returns
 unfolding isSet
-returns-2 c =
-    let written = c .before .before .before in
-    let called = written .before .before .before .before .before .before .before .before .before in
-    let test = called .before .before .before .before in
-    made _ _ _ _ _ (called .bring-up .result) _ _ _ _ _ (test .if1 .left) (called .bring-up .ensures)
-    (c .answer-of2 .ensures) (written .encode .ensures)
+returns c = c .before .before .before .before .before .before .before .before .bring-up-into .ensures
 
 pub xhci-device-bring-up-spec : {M : Type 1} → statement M
 xhci-device-bring-up-spec =
     tie.close
-    (tie.spec
-    answer-of-requires
-    returns
-    bring-up-requires
-    encode-requires
-    answer-of-requires-2
-    same-length
-    same-length-2
-    same-length-3
-    same-length-4
-    returns-2)
+    (tie.spec bring-up-into-requires same-length same-length-2 same-length-3 same-length-4 returns)
