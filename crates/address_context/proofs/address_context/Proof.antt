@@ -81,7 +81,25 @@ same-length c = search needs
 
 returns : tie.Need-returns Inv-loop μ-loop
 unfolding addressContext addressWrites onPart settled inside allInside
-returns c = rw (written-append, written-append, control-written (c .before .before .before .before .before .before .before .before .before .before .before .before .before .before .before .args .spacing) _ (replicate (length (c .before .before .before .before .before .before .before .before .before .before .before .before .before .before .before .args .ctx .now)) 0) (simp length-replicate (omega arith)) refl, written-slot, written-block, c .before .before .address-endpoint .ensures, c .before .before .before .before .before .before .address-slot .ensures, c .before .before .before .before .before .before .before .before .before .before .put-field .ensures, cleared (c .before .before .before .before .before .before .before .before .before .before .before .before), add-sub-cancel-left, add-sub-cancel-left)
+returns c =
+    let c6 = c .before .before .before .before .before .before in
+    let c10 = c6 .before .before .before .before in
+    let c12 = c10 .before .before in
+    let c15 = c12 .before .before .before in
+    rw (
+      written-append,
+      written-append,
+      control-written (c15 .args .spacing) _ (replicate (length (c15 .args .ctx .now)) 0)
+          (simp length-replicate (omega arith)) refl,
+      written-slot,
+      written-block,
+      c .before .before .address-endpoint .ensures,
+      c6 .address-slot .ensures,
+      c10 .put-field .ensures,
+      cleared (c12),
+      add-sub-cancel-left,
+      add-sub-cancel-left,
+    )
 
 pub address-context-spec : {M : Type 1} → statement M
 address-context-spec =

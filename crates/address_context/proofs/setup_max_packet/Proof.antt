@@ -46,7 +46,21 @@ same-length c = search needs
 
 returns : tie.Need-returns
 unfolding maxPacketWrites onPart changed settled inside allInside
-returns c = rw (written-append, control-written (c .before .before .before .before .before .before .before .before .before .before .before .before .before .before .args .spacing) _ (c .before .before .before .before .before .before .before .before .before .before .before .before .before .before .args .ctx .now) (omega arith) refl, written-block, c .before .before .put-field2 .ensures, c .before .before .before .before .before .before .before .put-field .ensures, c .before .before .before .before .before .before .before .before .before .before .before .perper-change .ensures, c .before .before .before .before .header-packet-size .ensures, add-sub-cancel-left)
+returns c =
+    let c4 = c .before .before .before .before in
+    let c7 = c4 .before .before .before in
+    let c11 = c7 .before .before .before .before in
+    let c14 = c11 .before .before .before in
+    rw (
+      written-append,
+      control-written (c14 .args .spacing) _ (c14 .args .ctx .now) (omega arith) refl,
+      written-block,
+      c .before .before .put-field2 .ensures,
+      c7 .put-field .ensures,
+      c11 .perper-change .ensures,
+      c4 .header-packet-size .ensures,
+      add-sub-cancel-left,
+    )
 
 pub setup-max-packet-spec : {M : Type 1} → statement M
 setup-max-packet-spec =

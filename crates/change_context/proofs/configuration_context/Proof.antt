@@ -18,7 +18,14 @@ same-length c = search needs
 
 returns : tie.Need-returns
 unfolding configurationWrites changed settled inside allInside
-returns c = λ spacing. rw (control-written spacing _ (c .before .before .before .before .before .before .before .before .before .args .ctx .now) (c .before .before .before .before .before .before .before .before .before .pre) refl, c .before .before .put-field .ensures, c .before .before .before .before .before .before .perper-change .ensures)
+returns c =
+    let c6 = c .before .before .before .before .before .before in
+    let c9 = c6 .before .before .before in
+    λ spacing. rw (
+      control-written spacing _ (c9 .args .ctx .now) (c9 .pre) refl,
+      c .before .before .put-field .ensures,
+      c6 .perper-change .ensures,
+    )
 
 pub configuration-context-spec : {M : Type 1} → statement M
 configuration-context-spec =

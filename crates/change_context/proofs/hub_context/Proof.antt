@@ -34,7 +34,17 @@ same-length c = search needs
 
 returns : tie.Need-returns
 unfolding hubWrites onPart changed inside allInside
-returns c = rw (written-append, control-written (c .before .before .before .before .before .before .before .before .before .args .spacing) changed (c .before .before .before .before .before .before .before .before .before .args .ctx .now) (omega arith) refl, written-slot, c .before .before .hub-slot .ensures, c .before .before .before .before .before .before .perper-change .ensures, add-sub-cancel-left)
+returns c =
+    let c6 = c .before .before .before .before .before .before in
+    let c9 = c6 .before .before .before in
+    rw (
+      written-append,
+      control-written (c9 .args .spacing) changed (c9 .args .ctx .now) (omega arith) refl,
+      written-slot,
+      c .before .before .hub-slot .ensures,
+      c6 .perper-change .ensures,
+      add-sub-cancel-left,
+    )
 
 pub hub-context-spec : {M : Type 1} → statement M
 hub-context-spec =

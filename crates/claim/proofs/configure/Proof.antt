@@ -107,7 +107,12 @@ same-length-3 c = search needs
 
 returns : tie.Need-returns
 returns c =
-    done _ _ _ _ _ _ _ _ _ _ _ (configured _ _ _ _ _ _ _ _ _ _ _ (c .before .before .before .before .before .before .before .before .before .before .before .before .before .before .before .before .before .before .prepare-configure .ensures) (c .before .before .before .before .before .before .before .before .before .before .before .before .before .before .send .ensures .0) (c .before .before .before .before .before .before .before .before .before .before .before .before .before .before .send .ensures .1)) (c .before .before .before .before .before .before .before .before .before .before .enum-told .given .1) (c .before .before .before .before .before .before .switch .ensures)
+    let c6 = c .before .before .before .before .before .before in
+    let c10 = c6 .before .before .before .before in
+    let c14 = c10 .before .before .before .before in
+    let c18 = c14 .before .before .before .before in
+    done _ _ _ _ _ _ _ _ _ _ _ (configured _ _ _ _ _ _ _ _ _ _ _ (c18 .prepare-configure .ensures) (c14 .send .ensures .0)
+    (c14 .send .ensures .1)) (c10 .enum-told .given .1) (c6 .switch .ensures)
 
 same-length-4 : tie.Need-same-length-4
 same-length-4 c = search needs
@@ -117,7 +122,13 @@ same-length-5 c = search needs
 
 returns-2 : tie.Need-returns-2
 returns-2 c =
-    failed _ _ _ _ _ _ _ _ _ _ _ _ _ _ _ _ (configured _ _ _ _ _ _ _ _ _ _ _ (c .before .before .before .before .before .before .before .before .before .before .before .before .before .before .before .before .prepare-configure .ensures) (c .before .before .before .before .before .before .before .before .before .before .before .before .send .ensures .0) (c .before .before .before .before .before .before .before .before .before .before .before .before .send .ensures .1)) (c .before .before .before .before .before .before .before .before .s .given .1) (c .before .before .before .before .before .resume-queues .ensures _) (c .before .before .or-code .ensures) (c .before .answer-of .ensures) (c .stays .ensures)
+    let c5 = c .before .before .before .before .before in
+    let c8 = c5 .before .before .before in
+    let c12 = c8 .before .before .before .before in
+    let c16 = c12 .before .before .before .before in
+    failed _ _ _ _ _ _ _ _ _ _ _ _ _ _ _ _ (configured _ _ _ _ _ _ _ _ _ _ _ (c16 .prepare-configure .ensures)
+    (c12 .send .ensures .0) (c12 .send .ensures .1)) (c8 .s .given .1) (c5 .resume-queues .ensures _)
+    (c .before .before .or-code .ensures) (c .before .answer-of .ensures) (c .stays .ensures)
 
 same-length-6 : tie.Need-same-length-6
 same-length-6 c = search needs
@@ -127,7 +138,10 @@ same-length-7 c = search needs
 
 returns-3 : tie.Need-returns-3
 returns-3 c =
-    cut _ _ _ _ _ _ _ _ _ _ _ (configured _ _ _ _ _ _ _ _ _ _ _ (c .before .before .before .before .before .before .before .before .before .prepare-configure .ensures) (c .before .before .before .before .before .send .ensures .0) (c .before .before .before .before .before .send .ensures .1)) (c .before .enum-told2 .given .1) (c .stays2 .ensures)
+    let c5 = c .before .before .before .before .before in
+    let c9 = c5 .before .before .before .before in
+    cut _ _ _ _ _ _ _ _ _ _ _ (configured _ _ _ _ _ _ _ _ _ _ _ (c9 .prepare-configure .ensures) (c5 .send .ensures .0)
+    (c5 .send .ensures .1)) (c .before .enum-told2 .given .1) (c .stays2 .ensures)
 
 pub configure-spec : {M : Type 1} → statement M
 configure-spec =

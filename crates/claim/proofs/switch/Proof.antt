@@ -70,7 +70,10 @@ same-length-2 c = search needs
 
 returns : tie.Need-returns
 returns c =
-    done _ _ _ _ _ _ _ _ _ _ (c .before .before .before .before .before .before .before .before .send .ensures .0) (c .before .before .before .before .before .before .before .before .send .ensures .1) (c .before .before .before .before .enum-told .given .1) (c .before .before .publish .ensures _ _ _ _ _)
+    let c4 = c .before .before .before .before in
+    let c8 = c4 .before .before .before .before in
+    done _ _ _ _ _ _ _ _ _ _ (c8 .send .ensures .0) (c8 .send .ensures .1) (c4 .enum-told .given .1)
+    (c .before .before .publish .ensures _ _ _ _ _)
 
 same-length-3 : tie.Need-same-length-3
 same-length-3 c = search needs
@@ -80,7 +83,10 @@ same-length-4 c = search needs
 
 returns-2 : tie.Need-returns-2
 returns-2 c =
-    failed _ _ _ _ _ _ _ _ _ _ (c .before .before .before .before .before .before .before .before .before .before .before .before .send .ensures .0) (c .before .before .before .before .before .before .before .before .before .before .before .before .send .ensures .1) _ (c .before .before .before .before .before .before .before .before .s .given .1) (c .before .before .before .before .undo .ensures _)
+    let c4 = c .before .before .before .before in
+    let c8 = c4 .before .before .before .before in
+    let c12 = c8 .before .before .before .before in
+    failed _ _ _ _ _ _ _ _ _ _ (c12 .send .ensures .0) (c12 .send .ensures .1) _ (c8 .s .given .1) (c4 .undo .ensures _)
 
 same-length-5 : tie.Need-same-length-5
 same-length-5 c = search needs

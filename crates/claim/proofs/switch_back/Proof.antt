@@ -44,7 +44,20 @@ same-length c = search needs
 returns-2 : tie.Need-returns-2
 unfolding claimUndone claimSwitchBack onSent
 returns-2 c =
-    λ old new ctx routes. rw (not-false (c .before .before .before .before .before .before .before .before .before .before .before .args .a .held) (c .before .before .before .before .before .before .before .if1 .left), played-sends, ← c .before .before .before .before .before .send .ensures .1, ← c .before .before .before .before .before .send .ensures .0, c .before .enum-told .given .1, played-ends, c .before .before .before .before .before .before .before .before .before .before .before .pre .0, c .stays2 .ensures)
+    let c5 = c .before .before .before .before .before in
+    let c7 = c5 .before .before in
+    let c11 = c7 .before .before .before .before in
+    λ old new ctx routes. rw (
+      not-false (c11 .args .a .held) (c7 .if1 .left),
+      played-sends,
+      ← c5 .send .ensures .1,
+      ←
+          c5 .send .ensures .0,
+      c .before .enum-told .given .1,
+      played-ends,
+      c11 .pre .0,
+      c .stays2 .ensures,
+    )
 
 same-length-2 : tie.Need-same-length-2
 same-length-2 c = search needs
@@ -52,7 +65,19 @@ same-length-2 c = search needs
 returns-3 : tie.Need-returns-3
 unfolding claimUndone claimSwitchBack onSent
 returns-3 c =
-    λ old new ctx routes. rw (not-false (c .before .before .before .before .before .before .before .before .before .before .before .args .a .held) (c .before .before .before .before .before .before .before .if1 .left), played-sends, ← c .before .before .before .before .before .send .ensures .1, ← c .before .before .before .before .before .send .ensures .0, c .before .enum-told2 .given .1, played-ends, c .stays3 .ensures)
+    let c5 = c .before .before .before .before .before in
+    let c7 = c5 .before .before in
+    let c11 = c7 .before .before .before .before in
+    λ old new ctx routes. rw (
+      not-false (c11 .args .a .held) (c7 .if1 .left),
+      played-sends,
+      ← c5 .send .ensures .1,
+      ←
+          c5 .send .ensures .0,
+      c .before .enum-told2 .given .1,
+      played-ends,
+      c .stays3 .ensures,
+    )
 
 same-length-3 : tie.Need-same-length-3
 same-length-3 c = search needs
@@ -60,7 +85,19 @@ same-length-3 c = search needs
 returns-4 : tie.Need-returns-4
 unfolding claimUndone claimSwitchBack onSent
 returns-4 c =
-    λ old new ctx routes. rw (not-false (c .before .before .before .before .before .before .before .before .before .before .before .args .a .held) (c .before .before .before .before .before .before .before .if1 .left), played-sends, ← c .before .before .before .before .before .send .ensures .1, ← c .before .before .before .before .before .send .ensures .0, c .before .enum-told3 .given .1, played-ends, c .stays4 .ensures)
+    let c5 = c .before .before .before .before .before in
+    let c7 = c5 .before .before in
+    let c11 = c7 .before .before .before .before in
+    λ old new ctx routes. rw (
+      not-false (c11 .args .a .held) (c7 .if1 .left),
+      played-sends,
+      ← c5 .send .ensures .1,
+      ←
+          c5 .send .ensures .0,
+      c .before .enum-told3 .given .1,
+      played-ends,
+      c .stays4 .ensures,
+    )
 
 pub switch-back-spec : {M : Type 1} → statement M
 switch-back-spec =

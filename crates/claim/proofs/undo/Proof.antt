@@ -95,7 +95,13 @@ same-length-2 c = search needs
 
 returns : tie.Need-returns
 returns c =
-    λ routes. done _ _ _ _ _ _ _ _ _ _ _ _ _ (configured _ _ _ _ _ _ _ _ _ _ _ _ _ (rolled (c .before .before .before .before .before .before .before .before .before .before .before .before .before .before)) (c .before .before .before .before .before .before .before .before .before .before .before .before .prepare-configure .ensures) (c .before .before .before .before .before .before .before .before .send .ensures .0) (c .before .before .before .before .before .before .before .before .send .ensures .1)) (c .before .before .before .before .enum-told .given .1) (c .before .before .switch-back .ensures _ _ _ _)
+    let c4 = c .before .before .before .before in
+    let c8 = c4 .before .before .before .before in
+    let c12 = c8 .before .before .before .before in
+    let c14 = c12 .before .before in
+    λ routes. done _ _ _ _ _ _ _ _ _ _ _ _ _ (configured _ _ _ _ _ _ _ _ _ _ _ _ _ (rolled (c14))
+    (c12 .prepare-configure .ensures) (c8 .send .ensures .0) (c8 .send .ensures .1)) (c4 .enum-told .given .1)
+    (c .before .before .switch-back .ensures _ _ _ _)
 
 same-length-3 : tie.Need-same-length-3
 same-length-3 c = search needs
@@ -105,7 +111,12 @@ same-length-4 c = search needs
 
 returns-2 : tie.Need-returns-2
 returns-2 c =
-    λ routes. failed _ _ _ _ _ _ _ _ _ _ _ _ _ _ (configured _ _ _ _ _ _ _ _ _ _ _ _ _ (rolled (c .before .before .before .before .before .before .before .before .before .before .before)) (c .before .before .before .before .before .before .before .before .before .prepare-configure .ensures) (c .before .before .before .before .before .send .ensures .0) (c .before .before .before .before .before .send .ensures .1)) (c .before .enum-told2 .given .1) (c .stays .ensures)
+    let c5 = c .before .before .before .before .before in
+    let c9 = c5 .before .before .before .before in
+    let c11 = c9 .before .before in
+    λ routes. failed _ _ _ _ _ _ _ _ _ _ _ _ _ _ (configured _ _ _ _ _ _ _ _ _ _ _ _ _ (rolled (c11))
+    (c9 .prepare-configure .ensures) (c5 .send .ensures .0) (c5 .send .ensures .1)) (c .before .enum-told2 .given .1)
+    (c .stays .ensures)
 
 same-length-5 : tie.Need-same-length-5
 same-length-5 c = search needs
@@ -115,7 +126,12 @@ same-length-6 c = search needs
 
 returns-3 : tie.Need-returns-3
 returns-3 c =
-    λ routes. cut _ _ _ _ _ _ _ _ _ _ _ _ _ (configured _ _ _ _ _ _ _ _ _ _ _ _ _ (rolled (c .before .before .before .before .before .before .before .before .before .before .before)) (c .before .before .before .before .before .before .before .before .before .prepare-configure .ensures) (c .before .before .before .before .before .send .ensures .0) (c .before .before .before .before .before .send .ensures .1)) (c .before .enum-told3 .given .1) (c .stays2 .ensures)
+    let c5 = c .before .before .before .before .before in
+    let c9 = c5 .before .before .before .before in
+    let c11 = c9 .before .before in
+    λ routes. cut _ _ _ _ _ _ _ _ _ _ _ _ _ (configured _ _ _ _ _ _ _ _ _ _ _ _ _ (rolled (c11))
+    (c9 .prepare-configure .ensures) (c5 .send .ensures .0) (c5 .send .ensures .1)) (c .before .enum-told3 .given .1)
+    (c .stays2 .ensures)
 
 pub undo-spec : {M : Type 1} → statement M
 undo-spec =

@@ -42,13 +42,34 @@ endpoint-run-requires : tie.Need-endpoint-run-requires Inv-loop μ-loop
 endpoint-run-requires c κs = search needs
 
 returns : tie.Need-returns Inv-loop μ-loop
-returns c = let a = c .before .before .before .before .before .before .before .before .before .before .before .args in sym (c .before .before .before .before .before .before .before .before .before .loop .inv .1 ∙ find-stop (a .interface) (a .alternate) (c .before .before .before .before .before .before .before .before .before .loop .start) (a .list .now) (c .before .before .before .before .before .before .before .before .loop-test .taken) (c .before .before .before .before .before .before .word-kind .result) (c .before .before .before .before .before .before .word-kind .ensures) (c .before .before .before .before .before .if1 .taken) (ap (λ (x : ℕ). eqb x (a .interface)) (sym (c .before .before .before .before .interface-number .ensures)) ∙ c .before .before .before .if2 .taken) (ap (λ (x : ℕ). eqb x (a .alternate)) (sym (c .before .before .alternate-setting .ensures)) ∙ c .before .if3 .taken) ∙ rw (c .endpoint-run .ensures))
+returns c =
+    let c3 = c .before .before .before in
+    let c4 = c3 .before in
+    let c5 = c4 .before in
+    let c6 = c5 .before in
+    let c8 = c6 .before .before in
+    let c9 = c8 .before in
+    let c11 = c9 .before .before in
+    let a = c11 .args in sym (c9 .loop .inv .1 ∙ find-stop (a .interface) (a .alternate) (c9 .loop .start) (a .list .now)
+    (c8 .loop-test .taken) (c6 .word-kind .result) (c6 .word-kind .ensures) (c5 .if1 .taken) (ap (λ (x : ℕ). eqb x
+    (a .interface)) (sym (c4 .interface-number .ensures)) ∙ c3 .if2 .taken) (ap (λ (x : ℕ). eqb x (a .alternate)) (sym
+    (c .before .before .alternate-setting .ensures)) ∙ c .before .if3 .taken) ∙ rw (c .endpoint-run .ensures))
 
 loop-less : tie.Need-loop-less Inv-loop μ-loop
 loop-less c = search needs
 
 loop-again : tie.Need-loop-again Inv-loop μ-loop
-loop-again c = let a = c .before .before .before .before .before .before .args in (search needs, c .before .before .before .before .loop .inv .1 ∙ find-go (a .interface) (a .alternate) (c .before .before .before .before .loop .start) (a .list .now) (c .before .before .before .loop-test .taken) (c .before .word-kind .result) (c .before .word-kind .ensures) (⊎-elim (λ w. inl (ap (λ (x : ℕ). eqb x (a .alternate)) (sym (w .3 .ensures)) ∙ w .4 .left)) (⊎-elim (λ w. inr (inl (ap (λ (x : ℕ). eqb x (a .interface)) (sym (w .1 .ensures)) ∙ w .2 .left))) (λ w. inr (inr (w .left)))) (c .if1 .came)))
+loop-again c =
+    let c3 = c .before .before .before in
+    let c4 = c3 .before in
+    let c6 = c4 .before .before in
+    let a = c6 .args in (
+      search needs,
+      c4 .loop .inv .1 ∙ find-go (a .interface) (a .alternate) (c4 .loop .start)
+          (a .list .now) (c3 .loop-test .taken) (c .before .word-kind .result) (c .before .word-kind .ensures) (⊎-elim (λ w. inl
+          (ap (λ (x : ℕ). eqb x (a .alternate)) (sym (w .3 .ensures)) ∙ w .4 .left)) (⊎-elim (λ w. inr (inl (ap (λ (x : ℕ). eqb x
+          (a .interface)) (sym (w .1 .ensures)) ∙ w .2 .left))) (λ w. inr (inr (w .left)))) (c .if1 .came)),
+    )
 
 returns-2 : tie.Need-returns-2 Inv-loop μ-loop
 unfolding findFrom

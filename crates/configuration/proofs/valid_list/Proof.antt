@@ -28,7 +28,17 @@ words-fit-requires : tie.Need-words-fit-requires
 words-fit-requires c κs = search needs
 
 returns-4 : tie.Need-returns-4
-returns-4 c = c .words-fit .ensures ∙ sym (valid-rest (c .before .before .before .before .before .before .before .before .before .args .list .now) (c .before .before .before .before .before .before .before .if1 .left) (c .before .before .before .before .word-kind .result) (c .before .before .before .before .word-kind .ensures) (c .before .before .before .if3 .left) (c .before .before .before .before .before .before .if2 .left) (omega (arith, c .before .before .count-configurations .ensures)))
+returns-4 c =
+    let c3 = c .before .before .before in
+    let c4 = c3 .before in
+    let c6 = c4 .before .before in
+    let c7 = c6 .before in
+    let c9 = c7 .before .before in
+    c .words-fit .ensures ∙ sym (valid-rest (c9 .args .list .now) (c7 .if1 .left) (c4 .word-kind .result)
+    (c4 .word-kind .ensures) (c3 .if3 .left) (c6 .if2 .left) (omega (
+      arith,
+      c .before .before .count-configurations .ensures,
+    )))
 
 pub valid-list-spec : {M : Type 1} → statement M
 valid-list-spec =

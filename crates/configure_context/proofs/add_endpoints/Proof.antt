@@ -28,17 +28,25 @@ dci-is :
     (c .endpoint-address-dci .result .0 ≡ wordDci (getD (c .before .before .before .before .before .before .before .before .before .args .words .now) (c .before .before .before .before .loop .i) 0))
     × (c .endpoint-address-dci .result .0 < 32)
 unfolding wordDci
-dci-is c = (
-  c .endpoint-address-dci .ensures ∙ rw (c .before .endpoint-descriptor .ensures),
-  rw (c .endpoint-address-dci .ensures, c .before .endpoint-descriptor .ensures)
-      (dci-small _ (fields-fit (getD (c .before .before .before .before .before .before .before .before .before .args .words .now) (c .before .before .before .before .loop .i) 0) .address)),
-)
+dci-is c =
+    let c4 = c .before .before .before .before in
+    let c9 = c4 .before .before .before .before .before in (
+      c .endpoint-address-dci .ensures ∙ rw (c .before .endpoint-descriptor .ensures),
+      rw (
+        c .endpoint-address-dci .ensures,
+        c .before .endpoint-descriptor .ensures,
+      ) (dci-small _ (fields-fit (getD (c9 .args .words .now) (c4 .loop .i)
+          0) .address)),
+    )
 
 -- Its block lies in the context.
 room :
     (c : tie.After-endpoint-address-dci Inv-loop μ-loop) →
     c .before .before .before .before .before .before .before .before .before .args .spacing * (c .endpoint-address-dci .result .0 + 1) + 32 ≤ length (c .before .before .before .before .before .before .before .before .before .args .ctx .now)
-room c = block-room (c .before .before .before .before .before .before .before .before .before .args .spacing) (c .endpoint-address-dci .result .0 + 1) (length (c .before .before .before .before .before .before .before .before .before .args .ctx .now)) (c .before .before .before .before .before .before .before .before .before .pre) (omega (arith, dci-is c .1))
+room c =
+    let c9 = c .before .before .before .before .before .before .before .before .before in
+    block-room (c9 .args .spacing) (c .endpoint-address-dci .result .0 + 1) (length (c9 .args .ctx .now)) (c9 .pre) (omega
+    (arith, dci-is c .1))
 
 loop-holds : tie.Need-loop-holds Inv-loop μ-loop
 loop-holds c = search needs
@@ -63,7 +71,11 @@ cast-low : tie.Need-cast-low Inv-loop μ-loop
 cast-low c = search needs
 
 put-field-requires : tie.Need-put-field-requires Inv-loop μ-loop
-put-field-requires c κs = (omega (arith, c .before .before .before .before .before .before .before .loop .inv .1, c .before .before .before .before .before .before .before .before .before .before .before .before .pre), (search needs, omega (arith, dci-is (c .before .before .before) .1)))
+put-field-requires c κs =
+    let c3 = c .before .before .before in
+    let c7 = c3 .before .before .before .before in
+    let c12 = c7 .before .before .before .before .before in
+    (omega (arith, c7 .loop .inv .1, c12 .pre), (search needs, omega (arith, dci-is (c3) .1)))
 
 add-start : tie.Need-add-start Inv-loop μ-loop
 add-start c = search needs
@@ -94,7 +106,21 @@ loop-less c = search needs
 
 loop-again : tie.Need-loop-again Inv-loop μ-loop
 unfolding onPart
-loop-again c = (search needs, search needs, c .before .before .before .before .before .before .before .before .before .before .before .before .before .before .loop .inv .2 ∙ add-next _ _ _ _ _ _ _ (c .before .before .before .before .before .before .before .before .before .before .before .before .before .loop-test .taken) (rw (c .before .before .put-endpoint .ensures, c .before .before .before .before .before .before .before .before .before .before .before .endpoint-descriptor .ensures, add-sub-cancel-left) (word-added _ _ _ _ _ _ _ _ (omega (arith, c .before .before .before .before .before .before .before .before .before .before .before .before .before .before .loop .inv .1, c .before .before .before .before .before .before .before .before .before .before .before .before .before .before .before .before .before .before .before .pre)) (dci-is (c .before .before .before .before .before .before .before .before .before .before) .0) (dci-is (c .before .before .before .before .before .before .before .before .before .before) .1) (c .before .before .before .before .before .before .before .before .before .ring-of .ensures) (c .before .before .before .before .before .before .put-field .ensures))))
+loop-again c =
+    let c6 = c .before .before .before .before .before .before in
+    let c9 = c6 .before .before .before in
+    let c10 = c9 .before in
+    let c11 = c10 .before in
+    let c13 = c11 .before .before in
+    let c14 = c13 .before in
+    let c19 = c14 .before .before .before .before .before in (
+      search needs,
+      search needs,
+      c14 .loop .inv .2 ∙ add-next _ _ _ _ _ _ _ (c13 .loop-test .taken) (rw
+          (c .before .before .put-endpoint .ensures, c11 .endpoint-descriptor .ensures, add-sub-cancel-left) (word-added _ _ _ _ _
+          _ _ _ (omega (arith, c14 .loop .inv .1, c19 .pre)) (dci-is (c10) .0) (dci-is (c10) .1) (c9 .ring-of .ensures)
+          (c6 .put-field .ensures))),
+    )
 
 same-length : tie.Need-same-length Inv-loop μ-loop
 same-length c = search needs

@@ -20,7 +20,16 @@ same-length c = search needs
 
 returns : tie.Need-returns
 unfolding changed settled inside allInside
-returns c = λ spacing. rw (control-written spacing _ (c .before .before .before .before .before .before .before .before .before .before .before .before .before .args .ctx .now) (c .before .before .before .before .before .before .before .before .before .before .before .before .before .pre) refl, c .before .before .put-field2 .ensures, c .before .before .before .before .before .before .put-field .ensures, c .before .before .before .before .before .before .before .before .before .before .perper-change .ensures)
+returns c =
+    let c6 = c .before .before .before .before .before .before in
+    let c10 = c6 .before .before .before .before in
+    let c13 = c10 .before .before .before in
+    λ spacing. rw (
+      control-written spacing _ (c13 .args .ctx .now) (c13 .pre) refl,
+      c .before .before .put-field2 .ensures,
+      c6 .put-field .ensures,
+      c10 .perper-change .ensures,
+    )
 
 pub begin-configure-spec : {M : Type 1} → statement M
 begin-configure-spec =

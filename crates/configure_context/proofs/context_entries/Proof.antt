@@ -37,20 +37,54 @@ loop-less : tie.Need-loop-less Inv-loop μ-loop
 loop-less c = search needs
 
 loop-again : tie.Need-loop-again Inv-loop μ-loop
-loop-again c = (search needs, omega arith, omega arith, c .before .before .before .before .before .loop .inv .3 ∙ highest-next (wordDcis (c .before .before .before .before .before .before .before .before .before .args .words .now)) (c .before .before .before .before .before .loop .i) (c .before .before .before .before .before .loop .highest) (c .before .before .word-dci .result .0) (omega (arith, word-dcis-length (c .before .before .before .before .before .before .before .before .before .args .words .now))) (rw (word-dcis-at (c .before .before .before .before .before .before .before .before .before .args .words .now) (c .before .before .before .before .before .loop .i) (c .before .before .before .before .loop-test .taken), ← c .before .before .word-dci .ensures .0) (omega (arith, c .if1 .taken))))
+loop-again c =
+    let c4 = c .before .before .before .before in
+    let c5 = c4 .before in
+    let c9 = c5 .before .before .before .before in (
+      search needs,
+      omega arith,
+      omega arith,
+      c5 .loop .inv .3 ∙ highest-next (wordDcis (c9 .args .words .now)) (c5 .loop .i)
+          (c5 .loop .highest) (c .before .before .word-dci .result .0) (omega (arith, word-dcis-length (c9 .args .words .now)))
+          (rw (
+            word-dcis-at (c9 .args .words .now) (c5 .loop .i) (c4 .loop-test .taken),
+            ←
+                c .before .before .word-dci .ensures .0,
+          ) (omega (arith, c .if1 .taken))),
+    )
 
 loop-less-2 : tie.Need-loop-less-2 Inv-loop μ-loop
 loop-less-2 c = search needs
 
 loop-again-2 : tie.Need-loop-again-2 Inv-loop μ-loop
-loop-again-2 c = (search needs, omega arith, omega arith, c .before .before .before .before .before .loop .inv .3 ∙ highest-next (wordDcis (c .before .before .before .before .before .before .before .before .before .args .words .now)) (c .before .before .before .before .before .loop .i) (c .before .before .before .before .before .loop .highest) (c .before .before .before .before .before .loop .highest) (omega (arith, word-dcis-length (c .before .before .before .before .before .before .before .before .before .args .words .now))) (rw (word-dcis-at (c .before .before .before .before .before .before .before .before .before .args .words .now) (c .before .before .before .before .before .loop .i) (c .before .before .before .before .loop-test .taken), ← c .before .before .word-dci .ensures .0) (omega (arith, c .if1 .left))))
+loop-again-2 c =
+    let c4 = c .before .before .before .before in
+    let c5 = c4 .before in
+    let c9 = c5 .before .before .before .before in (
+      search needs,
+      omega arith,
+      omega arith,
+      c5 .loop .inv .3 ∙ highest-next (wordDcis (c9 .args .words .now)) (c5 .loop .i)
+          (c5 .loop .highest) (c5 .loop .highest) (omega (arith, word-dcis-length (c9 .args .words .now))) (rw (
+            word-dcis-at
+                (c9 .args .words .now) (c5 .loop .i) (c4 .loop-test .taken),
+            ← c .before .before .word-dci .ensures .0,
+          ) (omega (
+            arith,
+            c .if1 .left,
+          ))),
+    )
 
 add-result : tie.Need-add-result Inv-loop μ-loop
 add-result c = search needs
 
 returns : tie.Need-returns Inv-loop μ-loop
 unfolding contextEntries
-returns c = ap (λ (n : ℕ). n + 1) (sym (c .before .loop .inv .3 ∙ highest-done (wordDcis (c .before .before .before .before .before .args .words .now)) (c .before .loop .i) (c .before .loop .highest) (omega (arith, word-dcis-length (c .before .before .before .before .before .args .words .now))) (c .before .loop .inv .1)))
+returns c =
+    let c5 = c .before .before .before .before .before in
+    ap (λ (n : ℕ). n + 1) (sym (c .before .loop .inv .3 ∙ highest-done (wordDcis (c5 .args .words .now))
+    (c .before .loop .i) (c .before .loop .highest) (omega (arith, word-dcis-length (c5 .args .words .now)))
+    (c .before .loop .inv .1)))
 
 pub context-entries-spec : {M : Type 1} → statement M
 context-entries-spec =

@@ -41,7 +41,20 @@ loop-less : tie.Need-loop-less Inv-loop μ-loop
 loop-less c = search needs
 
 loop-again : tie.Need-loop-again Inv-loop μ-loop
-loop-again c = (search needs, search needs, λ s. c .before .before .before .before .before .before .before .before .loop .inv .2 s ∙ drop-next s _ _ _ _ _ (c .before .before .before .before .before .before .before .loop-test .taken) (omega (arith, c .before .before .before .before .before .before .before .before .loop .inv .1, c .before .before .before .before .before .before .before .before .before .before .before .pre)) (c .before .before .before .before .before .word-dci .ensures .0) (c .before .before .before .before .before .word-dci .ensures .1) (c .before .before .put-field .ensures))
+loop-again c =
+    let c5 = c .before .before .before .before .before in
+    let c7 = c5 .before .before in
+    let c8 = c7 .before in
+    let c11 = c8 .before .before .before in (
+      search needs,
+      search needs,
+      λ s. c8 .loop .inv .2 s ∙ drop-next s _ _ _ _ _ (c7 .loop-test .taken) (omega (
+        arith,
+        c8 .loop .inv .1,
+        c11 .pre,
+      )) (c5 .word-dci .ensures .0) (c5 .word-dci .ensures .1)
+          (c .before .before .put-field .ensures),
+    )
 
 same-length : tie.Need-same-length Inv-loop μ-loop
 same-length c = search needs

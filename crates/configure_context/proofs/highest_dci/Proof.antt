@@ -28,13 +28,27 @@ loop-less : tie.Need-loop-less Inv-loop μ-loop
 loop-less c = search needs
 
 loop-again : tie.Need-loop-again Inv-loop μ-loop
-loop-again c = (search needs, omega arith, c .before .before .before .loop .inv .2 ∙ highest-next (c .before .before .before .before .args .dcis .now) (c .before .before .before .loop .i) (c .before .before .before .loop .highest) (getD (c .before .before .before .before .args .dcis .now) (c .before .before .before .loop .i) 0) (c .before .before .loop-test .taken) (omega arith))
+loop-again c =
+    let c3 = c .before .before .before in
+    let c4 = c3 .before in (
+      search needs,
+      omega arith,
+      c3 .loop .inv .2 ∙ highest-next (c4 .args .dcis .now) (c3 .loop .i) (c3 .loop .highest)
+          (getD (c4 .args .dcis .now) (c3 .loop .i) 0) (c .before .before .loop-test .taken) (omega arith),
+    )
 
 loop-less-2 : tie.Need-loop-less-2 Inv-loop μ-loop
 loop-less-2 c = search needs
 
 loop-again-2 : tie.Need-loop-again-2 Inv-loop μ-loop
-loop-again-2 c = (search needs, omega arith, c .before .before .before .loop .inv .2 ∙ highest-next (c .before .before .before .before .args .dcis .now) (c .before .before .before .loop .i) (c .before .before .before .loop .highest) (c .before .before .before .loop .highest) (c .before .before .loop-test .taken) (omega arith))
+loop-again-2 c =
+    let c3 = c .before .before .before in
+    let c4 = c3 .before in (
+      search needs,
+      omega arith,
+      c3 .loop .inv .2 ∙ highest-next (c4 .args .dcis .now) (c3 .loop .i) (c3 .loop .highest)
+          (c3 .loop .highest) (c .before .before .loop-test .taken) (omega arith),
+    )
 
 returns : tie.Need-returns Inv-loop μ-loop
 returns c = sym (c .before .loop .inv .2 ∙ highest-done (c .before .before .args .dcis .now) (c .before .loop .i) (c .before .loop .highest) (omega arith) (c .before .loop .inv .1))

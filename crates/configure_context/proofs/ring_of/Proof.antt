@@ -41,7 +41,14 @@ loop-less-2 : tie.Need-loop-less-2 Inv-loop μ-loop
 loop-less-2 c = search needs
 
 loop-again-2 : tie.Need-loop-again-2 Inv-loop μ-loop
-loop-again-2 c = (search needs, c .before .before .before .before .before .loop .inv .1 ∙ ring-taken _ _ _ _ _ (c .before .before .before .before .loop-test .taken) (eq-eqb _ _ (c .before .if1 .taken)) ∙ rw (List·getD-eq-default (c .before .before .before .before .before .before .args .rings .now) 0 {n = c .before .before .before .before .before .loop .i} (omega arith)))
+loop-again-2 c =
+    let c4 = c .before .before .before .before in
+    let c5 = c4 .before in
+    let c6 = c5 .before in (
+      search needs,
+      c5 .loop .inv .1 ∙ ring-taken _ _ _ _ _ (c4 .loop-test .taken) (eq-eqb _ _ (c .before .if1 .taken)) ∙ rw
+          (List·getD-eq-default (c6 .args .rings .now) 0 {n = c5 .loop .i} (omega arith)),
+    )
 
 loop-less-3 : tie.Need-loop-less-3 Inv-loop μ-loop
 loop-less-3 c = search needs

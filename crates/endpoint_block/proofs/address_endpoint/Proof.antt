@@ -44,7 +44,14 @@ same-length c = search needs
 
 returns : tie.Need-returns
 unfolding settled addressEndpoint
-returns c = c .before .before .put-field .ensures ∙ rw (c .before .before .before .before .before .before .put-common .ensures, c .before .before .before .before .before .before .before .before .parse-default-max-packet-size-from-port-speed .ensures) (average-first _ (c .before .before .before .before .before .before .before .before .before .before .args .ring))
+returns c =
+    let c6 = c .before .before .before .before .before .before in
+    let c8 = c6 .before .before in
+    let c10 = c8 .before .before in
+    c .before .before .put-field .ensures ∙ rw (
+      c6 .put-common .ensures,
+      c8 .parse-default-max-packet-size-from-port-speed .ensures,
+    ) (average-first _ (c10 .args .ring))
 
 pub address-endpoint-spec : {M : Type 1} → statement M
 address-endpoint-spec =

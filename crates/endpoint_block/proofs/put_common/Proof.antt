@@ -28,7 +28,19 @@ same-length c = search needs
 
 returns : tie.Need-returns
 unfolding settled ringSettings
-returns c = c .before .before .put-field6 .ensures ∙ rw (c .before .before .before .before .before .before .put-field5 .ensures, c .before .before .before .before .before .before .before .before .before .before .put-field4 .ensures, c .before .before .before .before .before .before .before .before .before .before .before .before .before .before .put-field3 .ensures, c .before .before .before .before .before .before .before .before .before .before .before .before .before .before .before .before .before .before .put-field2 .ensures, c .before .before .before .before .before .before .before .before .before .before .before .before .before .before .before .before .before .before .before .before .before .before .put-field .ensures)
+returns c =
+    let c6 = c .before .before .before .before .before .before in
+    let c10 = c6 .before .before .before .before in
+    let c14 = c10 .before .before .before .before in
+    let c18 = c14 .before .before .before .before in
+    let c22 = c18 .before .before .before .before in
+    c .before .before .put-field6 .ensures ∙ rw (
+      c6 .put-field5 .ensures,
+      c10 .put-field4 .ensures,
+      c14 .put-field3 .ensures,
+      c18 .put-field2 .ensures,
+      c22 .put-field .ensures,
+    )
 
 pub put-common-spec : {M : Type 1} → statement M
 put-common-spec =

@@ -102,7 +102,27 @@ same-length c = search needs
 
 returns : tie.Need-returns
 unfolding settled periodicSettings endpointSettings burstOf
-returns c = c .before .before .put-field5 .ensures ∙ rw (settled-append, settled-append, ← c .before .before .before .before .before .before .before .before .before .before .before .before .before .before .before .before .before .before .before .is-periodic .ensures, c .before .before .before .before .before .before .before .before .before .before .before .before .before .before .before .before .before .before .if1 .taken, c .before .before .before .before .before .before .put-field4 .ensures, c .before .before .before .before .before .before .before .before .before .before .put-field3 .ensures, c .before .before .before .before .before .before .before .before .before .before .before .before .before .before .put-field2 .ensures, basic (c .before .before .before .before .before .before .before .before .before .before .before .before .before .before .before .before .before .before .before .before .before .before), c .before .before .before .before .before .before .before .before .before .before .before .before .before .before .before .before .max-esit-payload .ensures, c .before .before .before .before .before .before .before .before .before .before .before .before .before .before .before .before .before .periodic-burst-size .ensures)
+returns c =
+    let c6 = c .before .before .before .before .before .before in
+    let c10 = c6 .before .before .before .before in
+    let c14 = c10 .before .before .before .before in
+    let c16 = c14 .before .before in
+    let c17 = c16 .before in
+    let c18 = c17 .before in
+    let c19 = c18 .before in
+    let c22 = c19 .before .before .before in
+    c .before .before .put-field5 .ensures ∙ rw (
+      settled-append,
+      settled-append,
+      ← c19 .is-periodic .ensures,
+      c18 .if1 .taken,
+      c6 .put-field4 .ensures,
+      c10 .put-field3 .ensures,
+      c14 .put-field2 .ensures,
+      basic (c22),
+      c16 .max-esit-payload .ensures,
+      c17 .periodic-burst-size .ensures,
+    )
 
 same-length-2 : tie.Need-same-length-2
 same-length-2 c = search needs

@@ -13,9 +13,9 @@ value-below :
     (c : tie.After-power3) →
     c .before .before .before .before .before .before .before .args .value % c .power3 .result * c .before .power2 .result < 2 ^ 32
 value-below c =
-    let start = c .before .before .before .before .before .before .before in
-    rw (c .power3 .ensures .0, c .before .power2 .ensures .0)
-    (run-below (start .args .value) (start .args .f .low) (start .args .f .width) 32 (start .pre .1 .1))
+    let c7 = c .before .before .before .before .before .before .before in
+    let start = c7 in rw (c .power3 .ensures .0, c .before .power2 .ensures .0) (run-below (start .args .value)
+    (start .args .f .low) (start .args .f .width) 32 (start .pre .1 .1))
 
 word-at-requires : tie.Need-word-at-requires
 word-at-requires c κs = search needs
@@ -51,7 +51,15 @@ rem-x-2 : tie.Need-rem-x-2
 rem-x-2 c = search needs
 
 add-x-2 : tie.Need-add-x-2
-add-x-2 c = omega (arith, div-mul-le-self (c .before .before .before .before .word-at .result) (c .before .before .power .result), value-below c, mod-le (c .before .before .before .before .word-at .result) (c .before .power2 .result))
+add-x-2 c =
+    let c4 = c .before .before .before .before in
+    omega (
+      arith,
+      div-mul-le-self (c4 .word-at .result) (c .before .before .power .result),
+      value-below c,
+      mod-le
+          (c4 .word-at .result) (c .before .power2 .result),
+    )
 
 mul-at : tie.Need-mul-at
 mul-at c = search needs

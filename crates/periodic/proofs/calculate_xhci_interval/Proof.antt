@@ -62,13 +62,30 @@ cast-result : tie.Need-cast-result
 cast-result c = search needs
 
 returns-2 : tie.Need-returns-2
-returns-2 c = let held = c .before .before .before .if2 .held in let full : 15 ≡ min held 16 - 1 = omega arith in full ∙ exponent _ _ _ held (sym (c .before .before .before .before .before .is-periodic .ensures) ∙ not-false (c .before .before .before .before .before .is-periodic .result) (c .before .before .before .before .if1 .left)) (held-is (c .before .before .before)) (c .before .before .if3 .left) (omega arith)
+returns-2 c =
+    let c3 = c .before .before .before in
+    let c4 = c3 .before in
+    let c5 = c4 .before in
+    let held = c3 .if2 .held in let full : 15 ≡ min held 16 - 1 = omega arith in full ∙ exponent _ _ _ held (sym
+    (c5 .is-periodic .ensures) ∙ not-false (c5 .is-periodic .result) (c4 .if1 .left)) (held-is (c3))
+    (c .before .before .if3 .left) (omega arith)
 
 returns-3 : tie.Need-returns-3
-returns-3 c = let held = c .before .before .before .before .if2 .held in let less : held - 1 ≡ min held 16 - 1 = omega arith in less ∙ exponent _ _ _ held (sym (c .before .before .before .before .before .before .is-periodic .ensures) ∙ not-false (c .before .before .before .before .before .before .is-periodic .result) (c .before .before .before .before .before .if1 .left)) (held-is (c .before .before .before .before)) (c .before .before .before .if3 .left) (omega arith)
+returns-3 c =
+    let c3 = c .before .before .before in
+    let c4 = c3 .before in
+    let c5 = c4 .before in
+    let c6 = c5 .before in
+    let held = c4 .if2 .held in let less : held - 1 ≡ min held 16 - 1 = omega arith in less ∙ exponent _ _ _ held (sym
+    (c6 .is-periodic .ensures) ∙ not-false (c6 .is-periodic .result) (c5 .if1 .left)) (held-is (c4)) (c3 .if3 .left) (omega
+    arith)
 
 returns-4 : tie.Need-returns-4
-returns-4 c = zeros _ _ _ (c .before .if2 .held) (sym (c .before .before .before .is-periodic .ensures) ∙ not-false (c .before .before .before .is-periodic .result) (c .before .before .if1 .left)) (held-is (c .before)) (omega arith) (⊎-elim (λ w. inl (w .taken)) (λ w. inr (w .1 .left)) (c .if3 .came))
+returns-4 c =
+    let c3 = c .before .before .before in
+    zeros _ _ _ (c .before .if2 .held) (sym (c3 .is-periodic .ensures) ∙ not-false (c3 .is-periodic .result)
+    (c .before .before .if1 .left)) (held-is (c .before)) (omega arith) (⊎-elim (λ w. inl (w .taken)) (λ w. inr
+    (w .1 .left)) (c .if3 .came))
 
 pub calculate-xhci-interval-spec : {M : Type 1} → statement M
 calculate-xhci-interval-spec =

@@ -39,7 +39,18 @@ loop-less : tie.Need-loop-less Inv-loop μ-loop
 loop-less c = search needs
 
 loop-again : tie.Need-loop-again Inv-loop μ-loop
-loop-again c = (search needs, search needs, search needs, λ ctx. c .before .before .before .before .before .before .before .before .loop .inv .3 ctx ∙ resume-next _ _ _ _ ctx _ _ _ (c .before .before .before .before .before .before .before .before .loop .inv .2) (c .before .before .before .before .before .before .before .before .before .before .before .pre .0) (c .before .before .before .before .before .before .before .loop-test .taken) (c .before .before .before .before .send .ensures .0) (c .before .before .before .before .send .ensures .1) (c .enum-told .given .1))
+loop-again c =
+    let c4 = c .before .before .before .before in
+    let c7 = c4 .before .before .before in
+    let c8 = c7 .before in
+    let c11 = c8 .before .before .before in (
+      search needs,
+      search needs,
+      search needs,
+      λ ctx. c8 .loop .inv .3 ctx ∙ resume-next _ _ _ _ ctx _ _ _
+          (c8 .loop .inv .2) (c11 .pre .0) (c7 .loop-test .taken) (c4 .send .ensures .0) (c4 .send .ensures .1)
+          (c .enum-told .given .1),
+    )
 
 add-t17 : tie.Need-add-t17 Inv-loop μ-loop
 add-t17 c = search needs
@@ -48,7 +59,19 @@ same-length : tie.Need-same-length Inv-loop μ-loop
 same-length c = search needs
 
 returns : tie.Need-returns Inv-loop μ-loop
-returns c = λ ctx. rw (c .before .before .before .before .before .before .before .loop .inv .3 ctx ∙ resume-left _ _ _ _ ctx _ _ _ (c .before .before .before .before .before .before .before .loop .inv .2) (c .before .before .before .before .before .before .before .before .before .before .pre .0) (c .before .before .before .before .before .before .loop-test .taken) (c .before .before .before .send .ensures .0) (c .before .before .before .send .ensures .1) (c .match .keys2)) (record { sent = refl; active = refl; count = refl; log = refl })
+returns c =
+    let c3 = c .before .before .before in
+    let c6 = c3 .before .before .before in
+    let c7 = c6 .before in
+    let c10 = c7 .before .before .before in
+    λ ctx. rw (c7 .loop .inv .3 ctx ∙ resume-left _ _ _ _ ctx _ _ _ (c7 .loop .inv .2) (c10 .pre .0) (c6 .loop-test .taken)
+    (c3 .send .ensures .0) (c3 .send .ensures .1) (c .match .keys2)) (record {
+      sent = refl;
+      active = refl;
+      count = refl;
+      log
+          = refl;
+    })
 
 add-t19 : tie.Need-add-t19 Inv-loop μ-loop
 add-t19 c = search needs

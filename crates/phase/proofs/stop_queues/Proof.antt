@@ -40,7 +40,17 @@ loop-less : tie.Need-loop-less Inv-loop μ-loop
 loop-less c = search needs
 
 loop-again : tie.Need-loop-again Inv-loop μ-loop
-loop-again c = (search needs, search needs, search needs, λ ctx. c .before .before .before .before .before .before .before .before .loop .inv .3 ctx ∙ stop-next _ _ _ _ ctx _ _ _ (c .before .before .before .before .before .before .before .before .loop .inv .2) (c .before .before .before .before .before .before .before .before .before .before .before .pre .0) (c .before .before .before .before .before .before .before .loop-test .taken) (c .before .before .before .before .send .ensures .0) (c .before .before .before .before .send .ensures .1) (c .enum-told .given .1))
+loop-again c =
+    let c4 = c .before .before .before .before in
+    let c7 = c4 .before .before .before in
+    let c8 = c7 .before in
+    let c11 = c8 .before .before .before in (
+      search needs,
+      search needs,
+      search needs,
+      λ ctx. c8 .loop .inv .3 ctx ∙ stop-next _ _ _ _ ctx _ _ _ (c8 .loop .inv .2)
+          (c11 .pre .0) (c7 .loop-test .taken) (c4 .send .ensures .0) (c4 .send .ensures .1) (c .enum-told .given .1),
+    )
 
 enum-known-code : tie.Need-enum-known-code Inv-loop μ-loop
 enum-known-code c = search needs
@@ -59,7 +69,26 @@ same-length c = search needs
 
 returns : tie.Need-returns Inv-loop μ-loop
 unfolding undoStops dcisIn
-returns c = λ ctx. rw (c .before .before .before .before .before .before .before .before .before .before .before .before .before .before .loop .inv .3 ctx ∙ stop-failed (c .before .before .before .before .before .before .before .before .before .before .before .before .before .before .before .before .before .args .t4) _ _ _ ctx _ _ _ (c .before .before .before .before .before .before .before .before .before .before .before .before .before .before .loop .inv .2) (c .before .before .before .before .before .before .before .before .before .before .before .before .before .before .before .before .before .pre .0) (c .before .before .before .before .before .before .before .before .before .before .before .before .before .loop-test .taken) (c .before .before .before .before .before .before .before .before .before .before .send .ensures .0) (c .before .before .before .before .before .before .before .before .before .before .send .ensures .1) _ (c .before .before .before .before .before .before .code .given .1), played-then, played-ends) (record { sent = c .or-code .ensures ∙ ap (orCode _) (c .before .before .before .resume-queues .ensures ctx .sent); active = c .before .before .before .resume-queues .ensures ctx .active; count = c .before .before .before .resume-queues .ensures ctx .count; log = c .before .before .before .resume-queues .ensures ctx .log })
+returns c =
+    let c3 = c .before .before .before in
+    let c6 = c3 .before .before .before in
+    let c10 = c6 .before .before .before .before in
+    let c13 = c10 .before .before .before in
+    let c14 = c13 .before in
+    let c17 = c14 .before .before .before in
+    λ ctx. rw (
+      c14 .loop .inv .3 ctx ∙ stop-failed (c17 .args .t4) _ _ _ ctx _ _ _ (c14 .loop .inv .2) (c17 .pre .0)
+          (c13 .loop-test .taken) (c10 .send .ensures .0) (c10 .send .ensures .1) _ (c6 .code .given .1),
+      played-then,
+      played-ends,
+    ) (record {
+      sent = c .or-code .ensures ∙ ap (orCode _) (c3 .resume-queues .ensures ctx .sent);
+      active =
+          c3 .resume-queues .ensures ctx .active;
+      count = c3 .resume-queues .ensures ctx .count;
+      log = c3 .resume-queues .ensures
+          ctx .log;
+    })
 
 enum-told-2 : tie.Need-enum-told-2 Inv-loop μ-loop
 enum-told-2 c = search needs
@@ -71,7 +100,19 @@ same-length-2 : tie.Need-same-length-2 Inv-loop μ-loop
 same-length-2 c = search needs
 
 returns-2 : tie.Need-returns-2 Inv-loop μ-loop
-returns-2 c = λ ctx. rw (c .before .before .before .before .before .before .before .before .loop .inv .3 ctx ∙ stop-cut _ _ _ _ ctx _ _ _ (c .before .before .before .before .before .before .before .before .loop .inv .2) (c .before .before .before .before .before .before .before .before .before .before .before .pre .0) (c .before .before .before .before .before .before .before .loop-test .taken) (c .before .before .before .before .send .ensures .0) (c .before .before .before .before .send .ensures .1) (c .enum-told2 .given .1)) (record { sent = refl; active = refl; count = refl; log = refl })
+returns-2 c =
+    let c4 = c .before .before .before .before in
+    let c7 = c4 .before .before .before in
+    let c8 = c7 .before in
+    let c11 = c8 .before .before .before in
+    λ ctx. rw (c8 .loop .inv .3 ctx ∙ stop-cut _ _ _ _ ctx _ _ _ (c8 .loop .inv .2) (c11 .pre .0) (c7 .loop-test .taken)
+    (c4 .send .ensures .0) (c4 .send .ensures .1) (c .enum-told2 .given .1)) (record {
+      sent = refl;
+      active = refl;
+      count =
+          refl;
+      log = refl;
+    })
 
 add-t28 : tie.Need-add-t28 Inv-loop μ-loop
 add-t28 c = search needs

@@ -111,7 +111,13 @@ same-length-3 c = search needs
 
 returns : tie.Need-returns
 returns c =
-    done _ _ _ _ _ _ _ _ _ _ _ (configured _ _ _ _ _ _ _ _ _ _ _ (c .before .before .before .before .before .before .before .before .before .before .before .before .before .before .before .no-queues .ensures .0) (c .before .before .before .before .before .before .before .before .before .before .before .before .prepare-configure .ensures) (c .before .before .before .before .before .before .before .before .send .ensures .0) (c .before .before .before .before .before .before .before .before .send .ensures .1)) (c .before .before .before .before .enum-told .given .1) (c .before .before .publish .ensures _ _ _ _)
+    let c4 = c .before .before .before .before in
+    let c8 = c4 .before .before .before .before in
+    let c12 = c8 .before .before .before .before in
+    let c15 = c12 .before .before .before in
+    done _ _ _ _ _ _ _ _ _ _ _ (configured _ _ _ _ _ _ _ _ _ _ _ (c15 .no-queues .ensures .0)
+    (c12 .prepare-configure .ensures) (c8 .send .ensures .0) (c8 .send .ensures .1)) (c4 .enum-told .given .1)
+    (c .before .before .publish .ensures _ _ _ _)
 
 same-length-4 : tie.Need-same-length-4
 same-length-4 c = search needs
@@ -121,7 +127,14 @@ same-length-5 c = search needs
 
 returns-2 : tie.Need-returns-2
 returns-2 c =
-    failed _ _ _ _ _ _ _ _ _ _ _ _ _ _ _ (configured _ _ _ _ _ _ _ _ _ _ _ (c .before .before .before .before .before .before .before .before .before .before .before .before .before .before .before .before .before .before .no-queues .ensures .0) (c .before .before .before .before .before .before .before .before .before .before .before .before .before .before .before .prepare-configure .ensures) (c .before .before .before .before .before .before .before .before .before .before .before .send .ensures .0) (c .before .before .before .before .before .before .before .before .before .before .before .send .ensures .1)) (c .before .before .before .before .before .before .before .s .given .1) (c .before .before .before .before .resume-queues .ensures _) (c .before .configure-failed .ensures) (c .stays .ensures)
+    let c4 = c .before .before .before .before in
+    let c7 = c4 .before .before .before in
+    let c11 = c7 .before .before .before .before in
+    let c15 = c11 .before .before .before .before in
+    let c18 = c15 .before .before .before in
+    failed _ _ _ _ _ _ _ _ _ _ _ _ _ _ _ (configured _ _ _ _ _ _ _ _ _ _ _ (c18 .no-queues .ensures .0)
+    (c15 .prepare-configure .ensures) (c11 .send .ensures .0) (c11 .send .ensures .1)) (c7 .s .given .1)
+    (c4 .resume-queues .ensures _) (c .before .configure-failed .ensures) (c .stays .ensures)
 
 same-length-6 : tie.Need-same-length-6
 same-length-6 c = search needs
@@ -131,7 +144,12 @@ same-length-7 c = search needs
 
 returns-3 : tie.Need-returns-3
 returns-3 c =
-    cut _ _ _ _ _ _ _ _ _ _ _ (configured _ _ _ _ _ _ _ _ _ _ _ (c .before .before .before .before .before .before .before .before .before .before .before .before .no-queues .ensures .0) (c .before .before .before .before .before .before .before .before .before .prepare-configure .ensures) (c .before .before .before .before .before .send .ensures .0) (c .before .before .before .before .before .send .ensures .1)) (c .before .enum-told2 .given .1) (c .stays2 .ensures)
+    let c5 = c .before .before .before .before .before in
+    let c9 = c5 .before .before .before .before in
+    let c12 = c9 .before .before .before in
+    cut _ _ _ _ _ _ _ _ _ _ _ (configured _ _ _ _ _ _ _ _ _ _ _ (c12 .no-queues .ensures .0)
+    (c9 .prepare-configure .ensures) (c5 .send .ensures .0) (c5 .send .ensures .1)) (c .before .enum-told2 .given .1)
+    (c .stays2 .ensures)
 
 pub configure-spec : {M : Type 1} → statement M
 configure-spec =

@@ -47,7 +47,16 @@ same-length c = search needs
 returns : tie.Need-returns
 unfolding releasePublish releasePublished
 returns c =
-    let e = c .before .before .before .before .before .publish-endpoint-routes .ensures in let r = rw (c .before .before .before .before .before .before .before .no-queues .ensures .0) at (e .0) in let t = rw (c .before .before .before .before .before .before .before .no-queues .ensures .0) at (e .1) in λ words o ctx log. rw (played-ends, c .moves .ensures, t, ← r, c .before .enum-told .given .1)
+    let c5 = c .before .before .before .before .before in
+    let c7 = c5 .before .before in
+    let e = c5 .publish-endpoint-routes .ensures in let r = rw (c7 .no-queues .ensures .0) at (e .0) in let t = rw
+    (c7 .no-queues .ensures .0) at (e .1) in λ words o ctx log. rw (
+      played-ends,
+      c .moves .ensures,
+      t,
+      ← r,
+      c .before .enum-told .given .1,
+    )
 
 same-length-2 : tie.Need-same-length-2
 same-length-2 c = search needs
@@ -55,7 +64,17 @@ same-length-2 c = search needs
 returns-2 : tie.Need-returns-2
 unfolding releasePublish withReplaced
 returns-2 c =
-    let e = c .before .before .before .before .publish-endpoint-routes .ensures in let r = rw (c .before .before .before .before .before .before .no-queues .ensures .0) at (e .0) in let t = rw (c .before .before .before .before .before .before .no-queues .ensures .0) at (e .1) in λ words o ctx log. rw (played-ends, c .stays .ensures, t, ← r, kept _ _ _ _ (c .before .match .keys2))
+    let c4 = c .before .before .before .before in
+    let c6 = c4 .before .before in
+    let e = c4 .publish-endpoint-routes .ensures in let r = rw (c6 .no-queues .ensures .0) at (e .0) in let t = rw
+    (c6 .no-queues .ensures .0) at (e .1) in λ words o ctx log. rw (
+      played-ends,
+      c .stays .ensures,
+      t,
+      ← r,
+      kept _ _ _ _
+          (c .before .match .keys2),
+    )
 
 pub publish-spec : {M : Type 1} → statement M
 publish-spec =

@@ -62,7 +62,13 @@ setting-words-requires c κs = search needs
 
 configure-requires : tie.Need-configure-requires
 configure-requires c κs =
-    (c .before .before .before .before .before .before .before .before .before .before .before .before .before .before .before .before .pre .0, let e = stopped-count _ _ _ _ _ _ _ (c .before .before .before .before .before .before .before .before .before .before .stop-queues .ensures []) (c .before .before .before .before .before .before .enum-told .given .1) in omega (arith, e, c .before .before .before .before .before .before .before .before .before .before .stop-queues .kept .0, c .before .before .before .before .before .before .before .before .before .before .before .before .before .before .before .before .pre .0 .few, c .before .before .before .before .before .before .before .before .before .before .before .before .before .before .before .before .pre .1))
+    let c6 = c .before .before .before .before .before .before in
+    let c10 = c6 .before .before .before .before in
+    let c16 = c10 .before .before .before .before .before .before in (
+      c16 .pre .0,
+      let e = stopped-count _ _ _ _ _ _ _ (c10 .stop-queues .ensures []) (c6 .enum-told .given .1) in omega
+          (arith, e, c10 .stop-queues .kept .0, c16 .pre .0 .few, c16 .pre .1),
+    )
 
 enum-known-s : tie.Need-enum-known-s
 enum-known-s c = search needs
@@ -87,14 +93,22 @@ same-length-3 c = search needs
 
 returns : tie.Need-returns
 returns c =
-    done _ _ _ _ _ _ _ _ (c .before .before .before .before .before .before .before .before .before .before .before .before .before .before .before .before .before .stop-queues .ensures _) _ (rw sub-zero at (c .before .before .before .before .before .before .before .before .before .before .setting-words .ensures)) (c .before .before .before .before .before .before .before .before .before .before .before .before .before .enum-told .given .1) (c .before .before .before .before .before .before .configure .ensures)
+    let c6 = c .before .before .before .before .before .before in
+    let c10 = c6 .before .before .before .before in
+    let c13 = c10 .before .before .before in
+    let c17 = c13 .before .before .before .before in
+    done _ _ _ _ _ _ _ _ (c17 .stop-queues .ensures _) _ (rw sub-zero at (c10 .setting-words .ensures))
+    (c13 .enum-told .given .1) (c6 .configure .ensures)
 
 same-length-4 : tie.Need-same-length-4
 same-length-4 c = search needs
 
 returns-2 : tie.Need-returns-2
 returns-2 c =
-    failed _ _ _ _ _ _ _ _ (c .before .before .before .before .before .before .stop-queues .ensures _) _ (c .before .before .before .before .before .before .before .before .before .before .before .before .pre .0 .full) (c .before .before .s .given .1) (c .stays .ensures)
+    let c6 = c .before .before .before .before .before .before in
+    let c12 = c6 .before .before .before .before .before .before in
+    failed _ _ _ _ _ _ _ _ (c6 .stop-queues .ensures _) _ (c12 .pre .0 .full) (c .before .before .s .given .1)
+    (c .stays .ensures)
 
 same-length-5 : tie.Need-same-length-5
 same-length-5 c = search needs

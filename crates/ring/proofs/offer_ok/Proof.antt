@@ -41,13 +41,25 @@ has-ring-requires-2 : tie.Need-has-ring-requires-2 Inv-loop μ-loop
 has-ring-requires-2 c κs = search needs
 
 returns-2 : tie.Need-returns-2 Inv-loop μ-loop
-returns-2 c = sym (c .before .before .before .loop .inv .1 ∙ clear-stop _ _ _ _ _ (c .before .before .loop-test .taken) (⊎-elim (λ w. inl (eq-eqb _ _ (sym (w .taken)))) (⊎-elim (λ w. inr (inl (sym (w .1 .ensures) ∙ w .2 .taken))) (λ w. inr (inr (sym (w .3 .ensures) ∙ w .4 .taken)))) (c .if3 .came)))
+returns-2 c =
+    let c3 = c .before .before .before in
+    sym (c3 .loop .inv .1 ∙ clear-stop _ _ _ _ _ (c .before .before .loop-test .taken) (⊎-elim (λ w. inl (eq-eqb _ _ (sym
+    (w .taken)))) (⊎-elim (λ w. inr (inl (sym (w .1 .ensures) ∙ w .2 .taken))) (λ w. inr (inr (sym (w .3 .ensures) ∙
+    w .4 .taken)))) (c .if3 .came)))
 
 loop-less : tie.Need-loop-less Inv-loop μ-loop
 loop-less c = search needs
 
 loop-again : tie.Need-loop-again Inv-loop μ-loop
-loop-again c = (search needs, c .before .before .before .before .before .before .before .loop .inv .1 ∙ clear-go _ _ _ _ _ (c .before .before .before .before .before .before .loop-test .taken) (ne-eqb _ _ (λ e. c .before .before .before .before .if3 .left (sym e))) (sym (c .before .before .before .has-ring .ensures) ∙ c .before .before .if4 .left) (sym (c .before .has-ring2 .ensures) ∙ c .if5 .left))
+loop-again c =
+    let c3 = c .before .before .before in
+    let c4 = c3 .before in
+    let c6 = c4 .before .before in
+    let c7 = c6 .before in (
+      search needs,
+      c7 .loop .inv .1 ∙ clear-go _ _ _ _ _ (c6 .loop-test .taken) (ne-eqb _ _ (λ e. c4 .if3 .left (sym e)))
+          (sym (c3 .has-ring .ensures) ∙ c .before .before .if4 .left) (sym (c .before .has-ring2 .ensures) ∙ c .if5 .left),
+    )
 
 returns-3 : tie.Need-returns-3 Inv-loop μ-loop
 returns-3 c = sym (c .before .loop .inv .1 ∙ clear-none _ _ _ _ _ (c .loop-test .left))

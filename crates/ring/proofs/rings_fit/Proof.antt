@@ -34,13 +34,24 @@ has-ring-requires : tie.Need-has-ring-requires Inv-loop μ-loop
 has-ring-requires c κs = search needs
 
 returns : tie.Need-returns Inv-loop μ-loop
-returns c = sym (c .before .before .before .before .loop .inv .1 ∙ fit-stop _ _ (c .before .before .before .loop-test .taken) (⊎-elim (λ w. inl (sym (c .before .ring-ok .ensures) ∙ not-true (c .before .ring-ok .result) (w .taken))) (λ w. inr (sym (w .1 .ensures) ∙ w .2 .taken)) (c .if1 .came)))
+returns c =
+    let c3 = c .before .before .before in
+    let c4 = c3 .before in
+    sym (c4 .loop .inv .1 ∙ fit-stop _ _ (c3 .loop-test .taken) (⊎-elim (λ w. inl (sym (c .before .ring-ok .ensures) ∙
+    not-true (c .before .ring-ok .result) (w .taken))) (λ w. inr (sym (w .1 .ensures) ∙ w .2 .taken)) (c .if1 .came)))
 
 loop-less : tie.Need-loop-less Inv-loop μ-loop
 loop-less c = search needs
 
 loop-again : tie.Need-loop-again Inv-loop μ-loop
-loop-again c = (search needs, c .before .before .before .before .before .before .loop .inv .1 ∙ fit-go _ _ (c .before .before .before .before .before .loop-test .taken) (sym (c .before .before .before .ring-ok .ensures) ∙ not-false (c .before .before .before .ring-ok .result) (c .before .before .if1 .left)) (sym (c .before .has-ring .ensures) ∙ c .if2 .left))
+loop-again c =
+    let c3 = c .before .before .before in
+    let c5 = c3 .before .before in
+    let c6 = c5 .before in (
+      search needs,
+      c6 .loop .inv .1 ∙ fit-go _ _ (c5 .loop-test .taken) (sym (c3 .ring-ok .ensures) ∙ not-false
+          (c3 .ring-ok .result) (c .before .before .if1 .left)) (sym (c .before .has-ring .ensures) ∙ c .if2 .left),
+    )
 
 returns-2 : tie.Need-returns-2 Inv-loop μ-loop
 returns-2 c = sym (c .before .loop .inv .1 ∙ fit-none _ _ (c .loop-test .left))

@@ -45,21 +45,43 @@ put-field-requires-3 : tie.Need-put-field-requires-3
 put-field-requires-3 c κs = (omega (arith, joined-length (c .before), c .before .before .before .before .before .before .before .pre), search needs)
 
 put-field-requires-4 : tie.Need-put-field-requires-4
-put-field-requires-4 c κs = (omega (arith, c .before .before .before .before .put-field3 .kept .0, joined-length (c .before .before .before .before .before .before), c .before .before .before .before .before .before .before .before .before .before .before .before .pre), search needs)
+put-field-requires-4 c κs =
+    let c4 = c .before .before .before .before in
+    let c6 = c4 .before .before in
+    let c12 = c6 .before .before .before .before .before .before in
+    (omega (arith, c4 .put-field3 .kept .0, joined-length (c6), c12 .pre), search needs)
 
 same-length : tie.Need-same-length
-same-length c = omega (arith, c .before .before .put-field4 .kept .0, c .before .before .before .before .before .before .before .put-field3 .kept .0, joined-length (c .before .before .before .before .before .before .before .before .before))
+same-length c =
+    let c7 = c .before .before .before .before .before .before .before in
+    let c9 = c7 .before .before in
+    omega (arith, c .before .before .put-field4 .kept .0, c7 .put-field3 .kept .0, joined-length (c9))
 
 returns : tie.Need-returns
 unfolding settled thinkSettings hubSettings
-returns c = c .before .before .put-field4 .ensures ∙ rw (c .before .before .before .before .before .before .before .put-field3 .ensures, multi-put (c .before .before .before .before .before .before .before .before .before), c .before .before .before .before .before .before .before .before .before .before .before .before .put-field .ensures, settled-append, eq-eqb _ _ (c .before .before .before .before .if3 .taken))
+returns c =
+    let c4 = c .before .before .before .before in
+    let c7 = c4 .before .before .before in
+    let c9 = c7 .before .before in
+    let c12 = c9 .before .before .before in
+    c .before .before .put-field4 .ensures ∙ rw (
+      c7 .put-field3 .ensures,
+      multi-put (c9),
+      c12 .put-field .ensures,
+      settled-append,
+      eq-eqb _ _ (c4 .if3 .taken),
+    )
 
 same-length-2 : tie.Need-same-length-2
 same-length-2 c = omega (arith, c .before .before .before .put-field3 .kept .0, joined-length (c .before .before .before .before .before))
 
 returns-2 : tie.Need-returns-2
 unfolding settled thinkSettings hubSettings
-returns-2 c = c .before .before .before .put-field3 .ensures ∙ rw (multi-put (c .before .before .before .before .before), c .before .before .before .before .before .before .before .before .put-field .ensures, settled-append, ne-eqb _ _ (c .if3 .left))
+returns-2 c =
+    let c3 = c .before .before .before in
+    let c5 = c3 .before .before in
+    let c8 = c5 .before .before .before in
+    c3 .put-field3 .ensures ∙ rw (multi-put (c5), c8 .put-field .ensures, settled-append, ne-eqb _ _ (c .if3 .left))
 
 pub hub-slot-spec : {M : Type 1} → statement M
 hub-slot-spec =

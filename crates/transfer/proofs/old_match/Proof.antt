@@ -32,7 +32,17 @@ word-at-requires-2 c κs = search needs
 
 returns : tie.Need-returns Inv-loop μ-loop
 unfolding routeOf
-returns c = sym (c .before .before .before .before .before .before .loop .inv .1 ∙ match-next _ _ _ _ _ (c .before .before .before .before .before .loop-test .taken) ∙ rw (← c .before .before .before .route-index .ensures, ← c .before .before .word-at .ensures, ← c .before .word-at2 .ensures, ne-eqb _ _ (c .if1 .taken)))
+returns c =
+    let c3 = c .before .before .before in
+    let c5 = c3 .before .before in
+    let c6 = c5 .before in
+    sym (c6 .loop .inv .1 ∙ match-next _ _ _ _ _ (c5 .loop-test .taken) ∙ rw (
+      ← c3 .route-index .ensures,
+      ←
+          c .before .before .word-at .ensures,
+      ← c .before .word-at2 .ensures,
+      ne-eqb _ _ (c .if1 .taken),
+    ))
 
 add-i : tie.Need-add-i Inv-loop μ-loop
 add-i c = search needs
@@ -42,7 +52,19 @@ loop-less c = search needs
 
 loop-again : tie.Need-loop-again Inv-loop μ-loop
 unfolding routeOf
-loop-again c = (search needs, c .before .before .before .before .before .before .loop .inv .1 ∙ match-next _ _ _ _ _ (c .before .before .before .before .before .loop-test .taken) ∙ rw (← c .before .before .before .route-index .ensures, ← c .before .before .word-at .ensures, ← c .before .word-at2 .ensures, eq-eqb _ _ (c .if1 .left)))
+loop-again c =
+    let c3 = c .before .before .before in
+    let c5 = c3 .before .before in
+    let c6 = c5 .before in (
+      search needs,
+      c6 .loop .inv .1 ∙ match-next _ _ _ _ _ (c5 .loop-test .taken) ∙ rw (
+        ← c3 .route-index .ensures,
+        ←
+            c .before .before .word-at .ensures,
+        ← c .before .word-at2 .ensures,
+        eq-eqb _ _ (c .if1 .left),
+      ),
+    )
 
 returns-2 : tie.Need-returns-2 Inv-loop μ-loop
 returns-2 c = sym (c .before .loop .inv .1 ∙ match-none _ _ _ _ _ (c .loop-test .left))

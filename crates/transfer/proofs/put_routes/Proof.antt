@@ -41,14 +41,34 @@ loop-less c = search needs
 
 loop-again : tie.Need-loop-again Inv-loop μ-loop
 unfolding withRoute
-loop-again c = (search needs, search needs, c .before .before .before .before .before .loop .inv .2 ∙ publish-next _ _ _ _ _ (c .before .before .before .before .loop-test .taken) ∙ rw (← c .before .before .route-index .ensures, c .before .word-at .ensures))
+loop-again c =
+    let c4 = c .before .before .before .before in
+    let c5 = c4 .before in (
+      search needs,
+      search needs,
+      c5 .loop .inv .2 ∙ publish-next _ _ _ _ _ (c4 .loop-test .taken) ∙ rw (
+        ←
+            c .before .before .route-index .ensures,
+        c .before .word-at .ensures,
+      ),
+    )
 
 loop-less-2 : tie.Need-loop-less-2 Inv-loop μ-loop
 loop-less-2 c = search needs
 
 loop-again-2 : tie.Need-loop-again-2 Inv-loop μ-loop
 unfolding withRoute
-loop-again-2 c = (search needs, search needs, c .before .before .before .before .before .loop .inv .2 ∙ publish-next _ _ _ _ _ (c .before .before .before .before .loop-test .taken) ∙ rw (← c .before .before .route-index .ensures, set-out _ _ _ (c .if1 .left)))
+loop-again-2 c =
+    let c4 = c .before .before .before .before in
+    let c5 = c4 .before in (
+      search needs,
+      search needs,
+      c5 .loop .inv .2 ∙ publish-next _ _ _ _ _ (c4 .loop-test .taken) ∙ rw (
+        ←
+            c .before .before .route-index .ensures,
+        set-out _ _ _ (c .if1 .left),
+      ),
+    )
 
 same-length : tie.Need-same-length Inv-loop μ-loop
 same-length c = search needs

@@ -20,7 +20,11 @@ slice-read-if2 c = search needs
 
 returns : tie.Need-returns
 unfolding routeOf registered withRegistered
-returns c = let e = c .before .before .before .route-index .ensures in let t : eqb (getD (c .before .before .before .before .before .args .routes .now) (c .before .before .before .route-index .result) 0) 0 ≡ false = ne-eqb _ _ (c .if2 .taken) in (rw (← e, t), rw (← e, t))
+returns c =
+    let c3 = c .before .before .before in
+    let c5 = c3 .before .before in
+    let e = c3 .route-index .ensures in let t : eqb (getD (c5 .args .routes .now) (c3 .route-index .result) 0) 0 ≡ false =
+    ne-eqb _ _ (c .if2 .taken) in (rw (← e, t), rw (← e, t))
 
 mul-routes : tie.Need-mul-routes
 mul-routes c = search needs
@@ -33,11 +37,26 @@ same-length c = search needs
 
 returns-2 : tie.Need-returns-2
 unfolding routeOf withRoute registered withRegistered
-returns-2 c = let e = c .before .before .before .route-index .ensures in let t : eqb (getD (c .before .before .before .before .before .args .routes .now) (c .before .before .before .route-index .result) 0) 0 ≡ true = eq-eqb _ _ (c .if2 .left) in (rw (← e, t), rw (← e, t))
+returns-2 c =
+    let c3 = c .before .before .before in
+    let c5 = c3 .before .before in
+    let e = c3 .route-index .ensures in let t : eqb (getD (c5 .args .routes .now) (c3 .route-index .result) 0) 0 ≡ true =
+    eq-eqb _ _ (c .if2 .left) in (rw (← e, t), rw (← e, t))
 
 returns-3 : tie.Need-returns-3
 unfolding routeOf withRoute registered withRegistered
-returns-3 c = let e = c .before .route-index .ensures in let z : getD (c .before .before .before .args .routes .now) (c .before .route-index .result) 0 ≡ 0 = List·getD-eq-default (c .before .before .before .args .routes .now) 0 (c .if1 .left) in (rw (← e, z), rw (← e, z, set-out (c .before .before .before .args .routes .now) (c .before .route-index .result) (c .before .before .before .args .ring) (c .if1 .left)))
+returns-3 c =
+    let c3 = c .before .before .before in
+    let e = c .before .route-index .ensures in let z : getD (c3 .args .routes .now) (c .before .route-index .result) 0 ≡ 0 =
+    List·getD-eq-default (c3 .args .routes .now) 0 (c .if1 .left) in (
+      rw (← e, z),
+      rw (
+        ← e,
+        z,
+        set-out
+            (c3 .args .routes .now) (c .before .route-index .result) (c3 .args .ring) (c .if1 .left),
+      ),
+    )
 
 pub register-queue-spec : {M : Type 1} → statement M
 register-queue-spec =

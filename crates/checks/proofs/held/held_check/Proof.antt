@@ -17,7 +17,13 @@ array-share-prefix-list : tie.Need-array-share-prefix-list
 array-share-prefix-list c = search needs
 
 slice-aggregate-find-interface-endpoints : tie.Need-slice-aggregate-find-interface-endpoints
-slice-aggregate-find-interface-endpoints c = let full : length (c .before .before .before .args .t1) ≡ 256 = search needs in sym (length-take-le (c .before .before .before .args .n) (c .before .before .before .args .t1) (omega (arith, full, c .before .before .before .pre)))
+slice-aggregate-find-interface-endpoints c =
+    let c3 = c .before .before .before in
+    let full : length (c3 .args .t1) ≡ 256 = search needs in sym (length-take-le (c3 .args .n) (c3 .args .t1) (omega (
+      arith,
+      full,
+      c3 .pre,
+    )))
 
 find-interface-endpoints-requires : tie.Need-find-interface-endpoints-requires
 find-interface-endpoints-requires c κs = search needs

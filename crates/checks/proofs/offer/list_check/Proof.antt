@@ -24,10 +24,20 @@ enum-known-found : tie.Need-enum-known-found
 enum-known-found c = search needs
 
 add-setting : tie.Need-add-setting
-add-setting c = let a = c .before .before .before .before .before .before .args in let full : length (a .t1) ≡ 256 = search needs in let k = length-take-le (a .n) (a .t1) (omega (arith, full, c .before .before .before .before .before .before .pre)) in let h = found-inside (take (a .n) (a .t1)) _ _ _ _ (sym (c .before .before .before .find-interface-endpoints .ensures) ∙ c .before .found .given .1) in omega (arith, h, k, c .before .before .before .before .before .before .pre)
+add-setting c =
+    let c3 = c .before .before .before in
+    let c6 = c3 .before .before .before in
+    let a = c6 .args in let full : length (a .t1) ≡ 256 = search needs in let k = length-take-le (a .n) (a .t1) (omega
+    (arith, full, c6 .pre)) in let h = found-inside (take (a .n) (a .t1)) _ _ _ _ (sym
+    (c3 .find-interface-endpoints .ensures) ∙ c .before .found .given .1) in omega (arith, h, k, c6 .pre)
 
 mul-setting : tie.Need-mul-setting
-mul-setting c = let a = c .before .before .before .before .before .before .args in let full : length (a .t1) ≡ 256 = search needs in let k = length-take-le (a .n) (a .t1) (omega (arith, full, c .before .before .before .before .before .before .pre)) in let h = found-inside (take (a .n) (a .t1)) _ _ _ _ (sym (c .before .before .before .find-interface-endpoints .ensures) ∙ c .before .found .given .1) in omega (arith, h, k, c .before .before .before .before .before .before .pre)
+mul-setting c =
+    let c3 = c .before .before .before in
+    let c6 = c3 .before .before .before in
+    let a = c6 .args in let full : length (a .t1) ≡ 256 = search needs in let k = length-take-le (a .n) (a .t1) (omega
+    (arith, full, c6 .pre)) in let h = found-inside (take (a .n) (a .t1)) _ _ _ _ (sym
+    (c3 .find-interface-endpoints .ensures) ∙ c .before .found .given .1) in omega (arith, h, k, c6 .pre)
 
 sub-setting : tie.Need-sub-setting
 sub-setting c = search needs
@@ -43,27 +53,69 @@ addresses-free-requires c κs = search needs
 
 returns : tie.Need-returns
 unfolding settingWords foundWords isFound
-returns c = rw (← c .before .before .before .before .before .before .find-interface-endpoints .ensures, c .before .before .before .before .found .given .1, ← (rw add-sub-cancel-left at (c .before .addresses-free .ensures)), not-true (c .before .addresses-free .result) (c .if1 .taken))
+returns c =
+    let c4 = c .before .before .before .before in
+    let c6 = c4 .before .before in
+    rw (
+      ← c6 .find-interface-endpoints .ensures,
+      c4 .found .given .1,
+      ← (rw add-sub-cancel-left at
+          (c .before .addresses-free .ensures)),
+      not-true (c .before .addresses-free .result) (c .if1 .taken),
+    )
 
 array-share-prefix-quarantined : tie.Need-array-share-prefix-quarantined
 array-share-prefix-quarantined c = search needs
 
 slice-aggregate-kept : tie.Need-slice-aggregate-kept
-slice-aggregate-kept c = let full : length (c .before .before .before .before .before .before .before .before .before .before .args .t8) ≡ 61 = search needs in sym (length-take-le (c .before .before .before .before .before .before .before .before .before .before .args .m) (c .before .before .before .before .before .before .before .before .before .before .args .t8) (omega (arith, full, c .before .before .before .before .before .before .before .before .before .before .pre)))
+slice-aggregate-kept c =
+    let c10 = c .before .before .before .before .before .before .before .before .before .before in
+    let full : length (c10 .args .t8) ≡ 61 = search needs in sym (length-take-le (c10 .args .m) (c10 .args .t8) (omega
+    (arith, full, c10 .pre)))
 
 offer-ok-requires : tie.Need-offer-ok-requires
 offer-ok-requires c κs = search needs
 
 returns-2 : tie.Need-returns-2
 unfolding settingWords foundWords isFound
-returns-2 c = let f = c .before .before .before .before .before .before .before .before .before .before .before .before .find-interface-endpoints .ensures in let e = c .before .before .before .before .before .before .before .before .before .before .found .given .1 in rw (← f, e, ← (rw add-sub-cancel-left at (c .before .before .before .before .before .before .before .addresses-free .ensures)), not-false (c .before .before .before .before .before .before .before .addresses-free .result) (c .before .before .before .before .before .before .if1 .left), part-count _ _ _ (found-inside _ _ _ _ _ (sym f ∙ e)), ← c .before .offer-ok .ensures, c .if2 .taken)
+returns-2 c =
+    let c6 = c .before .before .before .before .before .before in
+    let c7 = c6 .before in
+    let c10 = c7 .before .before .before in
+    let c12 = c10 .before .before in
+    let f = c12 .find-interface-endpoints .ensures in let e = c10 .found .given .1 in rw (
+      ← f,
+      e,
+      ← (rw add-sub-cancel-left
+          at (c7 .addresses-free .ensures)),
+      not-false (c7 .addresses-free .result) (c6 .if1 .left),
+      part-count _ _ _
+          (found-inside _ _ _ _ _ (sym f ∙ e)),
+      ← c .before .offer-ok .ensures,
+      c .if2 .taken,
+    )
 
 enum-told : tie.Need-enum-told
 enum-told c = search needs
 
 returns-3 : tie.Need-returns-3
 unfolding settingWords foundWords isFound
-returns-3 c = let f = c .before .before .before .before .before .before .before .before .before .before .before .before .find-interface-endpoints .ensures in let e = c .before .before .before .before .before .before .before .before .before .before .found .given .1 in rw (← f, e, ← (rw add-sub-cancel-left at (c .before .before .before .before .before .before .before .addresses-free .ensures)), not-false (c .before .before .before .before .before .before .before .addresses-free .result) (c .before .before .before .before .before .before .if1 .left), part-count _ _ _ (found-inside _ _ _ _ _ (sym f ∙ e)), ← c .before .offer-ok .ensures, c .if2 .left)
+returns-3 c =
+    let c6 = c .before .before .before .before .before .before in
+    let c7 = c6 .before in
+    let c10 = c7 .before .before .before in
+    let c12 = c10 .before .before in
+    let f = c12 .find-interface-endpoints .ensures in let e = c10 .found .given .1 in rw (
+      ← f,
+      e,
+      ← (rw add-sub-cancel-left
+          at (c7 .addresses-free .ensures)),
+      not-false (c7 .addresses-free .result) (c6 .if1 .left),
+      part-count _ _ _
+          (found-inside _ _ _ _ _ (sym f ∙ e)),
+      ← c .before .offer-ok .ensures,
+      c .if2 .left,
+    )
 
 returns-4 : tie.Need-returns-4
 unfolding isFound

@@ -76,7 +76,16 @@ rings-fit-requires : tie.Need-rings-fit-requires Inv-loop μ-loop
 rings-fit-requires c κs = search needs
 
 returns-3 : tie.Need-returns-3 Inv-loop μ-loop
-returns-3 c = let a = c .before .before .before .before .before .before .args in c .rings-fit .ensures ∙ sym (quarantine-shut (a .usable) (a .m) (ringsOf (take (a .n) (a .t2)) ++ (a .control ∷ take (a .m) (a .quarantined))) (⊎-elim (λ w. inl (w .0 .taken, w .1 .left)) (λ w. inr (w .left)) (c .before .before .before .before .if2 .came)) ∙ all-fit (a .t2) (a .n) (a .quarantined) (a .m) (a .control) (search needs) (search needs) (c .before .before .before .before .before .before .pre .0) (c .before .before .before .before .before .before .pre .1) (c .before .before .before .loop .inv .1) (omega (arith, c .before .before .before .loop .inv .0, c .before .before .loop-test .left)) (c .before .before .before .before .before .if1 .left))
+returns-3 c =
+    let c3 = c .before .before .before in
+    let c4 = c3 .before in
+    let c5 = c4 .before in
+    let c6 = c5 .before in
+    let a = c6 .args in c .rings-fit .ensures ∙ sym (quarantine-shut (a .usable) (a .m) (ringsOf (take (a .n) (a .t2)) ++
+    (a .control ∷ take (a .m) (a .quarantined))) (⊎-elim (λ w. inl (w .0 .taken, w .1 .left)) (λ w. inr (w .left))
+    (c4 .if2 .came)) ∙ all-fit (a .t2) (a .n) (a .quarantined) (a .m) (a .control) (search needs) (search needs)
+    (c6 .pre .0) (c6 .pre .1) (c3 .loop .inv .1) (omega (arith, c3 .loop .inv .0, c .before .before .loop-test .left))
+    (c5 .if1 .left))
 
 pub rings-sound-spec : {M : Type 1} → statement M
 rings-sound-spec =

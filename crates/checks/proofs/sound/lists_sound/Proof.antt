@@ -23,13 +23,33 @@ settings-sound-requires : tie.Need-settings-sound-requires
 settings-sound-requires c κs = search needs
 
 returns-2 : tie.Need-returns-2
-returns-2 c = rw (← c .before .before .before .valid-list .ensures, not-false (c .before .before .before .valid-list .result) (c .before .before .if1 .left), ← c .before .settings-sound .ensures, not-true (c .before .settings-sound .result) (c .if2 .taken))
+returns-2 c =
+    let c3 = c .before .before .before in
+    rw (
+      ← c3 .valid-list .ensures,
+      not-false (c3 .valid-list .result) (c .before .before .if1 .left),
+      ←
+          c .before .settings-sound .ensures,
+      not-true (c .before .settings-sound .result) (c .if2 .taken),
+    )
 
 addresses-fit-requires : tie.Need-addresses-fit-requires
 addresses-fit-requires c κs = search needs
 
 returns-3 : tie.Need-returns-3
-returns-3 c = rw (← c .before .before .before .before .before .valid-list .ensures, not-false (c .before .before .before .before .before .valid-list .result) (c .before .before .before .before .if1 .left), ← c .before .before .before .settings-sound .ensures, not-false (c .before .before .before .settings-sound .result) (c .before .before .if2 .left), ← c .before .addresses-fit .ensures, not-true (c .before .addresses-fit .result) (c .if3 .taken))
+returns-3 c =
+    let c3 = c .before .before .before in
+    let c4 = c3 .before in
+    let c5 = c4 .before in
+    rw (
+      ← c5 .valid-list .ensures,
+      not-false (c5 .valid-list .result) (c4 .if1 .left),
+      ← c3 .settings-sound .ensures,
+      not-false (c3 .settings-sound .result) (c .before .before .if2 .left),
+      ← c .before .addresses-fit .ensures,
+      not-true
+          (c .before .addresses-fit .result) (c .if3 .taken),
+    )
 
 cells-of-requires : tie.Need-cells-of-requires
 cells-of-requires c κs = search needs
@@ -38,7 +58,23 @@ endpoints-match-requires : tie.Need-endpoints-match-requires
 endpoints-match-requires c κs = search needs
 
 returns-4 : tie.Need-returns-4
-returns-4 c = rw (← c .before .before .before .before .before .before .before .valid-list .ensures, not-false (c .before .before .before .before .before .before .before .valid-list .result) (c .before .before .before .before .before .before .if1 .left), ← c .before .before .before .before .before .settings-sound .ensures, not-false (c .before .before .before .before .before .settings-sound .result) (c .before .before .before .before .if2 .left), ← c .before .before .before .addresses-fit .ensures, not-false (c .before .before .before .addresses-fit .result) (c .before .before .if3 .left), c .endpoints-match .ensures, c .before .cells-of .ensures)
+returns-4 c =
+    let c3 = c .before .before .before in
+    let c4 = c3 .before in
+    let c5 = c4 .before in
+    let c6 = c5 .before in
+    let c7 = c6 .before in
+    rw (
+      ← c7 .valid-list .ensures,
+      not-false (c7 .valid-list .result) (c6 .if1 .left),
+      ← c5 .settings-sound .ensures,
+      not-false (c5 .settings-sound .result) (c4 .if2 .left),
+      ← c3 .addresses-fit .ensures,
+      not-false
+          (c3 .addresses-fit .result) (c .before .before .if3 .left),
+      c .endpoints-match .ensures,
+      c .before .cells-of .ensures,
+    )
 
 pub lists-sound-spec : {M : Type 1} → statement M
 lists-sound-spec =

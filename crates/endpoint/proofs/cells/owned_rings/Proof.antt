@@ -45,14 +45,34 @@ loop-less c = search needs
 
 loop-again : tie.Need-loop-again Inv-loop μ-loop
 unfolding isOwned
-loop-again c = (search needs, write-next _ (c .before .before .before .before .loop .inv .1) (c .before .before .before .loop-test .taken) (rw (← c .before .before .before .before .loop .inv .1 .left (c .before .before .before .before .loop .p) (omega arith), ← c .before .is-owned .ensures, not-true (c .before .is-owned .result) (c .if1 .taken))))
+loop-again c =
+    let c3 = c .before .before .before in
+    let c4 = c3 .before in (
+      search needs,
+      write-next _ (c4 .loop .inv .1) (c3 .loop-test .taken) (rw (
+        ← c4 .loop .inv .1 .left (c4 .loop .p) (omega
+            arith),
+        ← c .before .is-owned .ensures,
+        not-true (c .before .is-owned .result) (c .if1 .taken),
+      )),
+    )
 
 loop-less-2 : tie.Need-loop-less-2 Inv-loop μ-loop
 loop-less-2 c = search needs
 
 loop-again-2 : tie.Need-loop-again-2 Inv-loop μ-loop
 unfolding isOwned
-loop-again-2 c = (search needs, write-keep (c .before .before .before .before .loop .inv .1) (c .before .before .before .loop-test .taken) (rw (← c .before .before .before .before .loop .inv .1 .left (c .before .before .before .before .loop .p) (omega arith), ← c .before .is-owned .ensures, not-false (c .before .is-owned .result) (c .if1 .left))))
+loop-again-2 c =
+    let c3 = c .before .before .before in
+    let c4 = c3 .before in (
+      search needs,
+      write-keep (c4 .loop .inv .1) (c3 .loop-test .taken) (rw (
+        ← c4 .loop .inv .1 .left (c4 .loop .p) (omega
+            arith),
+        ← c .before .is-owned .ensures,
+        not-false (c .before .is-owned .result) (c .if1 .left),
+      )),
+    )
 
 returns : tie.Need-returns Inv-loop μ-loop
 unfolding ownedRings

@@ -54,14 +54,27 @@ loop-less-2 c = search needs
 
 loop-again-2 : tie.Need-loop-again-2 Inv-loop μ-loop
 unfolding isOwned
-loop-again-2 c = (search needs, rw (c .with-cell2 .ensures) (claiming-gone (c .before .before .before .before .before .before .before .loop .inv .1) (c .before .before .before .before .before .before .loop-test .taken) (c .before .before .if1 .left) (sym (c .before .before .before .is-owned .ensures) ∙ c .before .if2 .taken)))
+loop-again-2 c =
+    let c3 = c .before .before .before in
+    let c6 = c3 .before .before .before in
+    let c7 = c6 .before in (
+      search needs,
+      rw (c .with-cell2 .ensures) (claiming-gone (c7 .loop .inv .1) (c6 .loop-test .taken)
+          (c .before .before .if1 .left) (sym (c3 .is-owned .ensures) ∙ c .before .if2 .taken)),
+    )
 
 loop-less-3 : tie.Need-loop-less-3 Inv-loop μ-loop
 loop-less-3 c = search needs
 
 loop-again-3 : tie.Need-loop-again-3 Inv-loop μ-loop
 unfolding isOwned
-loop-again-3 c = (search needs, claiming-keep (c .before .before .before .before .before .before .loop .inv .1) (c .before .before .before .before .before .loop-test .taken) (c .before .if1 .left) (sym (c .before .before .is-owned .ensures) ∙ c .if2 .left))
+loop-again-3 c =
+    let c5 = c .before .before .before .before .before in
+    let c6 = c5 .before in (
+      search needs,
+      claiming-keep (c6 .loop .inv .1) (c5 .loop-test .taken) (c .before .if1 .left) (sym
+          (c .before .before .is-owned .ensures) ∙ c .if2 .left),
+    )
 
 returns : tie.Need-returns Inv-loop μ-loop
 returns c = claiming-done (c .before .loop .inv .1) (c .loop-test .left) (c .before .loop .inv .0)

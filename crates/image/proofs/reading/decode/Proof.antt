@@ -107,14 +107,12 @@ shared-slice-read-t43 c = image-within _ (image (c .before .before .before .befo
 
 returns-2 : tie.Need-returns-2
 returns-2 c =
-    let alternates = c .before .before .before .before in
-    let list = alternates .before .before .before in
-    let endpoints = list .before .before .before .before .before .before .before .before .before .before in
-    let handle = endpoints .before in
-    let test = handle .before .before in
-    read-of (test .before .before .before .args .image .now) (list .list-in .ensures) (endpoints .endpoints-in .ensures)
-    (alternates .before .settings-in .ensures) (alternates .settings-in2 .ensures) (handle-made handle)
-    (c .before .quarantined-in .ensures) (image test)
+    let c4 = c .before .before .before .before in
+    let alternates = c4 in let list = alternates .before .before .before in let endpoints =
+    list .before .before .before .before .before .before .before .before .before .before in let handle = endpoints .before
+    in let test = handle .before .before in read-of (test .before .before .before .args .image .now)
+    (list .list-in .ensures) (endpoints .endpoints-in .ensures) (alternates .before .settings-in .ensures)
+    (alternates .settings-in2 .ensures) (handle-made handle) (c .before .quarantined-in .ensures) (image test)
 
 pub decode-spec : {M : Type 1} → statement M
 decode-spec =

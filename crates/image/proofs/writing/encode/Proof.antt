@@ -38,21 +38,28 @@ fits c =
       n = search needs;
       speed = search needs;
       value = search needs;
-      list = (search needs, below-of (c .args .t1 .list) w32 (λ i. search needs));
-      eps = endpoints-known (c .args .t1 .eps) _ (c .good .0 .1 .1 .1 .1 .1 .1 .1 .1 .1 .1 .1 .0);
-      owners = (search needs, below-of (c .args .t1 .«ep_interfaces») w8 (λ i. search needs));
+      list = (
+        search needs,
+        below-of (c .args .t1 .list) w32 (λ i. search needs),
+      );
+      eps = endpoints-known (c .args .t1 .eps) _
+          (c .good .0 .1 .1 .1 .1 .1 .1 .1 .1 .1 .1 .1 .0);
+      owners = (
+        search needs,
+        below-of (c .args .t1 .«ep_interfaces») w8 (λ
+            i. search needs),
+      );
       interfaces = (search needs, below-of (c .args .t1 .interfaces) w8 (λ i. search needs));
-      alternates = (search needs, below-of (c .args .t1 .alternates) w8 (λ i. search needs));
+      alternates =
+          (search needs, below-of (c .args .t1 .alternates) w8 (λ i. search needs));
       quarantined = search needs;
     }
 
 -- The length after the last call.
 room : (c : tie.After-slice-known4 Inv-loop μ-loop) → length (c .before .before .put-quarantined .last .0) ≡ 514
 room c =
-    let last = c .before .before in
-    let settings = last .before .before .before .before in
-    let endpoints = settings .before .before .before .before in
-    omega (
+    let last = c .before .before in let settings = last .before .before .before .before in let endpoints =
+    settings .before .before .before .before in omega (
       arith,
       last .put-quarantined .kept .0,
       settings .put-settings .kept .0,
@@ -182,17 +189,14 @@ revoked-made c = ⊎-elim (λ w. rw (w .1 .given .1) (w .2)) (λ w. rw (w .1 .gi
 
 returns-2 : tie.Need-returns-2 Inv-loop μ-loop
 returns-2 c =
-    let last = c .before .before .before in
-    let settings = last .before .before .before .before in
-    let endpoints = settings .before .before .before .before in
-    let exit = endpoints .before .before .before .before .before .before .before in
-    let turn = exit .before .loop .inv in
-    let start = exit .before .before .before .before in
-    let f : Fits (start .args .t1) = fits start in (
-      encoded (start .args .t1) f (start .args .image .now) (turn .0)
-          (sym (turn .4 ∙ rest-all _ _ _ _ (omega (arith, turn .2, exit .loop-test .left))))
-          (endpoints .put-endpoints .ensures) (settings .put-settings .ensures) (last .put-quarantined .ensures)
-          (revoked-made c),
+    let c3 = c .before .before .before in
+    let last = c3 in let settings = last .before .before .before .before in let endpoints =
+    settings .before .before .before .before in let exit = endpoints .before .before .before .before .before .before .before
+    in let turn = exit .before .loop .inv in let start = exit .before .before .before .before in let f : Fits
+    (start .args .t1) = fits start in (
+      encoded (start .args .t1) f (start .args .image .now) (turn .0) (sym (turn .4 ∙
+          rest-all _ _ _ _ (omega (arith, turn .2, exit .loop-test .left)))) (endpoints .put-endpoints .ensures)
+          (settings .put-settings .ensures) (last .put-quarantined .ensures) (revoked-made c),
       λ e. f,
     )
 

@@ -44,14 +44,31 @@ loop-less c = search needs
 
 loop-again : tie.Need-loop-again Inv-loop μ-loop
 unfolding isFound
-loop-again c = (search needs, sound-next _ _ _ (c .before .before .before .before .before .before .loop .i) (c .before .before .before .before .before .before .loop .inv .1) (sym (c .before .before .before .before .is-held .ensures _) ∙ c .before .before .before .if1 .left) (rw (← c .before .before .find-interface-endpoints .ensures, c .enum-told .given .1)))
+loop-again c =
+    let c3 = c .before .before .before in
+    let c4 = c3 .before in
+    let c6 = c4 .before .before in (
+      search needs,
+      sound-next _ _ _ (c6 .loop .i) (c6 .loop .inv .1) (sym (c4 .is-held .ensures _) ∙ c3 .if1 .left) (rw (
+        ←
+            c .before .before .find-interface-endpoints .ensures,
+        c .enum-told .given .1,
+      )),
+    )
 
 enum-told-2 : tie.Need-enum-told-2 Inv-loop μ-loop
 enum-told-2 c = search needs
 
 returns-2 : tie.Need-returns-2 Inv-loop μ-loop
 unfolding isFound
-returns-2 c = sym (sound-lost _ _ _ _ (c .before .before .before .before .before .before .loop .i) (c .before .before .before .before .before .loop-test .taken) (rw (← c .before .before .find-interface-endpoints .ensures, c .enum-told2 .given .1)))
+returns-2 c =
+    let c5 = c .before .before .before .before .before in
+    let c6 = c5 .before in
+    sym (sound-lost _ _ _ _ (c6 .loop .i) (c5 .loop-test .taken) (rw (
+      ←
+          c .before .before .find-interface-endpoints .ensures,
+      c .enum-told2 .given .1,
+    )))
 
 returns-3 : tie.Need-returns-3 Inv-loop μ-loop
 returns-3 c = let e : c .before .loop .i ≡ c .before .before .before .args .n = omega (arith, c .before .loop .inv .0, c .loop-test .left) in sym (rw (← e) (c .before .loop .inv .1))

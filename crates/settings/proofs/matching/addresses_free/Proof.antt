@@ -47,30 +47,45 @@ element-copy-out-if3 : tie.Need-element-copy-out-if3 Inv-loop μ-loop
 element-copy-out-if3 c = search needs
 
 returns : tie.Need-returns Inv-loop μ-loop
-returns c = let own = eqb (getD (c .before .before .before .before .before .before .before .before .before .before .before .args .t3 .owners) (c .before .before .before .before .before .place-of .result) 0) (c .before .before .before .before .before .before .before .before .before .before .before .args .interface) in
-    let e : own ≡ false = not-true own (c .if3 .taken) in
-    sym
-    (c .before .before .before .before .before .before .before .before .before .loop .inv
-    ∙ free-next _ _ _ (c .before .before .before .before .before .before .before .before .before .loop .i) (c .before .before .before .before .before .place-of .result) (c .before .before .before .before .before .before .before .before .loop-test .taken) (c .before .before .before .before .before .place-of .ensures .0 ∙ rw (c .before .before .before .before .before .before .endpoint-descriptor .ensures)) (c .before .before .before .before .if1 .taken)
-    ∙ rw (ne-eqb _ _ (c .before .before .if2 .taken), e))
+returns c =
+    let c4 = c .before .before .before .before in
+    let c5 = c4 .before in
+    let c6 = c5 .before in
+    let c8 = c6 .before .before in
+    let c9 = c8 .before in
+    let c11 = c9 .before .before in
+    let own = eqb (getD (c11 .args .t3 .owners) (c5 .place-of .result) 0) (c11 .args .interface) in let e : own ≡ false =
+    not-true own (c .if3 .taken) in sym (c9 .loop .inv ∙ free-next _ _ _ (c9 .loop .i) (c5 .place-of .result)
+    (c8 .loop-test .taken) (c5 .place-of .ensures .0 ∙ rw (c6 .endpoint-descriptor .ensures)) (c4 .if1 .taken) ∙ rw (
+      ne-eqb
+          _ _ (c .before .before .if2 .taken),
+      e,
+    ))
 
 loop-less : tie.Need-loop-less Inv-loop μ-loop
 loop-less c = search needs
 
 loop-again : tie.Need-loop-again Inv-loop μ-loop
-loop-again c = let own = eqb (getD (c .before .before .before .before .before .before .before .before .before .args .t3 .owners) (c .before .before .before .place-of .result) 0) (c .before .before .before .before .before .before .before .before .before .args .interface) in
-    let n =
-    c .before .before .before .before .before .before .before .loop .inv
-    ∙ free-next _ _ _ (c .before .before .before .before .before .before .before .loop .i) (c .before .before .before .place-of .result) (c .before .before .before .before .before .before .loop-test .taken) (c .before .before .before .place-of .ensures .0 ∙ rw (c .before .before .before .before .endpoint-descriptor .ensures)) (c .before .before .if1 .taken)
-    in
-    ⊎-elim (λ w. let e : own ≡ true = not-false own (w .2 .left) in n ∙ rw (ne-eqb _ _ (w .0 .taken), e)) (λ w. n ∙ rw (eq-eqb _ _ (w .left))) (c .if2 .came)
+loop-again c =
+    let c3 = c .before .before .before in
+    let c4 = c3 .before in
+    let c6 = c4 .before .before in
+    let c7 = c6 .before in
+    let c9 = c7 .before .before in
+    let own = eqb (getD (c9 .args .t3 .owners) (c3 .place-of .result) 0) (c9 .args .interface) in let n = c7 .loop .inv ∙
+    free-next _ _ _ (c7 .loop .i) (c3 .place-of .result) (c6 .loop-test .taken) (c3 .place-of .ensures .0 ∙ rw
+    (c4 .endpoint-descriptor .ensures)) (c .before .before .if1 .taken) in ⊎-elim (λ w. let e : own ≡ true = not-false own
+    (w .2 .left) in n ∙ rw (ne-eqb _ _ (w .0 .taken), e)) (λ w. n ∙ rw (eq-eqb _ _ (w .left))) (c .if2 .came)
 
 loop-less-2 : tie.Need-loop-less-2 Inv-loop μ-loop
 loop-less-2 c = search needs
 
 loop-again-2 : tie.Need-loop-again-2 Inv-loop μ-loop
-loop-again-2 c = c .before .before .before .before .before .loop .inv
-    ∙ free-skip _ _ _ (c .before .before .before .before .before .loop .i) (c .before .place-of .result) (c .before .before .before .before .loop-test .taken) (c .before .place-of .ensures .0 ∙ rw (c .before .before .endpoint-descriptor .ensures)) (c .if1 .left)
+loop-again-2 c =
+    let c4 = c .before .before .before .before in
+    let c5 = c4 .before in
+    c5 .loop .inv ∙ free-skip _ _ _ (c5 .loop .i) (c .before .place-of .result) (c4 .loop-test .taken)
+    (c .before .place-of .ensures .0 ∙ rw (c .before .before .endpoint-descriptor .ensures)) (c .if1 .left)
 
 returns-2 : tie.Need-returns-2 Inv-loop μ-loop
 returns-2 c = sym (c .before .loop .inv ∙ free-none _ _ _ (c .before .loop .i) (c .loop-test .left))

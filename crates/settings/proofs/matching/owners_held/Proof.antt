@@ -39,13 +39,33 @@ is-held-requires : tie.Need-is-held-requires Inv-loop μ-loop
 is-held-requires c κs = search needs
 
 returns : tie.Need-returns Inv-loop μ-loop
-returns c = λ ys. sym (c .before .before .before .before .before .before .loop .inv .1 ys ∙ each-next _ 30 (c .before .before .before .before .before .before .loop .p) (c .before .before .before .before .before .loop-test .taken) ∙ rw (ne-eqb _ _ (c .before .before .if1 .taken), ← c .before .is-held .ensures ys, not-true (c .before .is-held .result) (c .if2 .taken)))
+returns c =
+    let c5 = c .before .before .before .before .before in
+    let c6 = c5 .before in
+    λ ys. sym (c6 .loop .inv .1 ys ∙ each-next _ 30 (c6 .loop .p) (c5 .loop-test .taken) ∙ rw (
+      ne-eqb _ _
+          (c .before .before .if1 .taken),
+      ← c .before .is-held .ensures ys,
+      not-true (c .before .is-held .result)
+          (c .if2 .taken),
+    ))
 
 loop-less : tie.Need-loop-less Inv-loop μ-loop
 loop-less c = search needs
 
 loop-again : tie.Need-loop-again Inv-loop μ-loop
-loop-again c = (search needs, λ ys. c .before .before .before .before .before .before .loop .inv .1 ys ∙ each-next _ 30 (c .before .before .before .before .before .before .loop .p) (c .before .before .before .before .before .loop-test .taken) ∙ rw (ne-eqb _ _ (c .before .before .if1 .taken), ← c .before .is-held .ensures ys, not-false (c .before .is-held .result) (c .if2 .left)))
+loop-again c =
+    let c5 = c .before .before .before .before .before in
+    let c6 = c5 .before in (
+      search needs,
+      λ ys. c6 .loop .inv .1 ys ∙ each-next _ 30 (c6 .loop .p) (c5 .loop-test .taken) ∙ rw (
+        ne-eqb _ _
+            (c .before .before .if1 .taken),
+        ← c .before .is-held .ensures ys,
+        not-false (c .before .is-held .result)
+            (c .if2 .left),
+      ),
+    )
 
 loop-less-2 : tie.Need-loop-less-2 Inv-loop μ-loop
 loop-less-2 c = search needs

@@ -53,21 +53,28 @@ own-made c =
     ⊎-elim (λ w. rw (ne-eqb _ _ (w .0 .taken)) (w .2)) (λ w. w .1 ∙ rw (eq-eqb _ _ (w .0 .left))) (c .if1 .came)
 
 returns : tie.Need-returns Inv-loop μ-loop
-returns c = let l = c .before .before .before .before .loop in
-    let word = getD (c .before .before .before .before .before .places-of .result) (l .p) false in
-    let own = c .before .if1 .own in
-    let e : Bool·beq word own ≡ false = not-true (Bool·beq word own) (c .if2 .taken) in
-    sym (l .inv .1 ∙ each-next _ 30 (l .p) (c .before .before .before .loop-test .taken) ∙ rw (← own-made (c .before), same-test word own, e))
+returns c =
+    let c3 = c .before .before .before in
+    let c4 = c3 .before in
+    let c5 = c4 .before in
+    let l = c4 .loop in let word = getD (c5 .places-of .result) (l .p) false in let own = c .before .if1 .own in let e :
+    Bool·beq word own ≡ false = not-true (Bool·beq word own) (c .if2 .taken) in sym (l .inv .1 ∙ each-next _ 30 (l .p)
+    (c3 .loop-test .taken) ∙ rw (← own-made (c .before), same-test word own, e))
 
 loop-less : tie.Need-loop-less Inv-loop μ-loop
 loop-less c = search needs
 
 loop-again : tie.Need-loop-again Inv-loop μ-loop
-loop-again c = let l = c .before .before .before .before .loop in
-    let word = getD (c .before .before .before .before .before .places-of .result) (l .p) false in
-    let own = c .before .if1 .own in
-    let e : Bool·beq word own ≡ true = not-false (Bool·beq word own) (c .if2 .left) in
-    (search needs, l .inv .1 ∙ each-next _ 30 (l .p) (c .before .before .before .loop-test .taken) ∙ rw (← own-made (c .before), same-test word own, e))
+loop-again c =
+    let c3 = c .before .before .before in
+    let c4 = c3 .before in
+    let c5 = c4 .before in
+    let l = c4 .loop in let word = getD (c5 .places-of .result) (l .p) false in let own = c .before .if1 .own in let e :
+    Bool·beq word own ≡ true = not-false (Bool·beq word own) (c .if2 .left) in (
+      search needs,
+      l .inv .1 ∙ each-next _ 30
+          (l .p) (c3 .loop-test .taken) ∙ rw (← own-made (c .before), same-test word own, e),
+    )
 
 returns-2 : tie.Need-returns-2 Inv-loop μ-loop
 returns-2 c = sym (c .before .loop .inv .1 ∙ each-none _ 30 (c .before .loop .p) (c .loop-test .left))
