@@ -9,43 +9,22 @@ use Rattle.phase.proofs.prepare_configure.Statement.{statement}
 use Rattle.phase.proofs.prepare_configure.Tie as tie
 
 array-share-prefix-dcis : tie.Need-array-share-prefix-dcis
-array-share-prefix-dcis c =
-    let c7 = c .before .before .before .before .before .before .before in
-    let start = c7 in let known : length (start .args .q .dcis) ≡ 30 = search needs in let few : start .args .q .count ≤
-    length (start .args .q .dcis) = omega (arith, known, start .pre .1 .0) in few
+array-share-prefix-dcis c = let start = c .before .before .before .before .before .before .before in let known : length (start .args .q .dcis) ≡ 30 = search needs in let few : start .args .q .count ≤ length (start .args .q .dcis) = omega (arith, known, start .pre .1 .0) in few
 
 slice-aggregate-prepare-configure-context : tie.Need-slice-aggregate-prepare-configure-context
-slice-aggregate-prepare-configure-context c =
-    let c8 = c .before .before .before .before .before .before .before .before in
-    let start = c8 in let known : length (start .args .q .dcis) ≡ 30 = search needs in let few : start .args .q .count ≤
-    length (start .args .q .dcis) = omega (arith, known, start .pre .1 .0) in sym (length-take-le (start .args .q .count)
-    (start .args .q .dcis) few)
+slice-aggregate-prepare-configure-context c = let start = c .before .before .before .before .before .before .before .before in let known : length (start .args .q .dcis) ≡ 30 = search needs in let few : start .args .q .count ≤ length (start .args .q .dcis) = omega (arith, known, start .pre .1 .0) in sym (length-take-le (start .args .q .count) (start .args .q .dcis) few)
 
 array-share-prefix-rings : tie.Need-array-share-prefix-rings
-array-share-prefix-rings c =
-    let c8 = c .before .before .before .before .before .before .before .before in
-    let start = c8 in let known : length (start .args .q .rings) ≡ 30 = search needs in let few : start .args .q .count ≤
-    length (start .args .q .rings) = omega (arith, known, start .pre .1 .0) in few
+array-share-prefix-rings c = let start = c .before .before .before .before .before .before .before .before in let known : length (start .args .q .rings) ≡ 30 = search needs in let few : start .args .q .count ≤ length (start .args .q .rings) = omega (arith, known, start .pre .1 .0) in few
 
 slice-aggregate-prepare-configure-context-2 : tie.Need-slice-aggregate-prepare-configure-context-2
-slice-aggregate-prepare-configure-context-2 c =
-    let c9 = c .before .before .before .before .before .before .before .before .before in
-    let start = c9 in let known : length (start .args .q .rings) ≡ 30 = search needs in let few : start .args .q .count ≤
-    length (start .args .q .rings) = omega (arith, known, start .pre .1 .0) in sym (length-take-le (start .args .q .count)
-    (start .args .q .rings) few)
+slice-aggregate-prepare-configure-context-2 c = let start = c .before .before .before .before .before .before .before .before .before in let known : length (start .args .q .rings) ≡ 30 = search needs in let few : start .args .q .count ≤ length (start .args .q .rings) = omega (arith, known, start .pre .1 .0) in sym (length-take-le (start .args .q .count) (start .args .q .rings) few)
 
 array-share-prefix-endpoints : tie.Need-array-share-prefix-endpoints
-array-share-prefix-endpoints c =
-    let c9 = c .before .before .before .before .before .before .before .before .before in
-    let start = c9 in let known : length (start .args .all .dcis) ≡ 30 = search needs in let few : start .args .all .count ≤
-    length (start .args .all .dcis) = omega (arith, known, start .pre .1 .1) in few
+array-share-prefix-endpoints c = let start = c .before .before .before .before .before .before .before .before .before in let known : length (start .args .all .dcis) ≡ 30 = search needs in let few : start .args .all .count ≤ length (start .args .all .dcis) = omega (arith, known, start .pre .1 .1) in few
 
 slice-aggregate-prepare-configure-context-3 : tie.Need-slice-aggregate-prepare-configure-context-3
-slice-aggregate-prepare-configure-context-3 c =
-    let c10 = c .before .before .before .before .before .before .before .before .before .before in
-    let start = c10 in let known : length (start .args .all .dcis) ≡ 30 = search needs in let few : start .args .all .count
-    ≤ length (start .args .all .dcis) = omega (arith, known, start .pre .1 .1) in sym (length-take-le
-    (start .args .all .count) (start .args .all .dcis) few)
+slice-aggregate-prepare-configure-context-3 c = let start = c .before .before .before .before .before .before .before .before .before .before in let known : length (start .args .all .dcis) ≡ 30 = search needs in let few : start .args .all .count ≤ length (start .args .all .dcis) = omega (arith, known, start .pre .1 .1) in sym (length-take-le (start .args .all .count) (start .args .all .dcis) few)
 
 prepare-configure-context-requires : tie.Need-prepare-configure-context-requires
 unfolding dcisIn

@@ -9,56 +9,28 @@ use Rattle.phase.proofs.publish_endpoint_routes.Statement.{statement}
 use Rattle.phase.proofs.publish_endpoint_routes.Tie as tie
 
 array-share-prefix-old-dcis : tie.Need-array-share-prefix-old-dcis
-array-share-prefix-old-dcis c =
-    let c6 = c .before .before .before .before .before .before in
-    let start = c6 in let known : length (start .args .old .dcis) ≡ 30 = search needs in let few : start .args .old .count ≤
-    length (start .args .old .dcis) = omega (arith, known, start .pre .0) in few
+array-share-prefix-old-dcis c = let start = c .before .before .before .before .before .before in let known : length (start .args .old .dcis) ≡ 30 = search needs in let few : start .args .old .count ≤ length (start .args .old .dcis) = omega (arith, known, start .pre .0) in few
 
 slice-aggregate-replace-queues : tie.Need-slice-aggregate-replace-queues
-slice-aggregate-replace-queues c =
-    let c7 = c .before .before .before .before .before .before .before in
-    let start = c7 in let known : length (start .args .old .dcis) ≡ 30 = search needs in let few : start .args .old .count ≤
-    length (start .args .old .dcis) = omega (arith, known, start .pre .0) in sym (length-take-le (start .args .old .count)
-    (start .args .old .dcis) few)
+slice-aggregate-replace-queues c = let start = c .before .before .before .before .before .before .before in let known : length (start .args .old .dcis) ≡ 30 = search needs in let few : start .args .old .count ≤ length (start .args .old .dcis) = omega (arith, known, start .pre .0) in sym (length-take-le (start .args .old .count) (start .args .old .dcis) few)
 
 array-share-prefix-old-rings : tie.Need-array-share-prefix-old-rings
-array-share-prefix-old-rings c =
-    let c7 = c .before .before .before .before .before .before .before in
-    let start = c7 in let known : length (start .args .old .rings) ≡ 30 = search needs in let few : start .args .old .count
-    ≤ length (start .args .old .rings) = omega (arith, known, start .pre .0) in few
+array-share-prefix-old-rings c = let start = c .before .before .before .before .before .before .before in let known : length (start .args .old .rings) ≡ 30 = search needs in let few : start .args .old .count ≤ length (start .args .old .rings) = omega (arith, known, start .pre .0) in few
 
 slice-aggregate-replace-queues-2 : tie.Need-slice-aggregate-replace-queues-2
-slice-aggregate-replace-queues-2 c =
-    let c8 = c .before .before .before .before .before .before .before .before in
-    let start = c8 in let known : length (start .args .old .rings) ≡ 30 = search needs in let few : start .args .old .count
-    ≤ length (start .args .old .rings) = omega (arith, known, start .pre .0) in sym (length-take-le
-    (start .args .old .count) (start .args .old .rings) few)
+slice-aggregate-replace-queues-2 c = let start = c .before .before .before .before .before .before .before .before in let known : length (start .args .old .rings) ≡ 30 = search needs in let few : start .args .old .count ≤ length (start .args .old .rings) = omega (arith, known, start .pre .0) in sym (length-take-le (start .args .old .count) (start .args .old .rings) few)
 
 array-share-prefix-new-dcis : tie.Need-array-share-prefix-new-dcis
-array-share-prefix-new-dcis c =
-    let c8 = c .before .before .before .before .before .before .before .before in
-    let start = c8 in let known : length (start .args .new .dcis) ≡ 30 = search needs in let few : start .args .new .count ≤
-    length (start .args .new .dcis) = omega (arith, known, start .pre .1) in few
+array-share-prefix-new-dcis c = let start = c .before .before .before .before .before .before .before .before in let known : length (start .args .new .dcis) ≡ 30 = search needs in let few : start .args .new .count ≤ length (start .args .new .dcis) = omega (arith, known, start .pre .1) in few
 
 slice-aggregate-replace-queues-3 : tie.Need-slice-aggregate-replace-queues-3
-slice-aggregate-replace-queues-3 c =
-    let c9 = c .before .before .before .before .before .before .before .before .before in
-    let start = c9 in let known : length (start .args .new .dcis) ≡ 30 = search needs in let few : start .args .new .count ≤
-    length (start .args .new .dcis) = omega (arith, known, start .pre .1) in sym (length-take-le (start .args .new .count)
-    (start .args .new .dcis) few)
+slice-aggregate-replace-queues-3 c = let start = c .before .before .before .before .before .before .before .before .before in let known : length (start .args .new .dcis) ≡ 30 = search needs in let few : start .args .new .count ≤ length (start .args .new .dcis) = omega (arith, known, start .pre .1) in sym (length-take-le (start .args .new .count) (start .args .new .dcis) few)
 
 array-share-prefix-new-rings : tie.Need-array-share-prefix-new-rings
-array-share-prefix-new-rings c =
-    let c9 = c .before .before .before .before .before .before .before .before .before in
-    let start = c9 in let known : length (start .args .new .rings) ≡ 30 = search needs in let few : start .args .new .count
-    ≤ length (start .args .new .rings) = omega (arith, known, start .pre .1) in few
+array-share-prefix-new-rings c = let start = c .before .before .before .before .before .before .before .before .before in let known : length (start .args .new .rings) ≡ 30 = search needs in let few : start .args .new .count ≤ length (start .args .new .rings) = omega (arith, known, start .pre .1) in few
 
 slice-aggregate-replace-queues-4 : tie.Need-slice-aggregate-replace-queues-4
-slice-aggregate-replace-queues-4 c =
-    let c10 = c .before .before .before .before .before .before .before .before .before .before in
-    let start = c10 in let known : length (start .args .new .rings) ≡ 30 = search needs in let few : start .args .new .count
-    ≤ length (start .args .new .rings) = omega (arith, known, start .pre .1) in sym (length-take-le
-    (start .args .new .count) (start .args .new .rings) few)
+slice-aggregate-replace-queues-4 c = let start = c .before .before .before .before .before .before .before .before .before .before in let known : length (start .args .new .rings) ≡ 30 = search needs in let few : start .args .new .count ≤ length (start .args .new .rings) = omega (arith, known, start .pre .1) in sym (length-take-le (start .args .new .count) (start .args .new .rings) few)
 
 replace-queues-requires : tie.Need-replace-queues-requires
 replace-queues-requires c κs = search needs
