@@ -6,21 +6,21 @@ use mathlib.Core.List.{List, []}
 use lib.ListN.{length, take}
 use Rattle.answer.specs.declared.Check.{Check}
 use Rattle.answer.specs.declared.Check.the-variants.{Pass}
-use Rattle.configuration.specs.Lookup.{findEndpoints}
+use Rattle.descriptor_list.specs.Lookup.{findEndpoints}
 use Rattle.command.specs.Course.{played}
 use Rattle.context.specs.Place.{Spaced}
-use Rattle.endpoint.specs.declared.cells.Cells.{Cells}
-use Rattle.endpoint.specs.declared.cells.Owner.the-variants.{Interface}
-use Rattle.endpoint.specs.declared.pending.Queues.{Queues}
-use Rattle.endpoint.specs.Cells.{claimedCells, withActive, QueuesAs}
-use Rattle.settings.specs.Held.{isFound, settingWords, withSetting}
-use Rattle.settings.proofs.Laws.{with-fits}
-use Rattle.checks.specs.Offer.{offerCheck}
-use Rattle.phase.specs.declared.Ended.{Ended}
-use Rattle.phase.specs.Arrays as arrays
-use Rattle.phase.proofs.Laws.{queues-as, room-as}
-use Rattle.claim.specs.declared.ClaimArgs.{ClaimArgs}
-use Rattle.claim.specs.Claim.{claimOf, claimCourse}
+use Rattle.record_endpoint.specs.declared.cells.Cells.{Cells}
+use Rattle.record_endpoint.specs.declared.cells.Owner.the-variants.{Interface}
+use Rattle.record_endpoint.specs.declared.pending.Queues.{Queues}
+use Rattle.record_endpoint.specs.Cells.{claimedCells, withActive, QueuesAs}
+use Rattle.record_settings.specs.Held.{isFound, settingWords, withSetting}
+use Rattle.record_settings.proofs.Laws.{with-fits}
+use Rattle.record_checks.specs.Offer.{offerCheck}
+use Rattle.course_steps.specs.declared.Ended.{Ended}
+use Rattle.course_steps.specs.Arrays as arrays
+use Rattle.course_steps.proofs.Laws.{queues-as, room-as}
+use Rattle.course_claim.specs.declared.ClaimArgs.{ClaimArgs}
+use Rattle.course_claim.specs.Claim.{claimOf, claimCourse}
 use Rattle.device.specs.declared.record.Device.{Device}
 use Rattle.device.specs.declared.record.Called.{Called}
 use Rattle.device.specs.Device.{listOf, cellsIn, heldOf, quarantinedOf, withCells, withHeld}

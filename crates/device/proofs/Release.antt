@@ -7,17 +7,17 @@ use lib.ListN.{length, take, replicate}
 use Rattle.answer.specs.declared.Check.{Check}
 use Rattle.answer.specs.declared.Check.the-variants.{Pass}
 use Rattle.command.specs.Course.{played}
-use Rattle.endpoint.specs.declared.cells.Owner.the-variants.{Interface}
-use Rattle.endpoint.specs.Order.{PLACES}
-use Rattle.endpoint.specs.declared.cells.Cells.{Cells}
-use Rattle.endpoint.specs.declared.pending.Queues.{Queues}
-use Rattle.endpoint.specs.Cells.{ownedRings, claimedCells, withActive, QueuesAs}
-use Rattle.settings.specs.Held.{alternateOf, settingWords, withoutSetting}
-use Rattle.phase.specs.declared.Ended.{Ended}
-use Rattle.phase.specs.Arrays as arrays
-use Rattle.phase.proofs.Laws.{queues-as}
-use Rattle.release.specs.declared.ReleaseArgs.{ReleaseArgs}
-use Rattle.release.specs.Release.{releaseOf, releaseCourse}
+use Rattle.record_endpoint.specs.declared.cells.Owner.the-variants.{Interface}
+use Rattle.record_endpoint.specs.Order.{PLACES}
+use Rattle.record_endpoint.specs.declared.cells.Cells.{Cells}
+use Rattle.record_endpoint.specs.declared.pending.Queues.{Queues}
+use Rattle.record_endpoint.specs.Cells.{ownedRings, claimedCells, withActive, QueuesAs}
+use Rattle.record_settings.specs.Held.{alternateOf, settingWords, withoutSetting}
+use Rattle.course_steps.specs.declared.Ended.{Ended}
+use Rattle.course_steps.specs.Arrays as arrays
+use Rattle.course_steps.proofs.Laws.{queues-as}
+use Rattle.course_release.specs.declared.ReleaseArgs.{ReleaseArgs}
+use Rattle.course_release.specs.Release.{releaseOf, releaseCourse}
 use Rattle.device.specs.declared.record.Device.{Device}
 use Rattle.device.specs.declared.record.Called.{Called}
 use Rattle.device.specs.Device.{listOf, cellsIn, heldOf, withCells, withHeld}

@@ -8,15 +8,15 @@ use Rattle.answer.specs.Answer.{isAccepted}
 use Rattle.answer.specs.declared.Check.{Check}
 use Rattle.answer.specs.declared.Check.the-variants.{Pass}
 use Rattle.command.specs.Course.{played}
-use Rattle.endpoint.specs.declared.cells.Cells.{Cells}
-use Rattle.endpoint.specs.declared.cells.Owner.the-variants.{Any}
-use Rattle.endpoint.specs.declared.pending.Queues.{Queues}
-use Rattle.endpoint.specs.Cells.{noCells, withActive, QueuesAs}
-use Rattle.phase.specs.declared.Ended.{Ended}
-use Rattle.phase.specs.Arrays as arrays
-use Rattle.phase.proofs.Laws.{queues-as}
-use Rattle.set_configuration.specs.declared.run.SettingsArgs.{SettingsArgs}
-use Rattle.set_configuration.specs.SetConfiguration.{settingsOf, setCourse}
+use Rattle.record_endpoint.specs.declared.cells.Cells.{Cells}
+use Rattle.record_endpoint.specs.declared.cells.Owner.the-variants.{Any}
+use Rattle.record_endpoint.specs.declared.pending.Queues.{Queues}
+use Rattle.record_endpoint.specs.Cells.{noCells, withActive, QueuesAs}
+use Rattle.course_steps.specs.declared.Ended.{Ended}
+use Rattle.course_steps.specs.Arrays as arrays
+use Rattle.course_steps.proofs.Laws.{queues-as}
+use Rattle.course_set_configuration.specs.declared.run.SettingsArgs.{SettingsArgs}
+use Rattle.course_set_configuration.specs.SetConfiguration.{settingsOf, setCourse}
 use Rattle.device.specs.declared.record.Device.{Device}
 use Rattle.device.specs.declared.record.Called.{Called}
 use Rattle.device.specs.Device.{listOf, cellsIn, heldOf, withCells, withHeld, withConfiguration}

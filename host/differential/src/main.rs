@@ -150,7 +150,7 @@ mod tests {
         library_against("original");
     }
 
-    /// What crates/original_bringup and its like replay is what docs/DIFFERENCES.md's command makes.
+    /// What crates/replay_bring_up and its like replay is what docs/DIFFERENCES.md's command makes.
     #[test]
     fn the_stored_sample_is_the_originals() {
         let Some(reference) = runner::layer("original") else {

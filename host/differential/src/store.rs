@@ -1,4 +1,4 @@
-//! A sample of the reference's answers, for crates/original_bringup and its like to replay, one for each call.
+//! A sample of the reference's answers, for crates/replay_bring_up and its like to replay, one for each call.
 //!
 //! Their `stdin` has the calls as numbers, in the order in which the program there reads them; their `stdout` has what
 //! the reference left after each.
