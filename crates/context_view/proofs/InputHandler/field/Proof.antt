@@ -198,4 +198,4 @@ field-spec 𝓤 H 𝓜 𝓖 𝓡 =
     entered 𝓤 H (tripleOf 𝓤 H (𝓖 .A) getter.signature (getter.spec 𝓤 H (𝓖 .A) (𝓜 .mem) (𝓡 .run)))
     (tables 𝓤 H 𝓜 𝓡 code.env .C) (tables 𝓤 H 𝓜 𝓡 code.env .Λ) name code.function (code.unfolded 𝓤 H 𝓜 𝓡)
     (getter-meets 𝓤 H (𝓖 .A) (givenOf 𝓤 H 𝓜 𝓖) (𝓜 .mem) (𝓡 .run) (tablesOf 𝓤 H 𝓜 (tables 𝓤 H 𝓜 𝓡 code.env))
-    (cited 𝓤 H (Callee 𝓤 H (𝓖 .A) (𝓜 .mem) (𝓡 .run)) 𝓜 𝓡 code.env symbol.name symbol.routine code.calls-input-handler·field-in (met 𝓤 H 𝓜 𝓖 𝓡)))
+    (cited 𝓤 H (Callee 𝓤 H (𝓖 .A) (𝓜 .mem) (𝓡 .run)) 𝓜 𝓡 code.env symbol.name symbol.routine code.calls-context-view·field-in (met 𝓤 H 𝓜 𝓖 𝓡)))

@@ -11,7 +11,7 @@ use Rattle.record_settings.specs.Held.{withSetting}
 use Rattle.device.specs.Device.{heldOf, withQuarantined}
 use Rattle.device.specs.Claim.{quarantines}
 use Rattle.device.proofs.Marks.{other-answer}
-use Rattle.device.proofs.Claim.{claim-made}
+use Rattle.device.proofs.ClaimLaws.{claim-made}
 use borrow.Author.Needs.{needs}
 use Rattle.device.proofs.claim.claim_end.Statement.{statement}
 use Rattle.device.proofs.claim.claim_end.Tie as tie

@@ -10,7 +10,7 @@ use Rattle.device.specs.Device.{cellsIn}
 use Rattle.device.specs.SetConfiguration.{setConfiguration}
 use Rattle.device.proofs.Laws.{record-passed}
 use Rattle.device.proofs.Exits.{refused-left}
-use Rattle.device.proofs.SetConfiguration.{set-left}
+use Rattle.device.proofs.SetConfigurationLaws.{set-left}
 use borrow.Author.Needs.{needs}
 use Rattle.device.proofs.record.Device.set_configuration.Statement.{statement}
 use Rattle.device.proofs.record.Device.set_configuration.Tie as tie
