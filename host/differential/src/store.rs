@@ -50,6 +50,18 @@ impl Store {
         self.kept.keys().map(|(name, _)| *name).collect()
     }
 
+    /// The crate that replays the calls of this name.
+    pub fn replay(name: &str) -> &'static str {
+        match name {
+            "bringup" => "replay_bring_up",
+            "claim" => "replay_claim",
+            "release" => "replay_release",
+            "setconfig" => "replay_set_configuration",
+            "hubupdate" => "replay_hub_update",
+            _ => unreachable!("no crate replays {name}"),
+        }
+    }
+
     fn cases(&self, name: &str) -> impl Iterator<Item = &Case> {
         self.kept.iter().filter(move |((of, _), _)| *of == name).flat_map(|(_, kept)| kept)
     }
