@@ -3,3 +3,4 @@ pub mod Cases
 pub mod Computed
 pub mod Distinct
 pub mod Tests
+pub mod Variants
