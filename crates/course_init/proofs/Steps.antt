@@ -12,7 +12,7 @@ use lib.ListN.{length, getD, set}
 use Rattle.laws.proofs.Tests.{not-both}
 use Rattle.descriptor.specs.Word.{configurationValue}
 use Rattle.descriptor_list.specs.Valid.{configurations, validList}
-use Rattle.answer.proofs.Answer as answer-type
+use Rattle.answer.proofs.Numbers.{AnyBut, other-answer}
 use Rattle.answer.specs.declared.Answer.{Answer}
 use Rattle.answer.specs.declared.Answer.the-variants as answer
 use Rattle.answer.specs.Answer.{number, isAccepted}
@@ -48,15 +48,12 @@ first-room s ctx old r n l =
 pub spaced-same : {s m n : ℕ} → Spaced s m → n ≡ m → Spaced s n
 spaced-same r e = rw e r
 
--- Outcomes that are not Done, and answers that are no acceptance, by their places in the enum.
+-- Outcomes that are not Done, and answers that are no acceptance.
 abbrev pub NotDone : Sent → Type 0
 NotDone s = OneOf (1 ∷ 2 ∷ []) (tagOf sent-type.the-type s)
 
-abbrev refusals : List ℕ
-refusals = 1 ∷ 2 ∷ 3 ∷ 4 ∷ 5 ∷ 6 ∷ 7 ∷ 8 ∷ 9 ∷ 10 ∷ 11 ∷ 12 ∷ 13 ∷ 14 ∷ 15 ∷ 16 ∷ 17 ∷ 18 ∷ []
-
 abbrev pub Refused : Answer → Type 0
-Refused a = OneOf refusals (tagOf answer-type.the-type a)
+Refused = AnyBut (0 ∷ [])
 
 not-done : (s : Sent) → NotDone s → isAccepted (answerOf s) ≡ false
 unfolding answerOf number
@@ -65,26 +62,7 @@ not-done (sent.Failed code) h = refl
 not-done sent.Cut h = refl
 
 refused : (a : Answer) → Refused a → isAccepted a ≡ false
-unfolding number
-refused answer.Accepted h = absurd (miss refusals 0 tt h)
-refused answer.ContextLength h = refl
-refused answer.RoutesLength h = refl
-refused answer.LogTooShort h = refl
-refused answer.DescriptorList h = refl
-refused answer.HubChain h = refl
-refused answer.Speed h = refl
-refused answer.ThinkTime h = refl
-refused answer.NotFound h = refl
-refused answer.InvalidParameter h = refl
-refused answer.Rings h = refl
-refused answer.SlotLimitReached h = refl
-refused answer.Unusable h = refl
-refused (answer.Failed code) h = refl
-refused answer.InterfaceBroken h = refl
-refused answer.Cut h = refl
-refused answer.ShortHeader h = refl
-refused answer.QueueFull h = refl
-refused answer.InvalidEndpoint h = refl
+refused a h = other-answer (0 ∷ []) 0 a refl h
 
 -- How a part of the code ends.
 module _ (r : Ended) (list ctx routes log : List ℕ) (next : Played Brought) {p : Played Brought} where

@@ -4,17 +4,15 @@ use mathlib.Core.Path.{_≡_, refl, sym, _∙_}
 use mathlib.Core.Logic.{_⊎_, inl, inr}
 use mathlib.Core.Bool.{Bool, true, false, cond}
 use mathlib.Core.List.{List, [], _∷_}
-use types.Run.{OneOf, miss}
+use types.Run.{OneOf}
 use denote.Enum.Declared.{tagOf}
-use borrow.Author.Tests.{ne-eqb}
-use lib.Dec.{eqb}
 use lib.ListN.{length}
 use Rattle.answer.proofs.Answer.{the-type}
+use Rattle.answer.proofs.Numbers.{tag-number, AnyBut, other-answer}
 use Rattle.answer.specs.declared.Answer.{Answer}
-use Rattle.answer.specs.declared.Answer.the-variants.{Accepted, ContextLength, RoutesLength, LogTooShort, DescriptorList, HubChain, Speed, ThinkTime, NotFound, InvalidParameter, Rings, SlotLimitReached, Unusable, Failed, InterfaceBroken, Cut, ShortHeader, QueueFull, InvalidEndpoint}
 use Rattle.answer.specs.declared.Check.{Check}
 use Rattle.answer.specs.declared.Check.the-variants.{Pass, Refuse}
-use Rattle.answer.specs.Answer.{number, isLost}
+use Rattle.answer.specs.Answer.{isLost}
 use Rattle.device.specs.declared.record.Device.{Device}
 use Rattle.device.specs.Device.{unusable}
 use Rattle.device.specs.Left.{Left, refused, marked}
@@ -34,33 +32,6 @@ marked-one a d = go (isLost a)
     go true = inr refl
     go false = inl refl
 
--- an answer's place in the enum is its number
-tag-number : (a : Answer) → tagOf the-type a ≡ number a
-unfolding number
-tag-number Accepted = refl
-tag-number ContextLength = refl
-tag-number RoutesLength = refl
-tag-number LogTooShort = refl
-tag-number DescriptorList = refl
-tag-number HubChain = refl
-tag-number Speed = refl
-tag-number ThinkTime = refl
-tag-number NotFound = refl
-tag-number InvalidParameter = refl
-tag-number Rings = refl
-tag-number SlotLimitReached = refl
-tag-number Unusable = refl
-tag-number (Failed code) = refl
-tag-number InterfaceBroken = refl
-tag-number Cut = refl
-tag-number ShortHeader = refl
-tag-number QueueFull = refl
-tag-number InvalidEndpoint = refl
-
--- an answer of an arm's places has no other number
-pub other-answer : (ks : List ℕ) (k : ℕ) (a : Answer) → (OneOf ks k → ⊥) → OneOf ks (tagOf the-type a) → eqb (number a) k ≡ false
-other-answer ks k a not-k h = ne-eqb (number a) k (λ z. not-k (rw (← z, ← tag-number a) h))
-
 -- 14 and 15 mark it
 pub marked-lost : (a : Answer) (d : Device) → OneOf (14 ∷ 15 ∷ []) (tagOf the-type a) → unusable d ≡ marked a d
 unfolding marked
@@ -68,12 +39,9 @@ marked-lost a d (inl e) = rw (sym (tag-number a) ∙ e)
 marked-lost a d (inr e) = rw (sym (tag-number a) ∙ e)
 
 -- and no other does
-abbrev kept : List ℕ
-kept = 0 ∷ 1 ∷ 2 ∷ 3 ∷ 4 ∷ 5 ∷ 6 ∷ 7 ∷ 8 ∷ 9 ∷ 10 ∷ 11 ∷ 12 ∷ 13 ∷ 16 ∷ 17 ∷ 18 ∷ []
-
-pub marked-kept : (a : Answer) (d : Device) → OneOf kept (tagOf the-type a) → d ≡ marked a d
+pub marked-kept : (a : Answer) (d : Device) → AnyBut (14 ∷ 15 ∷ []) a → d ≡ marked a d
 unfolding marked
-marked-kept a d h = rw (other-answer kept 14 a (miss kept 14 tt) h, other-answer kept 15 a (miss kept 15 tt) h)
+marked-kept a d h = rw (other-answer (14 ∷ 15 ∷ []) 14 a refl h, other-answer (14 ∷ 15 ∷ []) 15 a refl h)
 
 -- what holds of a call that runs after its checks, and of each refusal, holds of the call
 pub on-pass : (P : Left → Type 0) (k : Check) (run : Left) (refuse : Answer → Left) → (k ≡ Pass → P run) →

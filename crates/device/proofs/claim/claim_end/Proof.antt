@@ -1,24 +1,18 @@
-use mathlib.Core.Path.{_≡_, _∙_}
+use mathlib.Core.Path.{_≡_, refl, _∙_}
 use mathlib.Core.Logic.{⊎-elim}
 use mathlib.Core.Bool.{cond}
-use mathlib.Core.List.{List, [], _∷_}
-use Prim.Native.Nat.{ℕ}
+use mathlib.Core.List.{[], _∷_}
 use lib.ListN.{take}
-use types.Run.{miss}
 use borrow.Author.Tests.{not-true, not-false}
 use Rattle.answer.specs.Answer.{number}
+use Rattle.answer.proofs.Numbers.{other-answer}
 use Rattle.record_settings.specs.Held.{withSetting}
 use Rattle.device.specs.Device.{heldOf, withQuarantined}
 use Rattle.device.specs.Claim.{quarantines}
-use Rattle.device.proofs.Marks.{other-answer}
 use Rattle.device.proofs.ClaimLaws.{claim-made}
 use borrow.Author.Needs.{needs}
 use Rattle.device.proofs.claim.claim_end.Statement.{statement}
 use Rattle.device.proofs.claim.claim_end.Tie as tie
-
--- The answers that put nothing in quarantine, by their places in the enum.
-abbrev keys : List ℕ
-keys = 0 ∷ 1 ∷ 2 ∷ 3 ∷ 4 ∷ 5 ∷ 6 ∷ 7 ∷ 8 ∷ 9 ∷ 10 ∷ 11 ∷ 12 ∷ 13 ∷ 15 ∷ 16 ∷ 17 ∷ 18 ∷ []
 
 -- The record before its endpoints and settings are written.
 left :
@@ -37,8 +31,7 @@ left c =
       w .4 .ensures .1,
     )) (⊎-elim (λ w. w .2 ∙ rw (
       not-true (s .args .e .moved) (w .0 .taken),
-      other-answer keys
-          14 (s .args .e .answer) (miss keys 14 tt) (w .1 .keys2),
+      other-answer (14 ∷ []) 14 (s .args .e .answer) refl (w .1 .keys2),
     )) (λ w. w .1 ∙ rw (not-false (s .args .e .moved) (w .0 .left))))
     (c .if1 .came)
 
