@@ -1,15 +1,13 @@
 -- Which command a log word is of.
-use Prim.Native.Nat.{ℕ, zero, suc, _+_, _*_, _^_, _<_}
-use mathlib.Core.Path.{_≡_, refl, sym, _∙_}
-use mathlib.Core.List.{List}
+use Prim.Native.Nat.{ℕ, _+_, _*_, _^_, _<_}
+use mathlib.Core.Path.{_≡_, refl}
 use native.Mathlib.Omega.{arith}
 use lib.Arith.{digits-div}
-use lib.ListN.{length, getD}
 use Rattle.command.specs.declared.Command.{Command}
 use Rattle.command.specs.declared.Command.the-variants as command
 use Rattle.command.specs.declared.Sent.{Sent}
-use Rattle.command.specs.Command.{logWord, operationOf, commandWord, outcomeAt}
-use Rattle.command.specs.Course.{Course, ends, sends, then, words}
+use Rattle.command.specs.Command.{logWord, operationOf, commandWord}
+use Rattle.command.specs.Course.{Course, ends, sends, then}
 
 -- a word of byte operands tells its operation
 pub operation-word : (operation first second : ℕ) → first < 256 → second < 256 →
@@ -63,25 +61,6 @@ operation-command command.ReadConfiguration b = refl
 operation-command command.ReadDevice b = refl
 operation-command (command.ReadConfig index) b = operation-word 11 index 0 b (omega arith)
 
--- operation 3 is Configure, and no other command
-pub configure-operation : (c : Command) → operation c ≡ 3 → c ≡ command.Configure
-unfolding operation
-configure-operation command.Address e = absurd (omega arith)
-configure-operation command.Evaluate e = absurd (omega arith)
-configure-operation command.Configure e = refl
-configure-operation (command.Stop dci) e = absurd (omega arith)
-configure-operation (command.Resume dci) e = absurd (omega arith)
-configure-operation (command.SetInterface interface alternate) e = absurd (omega arith)
-configure-operation (command.SetConfiguration value) e = absurd (omega arith)
-configure-operation command.ReadHeader e = absurd (omega arith)
-configure-operation command.ReadConfiguration e = absurd (omega arith)
-configure-operation command.ReadDevice e = absurd (omega arith)
-configure-operation (command.ReadConfig index) e = absurd (omega arith)
-
--- a word of operation 3 is Configure's
-pub configure-word : (c : Command) → ByteOperands c → operationOf (commandWord c) ≡ 3 → c ≡ command.Configure
-configure-word c b e = configure-operation c (sym (operation-command c b) ∙ e)
-
 -- Every command that a course can send has P.
 unfoldable pub EachCommand : {A : Type 0} → (Command → Type 0) → Course A → Type 0
 EachCommand P (ends a) = Unit {0}
@@ -93,12 +72,3 @@ pub each-then : {A B : Type 0} (P : Command → Type 0) (c : Course A) (f : A �
 unfolding EachCommand then
 each-then P (ends a) f e g = g a
 each-then P (sends c ctx k) f e g = (e .0, λ s. each-then P (k s) f (e .1 s) g)
-
--- each word that a course logs is one of its commands'
-pub each-word : {A : Type 0} (P : Command → Type 0) (o : List ℕ) (n i : ℕ) (c : Course A) → EachCommand P c →
-    i < length (words o n c) → (d : Command) × P d × (getD (words o n c) i 0 ≡ commandWord d)
-unfolding EachCommand words
-each-word P o n i (ends a) e h = absurd (omega arith)
-each-word P o n zero (sends c ctx k) e h = (c, e .0, refl)
-each-word P o n (suc i) (sends c ctx k) e h =
-    each-word P o (n + 1) i (k (outcomeAt o n)) (e .1 (outcomeAt o n)) (omega arith)

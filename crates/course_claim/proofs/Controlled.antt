@@ -21,8 +21,9 @@ use Rattle.transfer.specs.declared.Replaced.{Replaced}
 use Rattle.transfer.specs.declared.Replaced.the-variants as replace
 use Rattle.transfer.specs.Routes.{replaced}
 use Rattle.course_steps.specs.End.{End, stays, answerOf}
-use Rattle.theorem_controller.specs.Controller.{configured}
-use Rattle.theorem_controller.proofs.Laws.{followed, configured-writes, configured-undone, Follows, follows-result, follows-stop, follows-resume, follows-configure, follows-other, Told, told-accepted, told-failed, told-broken, told-cut}
+use Rattle.theorem_controller.specs.Controller.{configured, enabledAfter}
+use Rattle.theorem_controller.proofs.Followed.{followed, Follows, follows-result}
+use Rattle.theorem_controller.proofs.Laws.{configured-writes, configured-undone, follows-stop, follows-resume, follows-configure, follows-other, Told, told-accepted, told-failed, told-broken, told-cut}
 use Rattle.course_claim.specs.Claim.{Claim, claimContext, undoContext, claimPublished, claimPublish, claimSwitchBack, claimUndone, claimUndo, claimSwitch, claimResume, claimConfigure, claimCourse}
 
 module _ (P : Command → Type 0) (a : Claim) where
@@ -116,24 +117,25 @@ module _ (a : Claim) (routes : List ℕ) (d : ℕ) (two : 2 ≤ d) (h : d < 32) 
   undo-configured ctx sp u = configured-undone (a .spacing) ctx sp d two h _ _ _ _ _ _ _ _ _ enabled (u .0) (u .1)
 
   undone-follows : (now : ℕ → Bool) (code : ℕ) (ctx : List ℕ) → (AsHeld → now d ≡ enabled d) →
-      Follows Says now (claimUndone a code ctx routes)
+      Follows enabledAfter Says now (claimUndone a code ctx routes)
   unfolding claimUndone claimSwitchBack Follows Says operation
   undone-follows now code ctx u = go (a .held)
     where
       go : (held : Bool) →
-          Follows Says now
+          Follows enabledAfter Says now
           (cond held (claimSwitchBack a code ctx routes) (ends (stays (answer.Failed code) (length (a .old)) ctx routes)))
-      go true = follows-other Says now _ refl ctx _ _ _ (told-failed u) (λ later. told-broken) told-cut
+      go true =
+          follows-other Says now (command.SetInterface (a .interface) (a .oldAlternate)) refl ctx _ _ _ (told-failed u) (λ later. told-broken) told-cut
       go false = told-failed u
 
   switch-follows : (ctx : List ℕ) → Spaced (a .spacing) (length ctx) →
-      Follows Says (configured (claimContext a ctx) enabled) (claimSwitch a (claimContext a ctx) routes)
+      Follows enabledAfter Says (configured (claimContext a ctx) enabled) (claimSwitch a (claimContext a ctx) routes)
   unfolding claimSwitch claimPublish claimPublished claimUndo Follows Says operation
   switch-follows ctx sp =
       let now : ℕ → Bool = configured (claimContext a ctx) enabled in
       let next : List ℕ = claimContext a ctx in
       let back : List ℕ = undoContext a next in
-      follows-other Says now _ refl next _ _ _ (published (replaced routes (a .slot) (a .old) (a .pending)))
+      follows-other Says now (command.SetInterface (a .interface) (a .alternate)) refl next _ _ _ (published (replaced routes (a .slot) (a .old) (a .pending)))
       (λ code.
       follows-configure Says now back _ _ _ (undone-follows (configured back now) code back (undo-configured ctx sp))
       (λ later. told-broken)
@@ -147,14 +149,14 @@ module _ (a : Claim) (routes : List ℕ) (d : ℕ) (two : 2 ≤ d) (h : d < 32) 
       published replace.InvalidEndpoint = told-broken
       published replace.QueueFull = told-broken
 
-  claim-follows : (ctx : List ℕ) → Spaced (a .spacing) (length ctx) → Follows Says enabled (claimCourse a ctx routes)
+  claim-follows : (ctx : List ℕ) → Spaced (a .spacing) (length ctx) → Follows enabledAfter Says enabled (claimCourse a ctx routes)
   unfolding claimCourse claimConfigure claimResume answerOf orCode Follows Says
   claim-follows ctx sp =
       let dcis : List ℕ = queueDcis (a .old) in
       let next : List ℕ = claimContext a ctx in
       follows-stop Says enabled ctx dcis _
       (λ r.
-      on-sent (Follows Says enabled) (r .sent) _ _ _
+      on-sent (Follows enabledAfter Says enabled) (r .sent) _ _ _
       (λ e.
       follows-configure Says enabled next _ _ _ (switch-follows ctx sp)
       (λ code. follows-resume Says enabled next dcis _ (λ r. resumed code (r .sent)))
@@ -172,15 +174,15 @@ module _ (a : Claim) (ctx routes o : List ℕ) (n : ℕ) (sp : Spaced (a .spacin
   claim-told :
       Told (enabled d) (made a routes d two h enabled) (AsHeld a routes d two h enabled)
       ((result o n (claimCourse a ctx routes)) .answer)
-      (followed o n (claimCourse a ctx routes) enabled d)
+      (followed enabledAfter o n (claimCourse a ctx routes) enabled d)
   unfolding Says
   claim-told =
-      follows-result (Says a routes d two h enabled) o n (claimCourse a ctx routes) enabled
+      follows-result enabledAfter (Says a routes d two h enabled) o n (claimCourse a ctx routes) enabled
       (claim-follows a routes d two h enabled ctx sp)
 
   -- an accepted claim drops the old endpoints and adds the new ones
   pub claim-accepted-enabled : (result o n (claimCourse a ctx routes)) .answer ≡ answer.Accepted →
-      followed o n (claimCourse a ctx routes) enabled d
+      followed enabledAfter o n (claimCourse a ctx routes) enabled d
       ≡ ((enabled d && not (someDci d (a .oldWords))) || someDci d (a .newWords))
   claim-accepted-enabled e = claim-told .accepted e
 
@@ -188,5 +190,5 @@ module _ (a : Claim) (ctx routes o : List ℕ) (n : ℕ) (sp : Spaced (a .spacin
   pub claim-failed-enabled : (code : ℕ) → (result o n (claimCourse a ctx routes)) .answer ≡ answer.Failed code →
       (someDci d (a .oldWords) ≡ true → enabled d ≡ true) →
       (someDci d (a .newWords) ≡ true → someDci d (a .oldWords) ≡ false → enabled d ≡ false) →
-      followed o n (claimCourse a ctx routes) enabled d ≡ enabled d
+      followed enabledAfter o n (claimCourse a ctx routes) enabled d ≡ enabled d
   claim-failed-enabled code e p q = claim-told .failed code e (p, q)

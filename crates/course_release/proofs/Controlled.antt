@@ -21,8 +21,9 @@ use Rattle.transfer.specs.declared.Replaced.{Replaced}
 use Rattle.transfer.specs.declared.Replaced.the-variants as replace
 use Rattle.transfer.specs.Routes.{replaced}
 use Rattle.course_steps.specs.End.{End, configureFailed}
-use Rattle.theorem_controller.specs.Controller.{configured}
-use Rattle.theorem_controller.proofs.Laws.{followed, configured-writes, drops-only, Follows, follows-result, follows-stop, follows-resume, follows-configure, Told, told-accepted, told-failed, told-cut, told-invalid}
+use Rattle.theorem_controller.specs.Controller.{configured, enabledAfter}
+use Rattle.theorem_controller.proofs.Followed.{followed, Follows, follows-result}
+use Rattle.theorem_controller.proofs.Laws.{configured-writes, drops-only, follows-stop, follows-resume, follows-configure, Told, told-accepted, told-failed, told-cut, told-invalid}
 use Rattle.course_release.specs.Release.{Release, releaseContext, releasePublished, releasePublish, releaseResume, releaseConfigure, releaseCourse}
 
 module _ (P : Command → Type 0) (a : Release) where
@@ -71,14 +72,14 @@ module _ (a : Release) (ctx routes : List ℕ) (sp : Spaced (a .spacing) (length
   release-configured =
       configured-writes (a .spacing) ctx sp d two h _ _ _ _ _ _ _ enabled ∙ drops-only (enabled d) (someDci d (a .words))
 
-  release-follows : Follows Says enabled (releaseCourse a ctx routes)
+  release-follows : Follows enabledAfter Says enabled (releaseCourse a ctx routes)
   unfolding releaseCourse releaseConfigure releasePublish releasePublished releaseResume configureFailed Follows Says
   release-follows =
       let dcis : List ℕ = queueDcis (a .old) in
       let next : List ℕ = releaseContext a ctx in
       follows-stop Says enabled ctx dcis _
       (λ r.
-      on-sent (Follows Says enabled) (r .sent) _ _ _
+      on-sent (Follows enabledAfter Says enabled) (r .sent) _ _ _
       (λ e.
       follows-configure Says enabled next _ _ _ (published (replaced routes (a .slot) (a .old) []))
       (λ code. follows-resume Says enabled next dcis _ (λ r. resumed code (r .sent)))
@@ -102,18 +103,18 @@ module _ (a : Release) (ctx routes o : List ℕ) (n : ℕ) (sp : Spaced (a .spac
     (enabled : ℕ → Bool) where
   release-told :
       Told (enabled d) (enabled d && not (someDci d (a .words))) (Unit {0}) ((result o n (releaseCourse a ctx routes)) .answer)
-      (followed o n (releaseCourse a ctx routes) enabled d)
+      (followed enabledAfter o n (releaseCourse a ctx routes) enabled d)
   unfolding Says
   release-told =
-      follows-result (Says a ctx routes sp d two h enabled) o n (releaseCourse a ctx routes) enabled
+      follows-result enabledAfter (Says a ctx routes sp d two h enabled) o n (releaseCourse a ctx routes) enabled
       (release-follows a ctx routes sp d two h enabled)
 
   -- an accepted release drops the endpoints of its setting
   pub release-accepted-enabled : (result o n (releaseCourse a ctx routes)) .answer ≡ answer.Accepted →
-      followed o n (releaseCourse a ctx routes) enabled d ≡ (enabled d && not (someDci d (a .words)))
+      followed enabledAfter o n (releaseCourse a ctx routes) enabled d ≡ (enabled d && not (someDci d (a .words)))
   release-accepted-enabled e = release-told .accepted e
 
   -- a failed one leaves them
   pub release-failed-enabled : (code : ℕ) → (result o n (releaseCourse a ctx routes)) .answer ≡ answer.Failed code →
-      followed o n (releaseCourse a ctx routes) enabled d ≡ enabled d
+      followed enabledAfter o n (releaseCourse a ctx routes) enabled d ≡ enabled d
   release-failed-enabled code e = release-told .failed code e tt

@@ -28,8 +28,8 @@ use Rattle.transfer.specs.declared.Replaced.the-variants as replace
 use Rattle.transfer.specs.Routes.{replaced, withReplaced}
 use Rattle.course_steps.specs.End.{End, stays, moves, configureFailed}
 use Rattle.course_steps.proofs.Laws.{length-dcis}
-use Rattle.theorem_controller.specs.Controller.{isDone, SET-CONFIGURATION, configurationSet}
-use Rattle.theorem_controller.proofs.Done.{isDoneCommand, doneIn, set-done, done-none, done-after}
+use Rattle.theorem_controller.specs.Controller.{isDone, SET-CONFIGURATION, doneWord}
+use Rattle.theorem_controller.proofs.Done.{isDoneCommand, doneIn, done-logged, done-none, done-after}
 use Rattle.course_set_configuration.specs.SetConfiguration.{Settings, dropContext, restoreContext, valueContext, setEvaluate, setPublished, setPublish, setRestored, setRestore, setSwitch, setResume, setConfigure, setCourse}
 
 -- How many words it logs.
@@ -431,13 +431,13 @@ set-operands a ctx routes v d =
 -- the log tells whether its SetConfiguration is done
 pub set-switched : (a : Settings) (routes o ctx : List ℕ) (n : ℕ) → a .value < 256 →
     ((k : ℕ) → getD (queueDcis (a .old)) k 0 < 256) →
-    configurationSet o n (words o n (setCourse a ctx routes)) ≡ doneIn SET-CONFIGURATION o n (setCourse a ctx routes)
-set-switched a routes o ctx n v d = set-done o n (setCourse a ctx routes) (set-operands a ctx routes v d)
+    doneWord SET-CONFIGURATION o n (words o n (setCourse a ctx routes)) ≡ doneIn SET-CONFIGURATION o n (setCourse a ctx routes)
+set-switched a routes o ctx n v d = done-logged SET-CONFIGURATION o n (setCourse a ctx routes) (set-operands a ctx routes v d)
 
 -- where the old routes are there, they are out exactly if the log has a done SetConfiguration
 pub set-out : (a : Settings) (routes o ctx : List ℕ) (n : ℕ) → a .value < 256 →
     ((k : ℕ) → getD (queueDcis (a .old)) k 0 < 256) → replaced routes (a .slot) (a .old) [] ≡ replace.Done →
-    configurationSet o n (words o n (setCourse a ctx routes)) ≡ (result o n (setCourse a ctx routes)) .moved
+    doneWord SET-CONFIGURATION o n (words o n (setCourse a ctx routes)) ≡ (result o n (setCourse a ctx routes)) .moved
 set-out a routes o ctx n v d r =
     let m = set-moved a routes o ctx n in
     set-switched a routes o ctx n v d ∙ both _ _ (λ e. m .out e r) (λ e. m .gone e .0)

@@ -9,20 +9,14 @@ use lib.Dec.{eqb}
 use lib.ListN.{length}
 use Rattle.command.specs.declared.Command.{Command}
 use Rattle.command.specs.declared.Sent.{Sent}
-use Rattle.command.specs.Command.{commandWord, outcomeAt}
+use Rattle.command.specs.Command.{outcomeAt}
 use Rattle.command.specs.Course.{Course, ends, sends, then, words, result}
 use Rattle.command.proofs.Operations.{ByteOperands, operation, operation-command, EachCommand}
-use Rattle.theorem_controller.specs.Controller.{isDone, isDoneWord, SET-CONFIGURATION, configurationSet}
+use Rattle.theorem_controller.specs.Controller.{isDone, doneWord}
 
 -- Whether a command is of an operation, and its outcome done.
 unfoldable pub isDoneCommand : ℕ → Command → Sent → Bool
 isDoneCommand op c s = eqb (operation c) op && isDone s
-
--- the command's word tells it, where operands are bytes
-pub done-word : (op : ℕ) (o : List ℕ) (n : ℕ) (c : Command) → ByteOperands c →
-    isDoneWord op o n (commandWord c) ≡ isDoneCommand op c (outcomeAt o n)
-unfolding isDoneWord isDoneCommand
-done-word op o n c b = rw (operation-command c b)
 
 -- Along these outcomes a command of this operation is done.
 unfoldable pub doneIn : {A : Type 0} → ℕ → List ℕ → ℕ → Course A → Bool
@@ -30,13 +24,13 @@ doneIn op outcomes n (ends a) = false
 doneIn op outcomes n (sends c ctx k) =
     isDoneCommand op c (outcomeAt outcomes n) || doneIn op outcomes (n + 1) (k (outcomeAt outcomes n))
 
--- the log tells whether a SetConfiguration is
-pub set-done : {A : Type 0} (o : List ℕ) (n : ℕ) (c : Course A) → EachCommand ByteOperands c →
-    configurationSet o n (words o n c) ≡ doneIn SET-CONFIGURATION o n c
-unfolding doneIn configurationSet words EachCommand
-set-done o n (ends a) e = refl
-set-done o n (sends c ctx k) e =
-    rw (done-word SET-CONFIGURATION o n c (e .0), set-done o (n + 1) (k (outcomeAt o n)) (e .1 (outcomeAt o n)))
+-- the log tells whether one is
+pub done-logged : {A : Type 0} (op : ℕ) (o : List ℕ) (n : ℕ) (c : Course A) → EachCommand ByteOperands c →
+    doneWord op o n (words o n c) ≡ doneIn op o n c
+unfolding doneIn doneWord isDoneCommand words EachCommand
+done-logged op o n (ends a) e = refl
+done-logged op o n (sends c ctx k) e =
+    rw (operation-command c (e .0), done-logged op o (n + 1) (k (outcomeAt o n)) (e .1 (outcomeAt o n)))
 
 -- Each command is of another operation.
 abbrev pub NoneOf : {A : Type 0} → ℕ → Course A → Type 0
