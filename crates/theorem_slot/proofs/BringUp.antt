@@ -10,6 +10,7 @@ use Rattle.course_init.specs.Reading.{BringUp}
 use Rattle.device_bring_up.specs.BringUp.{noDevice, bringUp}
 use Rattle.device_bring_up.proofs.Laws.{Refusal, Refused, bring-up-full}
 use Rattle.theorem_slot.specs.Call.{Buffers, bringsUp, left}
+use Rattle.theorem_slot.specs.Plain.{begins, effectOf}
 use Rattle.theorem_slot.specs.Theorem.{State, contextCut, called}
 use Rattle.theorem_slot.proofs.Good.{Good, good-same, route-one}
 use Rattle.theorem_slot.proofs.Step.{Mild, observed-refused}
@@ -27,10 +28,10 @@ module _ (slot : ℕ) (before : List ℕ) (s : State) (buffers : Buffers) (a : B
 
   module _ (r : Refused (buffers .ctx) (s .routes) (buffers .log) (bringUp a (buffers .ctx) (s .routes) (buffers .log) (buffers .outcomes))) where
     plain-same : now .plain ≡ s .plain
-    unfolding now called left
+    unfolding now called left effectOf
     plain-same =
         rw (r .count)
-        (observed-refused (bringsUp a) buffers _ (contextCut s (record { asked = bringsUp a; buffers = buffers })) (s .plain) (mild _ (r .answer)))
+        (observed-refused (begins a) buffers _ (contextCut s (record { asked = bringsUp a; buffers = buffers })) (s .plain) (mild _ (r .answer)))
 
     good-refused : Good slot before now
     unfolding now called left noDevice

@@ -34,7 +34,8 @@ use Rattle.record_settings.proofs.Laws.{match-facts, match-unheld}
 use Rattle.theorem_routing.specs.Routing.{Rerouted}
 use Rattle.theorem_routing.proofs.Laws.{each-dci, words-dci, offer-places, offer-routed}
 use Rattle.course_steps.specs.End.{End}
-use Rattle.theorem_controller.proofs.Laws.{followed}
+use Rattle.theorem_controller.specs.Controller.{enabledAfter}
+use Rattle.theorem_controller.proofs.Followed.{followed}
 use Rattle.course_claim.specs.Claim.{claimCourse}
 use Rattle.course_claim.proofs.Laws.{claim-accepted, claim-words, claim-answers, claim-moved, claim-cuts, Refused}
 use Rattle.course_claim.proofs.Controlled.{claim-operands, claim-accepted-enabled, claim-failed-enabled}
@@ -46,8 +47,8 @@ use Rattle.device.specs.Calls.{onCheck}
 use Rattle.device.specs.Claim.{claimCheck, pendingOf, claimIn, claimRecord, claim}
 use Rattle.device.proofs.Laws.{Passed, passed, pass-if}
 use Rattle.device.proofs.Kept.{claim-moves, claim-stays}
-use Rattle.theorem_slot.specs.Call.{Buffers, Asked, claims, left}
-use Rattle.theorem_slot.specs.Plain.{Setting, Plain, plainRoute, isHeldDci, without, settingOf, heldAfter, anew, observed, seen}
+use Rattle.theorem_slot.specs.Call.{Buffers, claims, left}
+use Rattle.theorem_slot.specs.Plain.{Setting, Plain, plainRoute, isHeldDci, without, settingOf, Effect, holds, effectOf, heldAfter, anew, observed, seen}
 use Rattle.theorem_slot.specs.Theorem.{State, cutAt, contextCut, called}
 use Rattle.theorem_slot.proofs.Settings.{last-ring, AllFit, pairs, pairs-append, pairs-without, fit-without, fit-append, alternate-byte}
 use Rattle.theorem_slot.proofs.Good.{Good, Live, live-tells, routed-from, enabled-was, live-here}
@@ -77,8 +78,8 @@ module _ (slot : ℕ) (before : List ℕ) (s : State) (buffers : Buffers) (i a :
   abbrev p : Plain
   p = s .plain
 
-  abbrev asked : Asked
-  asked = claims i a rings
+  abbrev effect : Effect
+  effect = holds i a rings
 
   abbrev newWords : List ℕ
   newWords = settingWords (listOf d) i a
@@ -93,7 +94,7 @@ module _ (slot : ℕ) (before : List ℕ) (s : State) (buffers : Buffers) (i a :
   end = result (buffers .outcomes) 0 course
 
   now : State
-  now = ran s asked buffers (claimRecord d i a rings) course
+  now = ran s effect buffers (claimRecord d i a rings) course
 
   run : List ℕ → Left
   run o = ended (claimRecord d i a rings) (played o 0 course (buffers .log))
@@ -177,7 +178,7 @@ module _ (slot : ℕ) (before : List ℕ) (s : State) (buffers : Buffers) (i a :
 
     accepted-enabled :
         end .answer ≡ answer.Accepted → p .broken ≡ false → p .loose ≡ false → (q : ℕ) → q < 30 →
-        followed (buffers .outcomes) 0 course (p .enabled) (dciAt q)
+        followed enabledAfter (buffers .outcomes) 0 course (p .enabled) (dciAt q)
         ≡ not (eqb (getD ((claimedCells i pending (cellsIn d)) .rings) q 0) 0)
     unfolding end course
     accepted-enabled e b f q h =
@@ -220,10 +221,10 @@ module _ (slot : ℕ) (before : List ℕ) (s : State) (buffers : Buffers) (i a :
 
     failed-enabled :
         (code : ℕ) → end .answer ≡ answer.Failed code → p .broken ≡ false → p .loose ≡ false → (x : ℕ) → 2 ≤ x → x < 32 →
-        followed (buffers .outcomes) 0 course (p .enabled) x ≡ isHeldDci p x
+        followed enabledAfter (buffers .outcomes) 0 course (p .enabled) x ≡ isHeldDci p x
     unfolding end course
     failed-enabled code e b f =
-        each-dci (λ x. followed (buffers .outcomes) 0 course (p .enabled) x ≡ isHeldDci p x)
+        each-dci (λ x. followed enabledAfter (buffers .outcomes) 0 course (p .enabled) x ≡ isHeldDci p x)
         (λ q h.
         claim-failed-enabled (claimIn d i a rings) (buffers .ctx) (s .routes) (buffers .outcomes) 0 spaced (dciAt q) (dci-low q h)
         (dci-high q h) (p .enabled) code e
@@ -273,23 +274,23 @@ module _ (slot : ℕ) (before : List ℕ) (s : State) (buffers : Buffers) (i a :
         ended-good (claim-answers c (buffers .ctx) (s .routes) (buffers .outcomes) 0)
         (claim-moved c (buffers .ctx) (s .routes) (buffers .outcomes) 0 .by-answer)
 
-    run-good : Good slot before (checked s asked buffers Pass run refuse)
+    run-good : Good slot before (checked s effect buffers Pass run refuse)
     unfolding run now anew course
     run-good =
-        rw (checked-ran s asked buffers (claimRecord d i a rings) course refuse (λ b q. refl) few
+        rw (checked-ran s effect buffers (claimRecord d i a rings) course refuse (λ b q. refl) few
         (claim-cuts (claimIn d i a rings) (buffers .ctx) (s .routes)) bytes)
         good-end
 
   pub claim-good : Good slot before (called s (record { asked = claims i a rings; buffers = buffers }))
-  unfolding called contextCut cutAt left claim checked run refuse course
+  unfolding called contextCut cutAt left effectOf claim checked run refuse course
   claim-good =
-      good-checked slot before s asked buffers run (buffers .ctx) (buffers .log) _ (mild-claim d _ _ _ i a rings) g
+      good-checked slot before s effect buffers run (buffers .ctx) (buffers .log) _ (mild-claim d _ _ _ i a rings) g
       (λ k. run-good k (live-here slot before s g (passed d _ _ _ _ k .0 .usable)))
 
   -- With every outcome done it is accepted.
   module _ (k : recordCheck d (length (buffers .ctx)) (length (s .routes)) (length (buffers .log)) (claimCheck d i a rings) ≡ Pass)
       (done : (n : ℕ) → n < 32 → outcomeAt (buffers .outcomes) n ≡ sent.Done) where
-    claimed : left asked buffers d (s .routes) ≡ run (buffers .outcomes)
+    claimed : left (claims i a rings) buffers d (s .routes) ≡ run (buffers .outcomes)
     unfolding left claim run course onCheck
     claimed = rw k refl
 
@@ -303,20 +304,20 @@ module _ (slot : ℕ) (before : List ℕ) (s : State) (buffers : Buffers) (i a :
         (λ n l h. done n (omega (arith, h, queues-fit old)))
         (ap (λ x. replaced (s .routes) x (queuesOf old) (queuesOf pending)) (l .place) ∙ rerouted k l .done))
 
-    pub claim-done : (left asked buffers d (s .routes)) .answer ≡ answer.Accepted
+    pub claim-done : (left (claims i a rings) buffers d (s .routes)) .answer ≡ answer.Accepted
     unfolding run ended played end
     claim-done = ap (λ (x : Left). x .answer) claimed ∙ end-accepted
 
   -- An accepted claim's rings are routed.
   pub claim-routes :
-      (left asked buffers d (s .routes)) .answer ≡ answer.Accepted → (x : ℕ) → x < 32 →
+      (left (claims i a rings) buffers d (s .routes)) .answer ≡ answer.Accepted → (x : ℕ) → x < 32 →
       someDci x (settingWords (p .list) i a) ≡ true → someDci 1 (settingWords (p .list) i a) ≡ false →
-      routeOf ((left asked buffers d (s .routes)) .routes) slot x
+      routeOf ((left (claims i a rings) buffers d (s .routes)) .routes) slot x
       ≡ ringFor x (queues (wordDcis (settingWords (p .list) i a)) rings) 0
-  unfolding called observed anew seen heldAfter number plainRoute settingOf
+  unfolding called effectOf observed anew seen heldAfter number plainRoute settingOf
   claim-routes e x h w z =
       let ws = settingWords (p .list) i a in
-      let next = called s (record { asked = asked; buffers = buffers }) in
+      let next = called s (record { asked = claims i a rings; buffers = buffers }) in
       let held : next .plain .held ≡ without i (p .held) ++ (settingOf (p .list) i a rings ∷ []) = rw e refl in
       let n : eqb x 1 ≡ false = ne-eqb x 1 (λ q. not-both (someDci 1 ws) (rw q at w) z) in
       claim-good .kept .own x h ∙ rw (n, held) (last-ring x (without i (p .held)) (settingOf (p .list) i a rings) (words-dci x ws rings ∙ w))

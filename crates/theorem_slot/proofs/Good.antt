@@ -23,9 +23,9 @@ use Rattle.device.specs.declared.record.Device.{Device}
 use Rattle.device.specs.Device.{listOf, cellsIn, heldOf}
 use Rattle.device.specs.Sound.{sound}
 use Rattle.device.proofs.Facts.{sound-facts}
-use Rattle.theorem_slot.specs.Plain.{Plain, plainRoute, isHeldDci, heldQueues, holds}
+use Rattle.theorem_slot.specs.Plain.{Plain, plainRoute, isHeldDci, heldQueues, hasSetting}
 use Rattle.theorem_slot.specs.Theorem.{State, Kept, Untouched}
-use Rattle.theorem_slot.proofs.Settings.{AllFit, heldAt, held-low, held-names, held-ring, pairs, pairs-holds}
+use Rattle.theorem_slot.proofs.Settings.{AllFit, heldAt, held-low, held-names, held-ring, pairs, pairs-setting}
 
 -- A usable record and the plain slot say the same.
 pub record Live (slot : ℕ) (d : Device) (p : Plain) : Type 0 where
@@ -58,9 +58,9 @@ live-tells slot d p l =
       low = held-low (cellsIn d) (p .held) (l .fits);
     }
   where
-    owned : (q : ℕ) → q < 30 → eqb (getD ((cellsIn d) .rings) q 0) 0 ≡ false → holds (getD ((cellsIn d) .owners) q 0) (p .held) ≡ true
+    owned : (q : ℕ) → q < 30 → eqb (getD ((cellsIn d) .rings) q 0) 0 ≡ false → hasSetting (getD ((cellsIn d) .owners) q 0) (p .held) ≡ true
     owned q h e =
-        pairs-holds (getD ((cellsIn d) .owners) q 0) (p .held)
+        pairs-setting (getD ((cellsIn d) .owners) q 0) (p .held)
         ∙ ap (isHeld (getD ((cellsIn d) .owners) q 0)) (l .held)
         ∙ match-facts (listOf d) (heldOf d) (cellsIn d) (sound-facts d (l .is-sound) .endpoints) .held q h
         (eqb-false (getD ((cellsIn d) .rings) q 0) 0 e)

@@ -16,22 +16,19 @@ use Rattle.command.specs.declared.Command.the-variants as command
 use Rattle.command.specs.Command.{commandWord, outcomeAt}
 use Rattle.command.specs.Course.{words, result, played}
 use Rattle.course_steps.specs.End.{answerOf}
-use Rattle.theorem_controller.specs.Controller.{controlled, isDoneWord}
+use Rattle.theorem_controller.specs.Controller.{controlled, enabledAfter}
 use Rattle.device.specs.Left.{Left, refused, marked}
 use Rattle.device.specs.Calls.{onCheck, hubContext, hubCourse, hubLeft, hubUpdate}
 use Rattle.device.proofs.Facts.{unusable-not}
 use Rattle.device.proofs.Laws.{passed}
-use Rattle.theorem_slot.specs.Call.{Buffers, Asked, updatesHub, left}
-use Rattle.theorem_slot.specs.Plain.{heldAfter, anew, observed, seen}
+use Rattle.theorem_slot.specs.Call.{Buffers, updatesHub, left}
+use Rattle.theorem_slot.specs.Plain.{nothing, effectOf, heldAfter, anew, observed, seen}
 use Rattle.theorem_slot.specs.Theorem.{State, cutAt, contextCut, called}
 use Rattle.theorem_slot.proofs.Good.{Good, Live, good-same, live-or}
 use Rattle.theorem_slot.proofs.Step.{checked, good-checked, mild-hub}
 use Rattle.theorem_slot.proofs.Words.{taken-words}
 
 module _ (slot : ℕ) (before : List ℕ) (s : State) (buffers : Buffers) (ports : ℕ) (multi : Bool) (ns : ℕ) (g : Good slot before s) where
-  abbrev asked : Asked
-  asked = updatesHub ports multi ns
-
   ctx : List ℕ
   ctx = hubContext (s .device) ports multi ns (buffers .ctx)
 
@@ -41,7 +38,7 @@ module _ (slot : ℕ) (before : List ℕ) (s : State) (buffers : Buffers) (ports
       record {
         device = marked a (s .device);
         routes = s .routes;
-        plain = seen asked buffers a (commandWord command.Evaluate ∷ []) (s .plain .enabled) (s .plain);
+        plain = seen nothing buffers a (commandWord command.Evaluate ∷ []) (s .plain .enabled) (s .plain);
       }
 
   live-after :
@@ -67,8 +64,8 @@ module _ (slot : ℕ) (before : List ℕ) (s : State) (buffers : Buffers) (ports
 
   evaluated :
       length (words (buffers .outcomes) 0 (hubCourse ctx)) ≤ length (buffers .log) →
-      checked s asked buffers Pass run refuse ≡ answered (answerOf (outcomeAt (buffers .outcomes) 0))
-  unfolding checked onCheck hubLeft answered seen observed anew played result words hubCourse controlled isDoneWord commandWord run
+      checked s nothing buffers Pass run refuse ≡ answered (answerOf (outcomeAt (buffers .outcomes) 0))
+  unfolding checked onCheck hubLeft answered seen observed anew played result words hubCourse controlled enabledAfter commandWord run
   evaluated h = rw (taken-words (buffers .outcomes) (hubCourse ctx) (buffers .log) h) refl
 
   one-word : length (words (buffers .outcomes) 0 (hubCourse ctx)) ≡ 1
@@ -76,7 +73,7 @@ module _ (slot : ℕ) (before : List ℕ) (s : State) (buffers : Buffers) (ports
   one-word = refl
 
   pub hub-good : Good slot before (called s (record { asked = updatesHub ports multi ns; buffers = buffers }))
-  unfolding called contextCut cutAt left hubUpdate checked run refuse ctx
+  unfolding called contextCut cutAt left effectOf hubUpdate checked run refuse ctx
   hub-good =
-      good-checked slot before s asked buffers run (buffers .ctx) (buffers .log) _ (mild-hub (s .device) _ _ _ ns) g
+      good-checked slot before s nothing buffers run (buffers .ctx) (buffers .log) _ (mild-hub (s .device) _ _ _ ns) g
       (λ e. rw (evaluated (omega (arith, one-word, passed (s .device) _ _ _ _ e .0 .room))) (good-answered (outcomeAt (buffers .outcomes) 0)))

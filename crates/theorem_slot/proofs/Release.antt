@@ -28,7 +28,8 @@ use Rattle.record_settings.proofs.Laws.{match-facts, match-unheld}
 use Rattle.theorem_routing.specs.Routing.{Rerouted}
 use Rattle.theorem_routing.proofs.Laws.{no-queues, release-routed}
 use Rattle.course_steps.specs.End.{End}
-use Rattle.theorem_controller.proofs.Laws.{followed}
+use Rattle.theorem_controller.specs.Controller.{enabledAfter}
+use Rattle.theorem_controller.proofs.Followed.{followed}
 use Rattle.course_release.specs.Release.{releaseCourse}
 use Rattle.course_release.proofs.Laws.{release-words, release-cuts, Gone, Stayed, Says, release-says, OneAnswer, release-answers}
 use Rattle.course_release.proofs.Controlled.{release-operands, release-accepted-enabled, release-failed-enabled}
@@ -39,10 +40,10 @@ use Rattle.device.specs.Check.{recordCheck}
 use Rattle.device.specs.Release.{releaseCheck, releaseIn, releaseRecord, release}
 use Rattle.device.proofs.Laws.{Passed, passed}
 use Rattle.device.proofs.Kept.{release-moves, release-stays}
-use Rattle.theorem_slot.specs.Call.{Buffers, Asked, releases, left}
-use Rattle.theorem_slot.specs.Plain.{Plain, isHeldDci, without, holds, heldAfter, isLoose, anew, seen}
+use Rattle.theorem_slot.specs.Call.{Buffers, releases, left}
+use Rattle.theorem_slot.specs.Plain.{Plain, isHeldDci, without, hasSetting, Effect, endsOne, effectOf, heldAfter, isLoose, anew, seen}
 use Rattle.theorem_slot.specs.Theorem.{State, cutAt, contextCut, called}
-use Rattle.theorem_slot.proofs.Settings.{AllFit, pairs, pairs-holds, pairs-without, fit-without}
+use Rattle.theorem_slot.proofs.Settings.{AllFit, pairs, pairs-setting, pairs-without, fit-without}
 use Rattle.theorem_slot.proofs.Good.{Good, Live, live-tells, routed-from, enabled-was, live-here}
 use Rattle.theorem_slot.proofs.Step.{lost-not, checked, good-checked, mild-release, ran, checked-ran}
 use Rattle.theorem_slot.proofs.Made.{fit-active, now-tells, made-moved, made-same, byte-dcis}
@@ -51,7 +52,7 @@ use Rattle.theorem_slot.proofs.Claimed.{some-place, fits-other, claimed
 -- A course that sent nothing leaves the endpoints as they are.
 silent :
     {A : Type 0} (o : List ℕ) (n : ℕ) (c : Course A) (enabled : ℕ → Bool) → ltb 0 (length (words o n c)) ≡ false →
-    followed o n c enabled ≡ enabled
+    followed enabledAfter o n c enabled ≡ enabled
 unfolding followed words
 silent o n (ends x) enabled e = refl
 silent o n (sends c ctx k) enabled e =
@@ -64,8 +65,8 @@ module _ (slot : ℕ) (before : List ℕ) (s : State) (buffers : Buffers) (i : �
   abbrev p : Plain
   p = s .plain
 
-  abbrev asked : Asked
-  asked = releases i
+  abbrev effect : Effect
+  effect = endsOne i
 
   abbrev none : List ℕ
   none = replicate PLACES 0
@@ -77,7 +78,7 @@ module _ (slot : ℕ) (before : List ℕ) (s : State) (buffers : Buffers) (i : �
   end = result (buffers .outcomes) 0 course
 
   now : State
-  now = ran s asked buffers (releaseRecord d i) course
+  now = ran s effect buffers (releaseRecord d i) course
 
   run : List ℕ → Left
   run o = ended (releaseRecord d i) (played o 0 course (buffers .log))
@@ -133,7 +134,7 @@ module _ (slot : ℕ) (before : List ℕ) (s : State) (buffers : Buffers) (i : �
         end .answer ≡ answer.Accepted → now .plain .broken ≡ false → now .plain .loose ≡ false → (q : ℕ) → q < 30 →
         now .plain .enabled (dciAt q) ≡ not (eqb (getD ((claimedCells i none (cellsIn d)) .rings) q 0) 0)
     unfolding now ran seen isLoose end course
-    accepted-enabled e b f q h = go (decided (holds i (p .held)))
+    accepted-enabled e b f q h = go (decided (hasSetting i (p .held)))
       where
         quiet : p .loose ≡ false
         quiet = or-left-false (p .loose) _ f
@@ -146,18 +147,18 @@ module _ (slot : ℕ) (before : List ℕ) (s : State) (buffers : Buffers) (i : �
         and-yes false = refl
 
         unsent :
-            holds i (p .held) ≡ false →
+            hasSetting i (p .held) ≡ false →
             ltb 0 (length (words (buffers .outcomes) 0 (releaseCourse (releaseIn d i) (buffers .ctx) (s .routes)))) ≡ false
         unsent t =
             let sent = ltb 0 (length (words (buffers .outcomes) 0 (releaseCourse (releaseIn d i) (buffers .ctx) (s .routes)))) in
-            sym (and-yes sent) ∙ (rw t at (or-right-false (p .loose) (sent && not (holds i (p .held))) f))
+            sym (and-yes sent) ∙ (rw t at (or-right-false (p .loose) (sent && not (hasSetting i (p .held))) f))
 
-        as-held : holds i (p .held) ≡ isHeld i (heldOf d)
-        as-held = pairs-holds i (p .held) ∙ ap (isHeld i) (l .held)
+        as-held : hasSetting i (p .held) ≡ isHeld i (heldOf d)
+        as-held = pairs-setting i (p .held) ∙ ap (isHeld i) (l .held)
 
         go :
-            Decided (holds i (p .held)) →
-            followed (buffers .outcomes) 0 (releaseCourse (releaseIn d i) (buffers .ctx) (s .routes)) (p .enabled) (dciAt q)
+            Decided (hasSetting i (p .held)) →
+            followed enabledAfter (buffers .outcomes) 0 (releaseCourse (releaseIn d i) (buffers .ctx) (s .routes)) (p .enabled) (dciAt q)
             ≡ not (eqb (getD ((claimedCells i none (cellsIn d)) .rings) q 0) 0)
         go (inl t) =
             release-accepted-enabled (releaseIn d i) (buffers .ctx) (s .routes) (buffers .outcomes) 0 spaced (dciAt q) (dci-low q h)
@@ -218,7 +219,7 @@ module _ (slot : ℕ) (before : List ℕ) (s : State) (buffers : Buffers) (i : �
 
     failed-enabled :
         (code : ℕ) → end .answer ≡ answer.Failed code → p .broken ≡ false → p .loose ≡ false → (x : ℕ) → 2 ≤ x → x < 32 →
-        followed (buffers .outcomes) 0 course (p .enabled) x ≡ isHeldDci p x
+        followed enabledAfter (buffers .outcomes) 0 course (p .enabled) x ≡ isHeldDci p x
     unfolding end course
     failed-enabled code e b f x two h =
         release-failed-enabled (releaseIn d i) (buffers .ctx) (s .routes) (buffers .outcomes) 0 spaced x two h (p .enabled) code e
@@ -255,15 +256,15 @@ module _ (slot : ℕ) (before : List ℕ) (s : State) (buffers : Buffers) (i : �
         ended-good (release-says (releaseIn d i) (s .routes) (buffers .outcomes) (buffers .ctx) 0)
         (release-answers (releaseIn d i) (s .routes) (buffers .outcomes) (buffers .ctx) 0)
 
-    run-good : Good slot before (checked s asked buffers Pass run refuse)
+    run-good : Good slot before (checked s effect buffers Pass run refuse)
     unfolding run now anew course
     run-good =
-        rw (checked-ran s asked buffers (releaseRecord d i) course refuse (λ b q. refl) few
+        rw (checked-ran s effect buffers (releaseRecord d i) course refuse (λ b q. refl) few
         (release-cuts (releaseIn d i) (buffers .ctx) (s .routes)) bytes)
         good-end
 
   pub release-good : Good slot before (called s (record { asked = releases i; buffers = buffers }))
-  unfolding called contextCut cutAt left release checked run refuse course
+  unfolding called contextCut cutAt left effectOf release checked run refuse course
   release-good =
-      good-checked slot before s asked buffers run (buffers .ctx) (buffers .log) _ (mild-release d _ _ _ i) g
+      good-checked slot before s effect buffers run (buffers .ctx) (buffers .log) _ (mild-release d _ _ _ i) g
       (λ k. run-good k (live-here slot before s g (passed d _ _ _ _ k .0 .usable)))

@@ -32,8 +32,8 @@ use Rattle.record_settings.proofs.Laws.{each-at, match-facts}
 use Rattle.theorem_routing.specs.Routing.{Rerouted}
 use Rattle.theorem_routing.proofs.Laws.{each-dci, no-queues, bare-routed}
 use Rattle.course_steps.specs.End.{End}
-use Rattle.theorem_controller.specs.Controller.{configurationSet}
-use Rattle.theorem_controller.proofs.Laws.{followed}
+use Rattle.theorem_controller.specs.Controller.{SET-CONFIGURATION, enabledAfter, doneWord}
+use Rattle.theorem_controller.proofs.Followed.{followed}
 use Rattle.course_set_configuration.specs.SetConfiguration.{setCourse}
 use Rattle.course_set_configuration.proofs.Laws.{set-words, set-cuts, OneAnswer, Answered, set-answers, set-moved, set-operands, set-out}
 use Rattle.course_set_configuration.proofs.Controlled.{set-accepted-enabled, set-failed-enabled}
@@ -44,8 +44,8 @@ use Rattle.device.specs.Check.{recordCheck}
 use Rattle.device.specs.SetConfiguration.{settingsIn, setRecord, setConfiguration}
 use Rattle.device.proofs.Laws.{Passed, passed}
 use Rattle.device.proofs.Kept.{set-moves, set-stays}
-use Rattle.theorem_slot.specs.Call.{Buffers, Asked, configures, left}
-use Rattle.theorem_slot.specs.Plain.{Plain, heldQueues, isHeldDci, heldAfter, anew, seen}
+use Rattle.theorem_slot.specs.Call.{Buffers, configures, left}
+use Rattle.theorem_slot.specs.Plain.{Plain, heldQueues, isHeldDci, Effect, endsAll, effectOf, heldAfter, anew, seen}
 use Rattle.theorem_slot.specs.Theorem.{State, cutAt, contextCut, called}
 use Rattle.theorem_slot.proofs.Settings.{AllFit, pairs}
 use Rattle.theorem_slot.proofs.Good.{Good, Live, Tells, live-tells, routed-from, enabled-was, live-here}
@@ -130,8 +130,8 @@ module _ (slot : ℕ) (before : List ℕ) (s : State) (buffers : Buffers) (value
   abbrev p : Plain
   p = s .plain
 
-  abbrev asked : Asked
-  asked = configures value
+  abbrev effect : Effect
+  effect = endsAll SET-CONFIGURATION
 
   course : Course End
   course = setCourse (settingsIn d value) (buffers .ctx) (s .routes)
@@ -140,7 +140,7 @@ module _ (slot : ℕ) (before : List ℕ) (s : State) (buffers : Buffers) (value
   end = result (buffers .outcomes) 0 course
 
   now : State
-  now = ran s asked buffers (setRecord d value) course
+  now = ran s effect buffers (setRecord d value) course
 
   run : List ℕ → Left
   run o = ended (setRecord d value) (played o 0 course (buffers .log))
@@ -172,7 +172,7 @@ module _ (slot : ℕ) (before : List ℕ) (s : State) (buffers : Buffers) (value
     allowed = ap (λ x. replaced (s .routes) x (queuesOf rings) []) (l .place) ∙ rerouted .done
 
     -- The held settings end exactly if the settings of the record are moved.
-    log-tells : configurationSet (buffers .outcomes) 0 (words (buffers .outcomes) 0 course) ≡ end .moved
+    log-tells : doneWord SET-CONFIGURATION (buffers .outcomes) 0 (words (buffers .outcomes) 0 course) ≡ end .moved
     unfolding end course settingsIn
     log-tells = set-out (settingsIn d value) (s .routes) (buffers .outcomes) (buffers .ctx) 0 byte (byte-dcis rings) allowed
 
@@ -196,7 +196,7 @@ module _ (slot : ℕ) (before : List ℕ) (s : State) (buffers : Buffers) (value
 
     accepted-enabled :
         end .answer ≡ answer.Accepted → p .broken ≡ false → p .loose ≡ false → (q : ℕ) → q < 30 →
-        followed (buffers .outcomes) 0 course (p .enabled) (dciAt q) ≡ not (eqb (getD (noCells .rings) q 0) 0)
+        followed enabledAfter (buffers .outcomes) 0 course (p .enabled) (dciAt q) ≡ not (eqb (getD (noCells .rings) q 0) 0)
     unfolding end course noCells
     accepted-enabled e b f q h =
         set-accepted-enabled (settingsIn d value) (buffers .ctx) (s .routes) (buffers .outcomes) 0 spaced (dciAt q) (dci-low q h)
@@ -227,7 +227,7 @@ module _ (slot : ℕ) (before : List ℕ) (s : State) (buffers : Buffers) (value
         enabled :
             OneAnswer (end .answer) → p .broken ≡ false → p .loose ≡ false →
             isLost (end .answer) ≡ false → (q : ℕ) → q < 30 →
-            followed (buffers .outcomes) 0 (setCourse (settingsIn d value) (buffers .ctx) (s .routes)) (p .enabled) (dciAt q)
+            followed enabledAfter (buffers .outcomes) 0 (setCourse (settingsIn d value) (buffers .ctx) (s .routes)) (p .enabled) (dciAt q)
             ≡ not (eqb (getD (noCells .rings) q 0) 0)
         enabled (inl e) b f n = accepted-enabled e b f
         enabled (inr (inl (code, e))) b f n = not-both (end .moved) t (w .failed code e)
@@ -237,10 +237,10 @@ module _ (slot : ℕ) (before : List ℕ) (s : State) (buffers : Buffers) (value
 
     failed-enabled :
         (code : ℕ) → end .answer ≡ answer.Failed code → p .broken ≡ false → p .loose ≡ false → (x : ℕ) → 2 ≤ x → x < 32 →
-        followed (buffers .outcomes) 0 course (p .enabled) x ≡ isHeldDci p x
+        followed enabledAfter (buffers .outcomes) 0 course (p .enabled) x ≡ isHeldDci p x
     unfolding end course
     failed-enabled code e b f =
-        each-dci (λ x. followed (buffers .outcomes) 0 course (p .enabled) x ≡ isHeldDci p x)
+        each-dci (λ x. followed enabledAfter (buffers .outcomes) 0 course (p .enabled) x ≡ isHeldDci p x)
         (λ q h.
         set-failed-enabled (settingsIn d value) (buffers .ctx) (s .routes) (buffers .outcomes) 0 spaced (dciAt q) (dci-low q h)
         (dci-high q h) (p .enabled) code e
@@ -262,7 +262,7 @@ module _ (slot : ℕ) (before : List ℕ) (s : State) (buffers : Buffers) (value
         enabled :
             OneAnswer (end .answer) → p .broken ≡ false → p .loose ≡ false →
             isLost (end .answer) ≡ false → (x : ℕ) → 2 ≤ x → x < 32 →
-            followed (buffers .outcomes) 0 (setCourse (settingsIn d value) (buffers .ctx) (s .routes)) (p .enabled) x ≡ isHeldDci p x
+            followed enabledAfter (buffers .outcomes) 0 (setCourse (settingsIn d value) (buffers .ctx) (s .routes)) (p .enabled) x ≡ isHeldDci p x
         enabled (inl e) b f n = not-both (end .moved) (w .accepted e) t
         enabled (inr (inl (code, e))) b f n = failed-enabled code e b f
         enabled (inr (inr (inl e))) b f n = lost-not (end .answer) (rw e refl) n
@@ -288,15 +288,15 @@ module _ (slot : ℕ) (before : List ℕ) (s : State) (buffers : Buffers) (value
         go (inl t) w = moved-good t (w .only) w
         go (inr t) w = stayed-good t (w .only) w
 
-    run-good : Good slot before (checked s asked buffers Pass run refuse)
+    run-good : Good slot before (checked s effect buffers Pass run refuse)
     unfolding run now anew course
     run-good =
-        rw (checked-ran s asked buffers (setRecord d value) course refuse (λ b q. refl) few
+        rw (checked-ran s effect buffers (setRecord d value) course refuse (λ b q. refl) few
         (set-cuts (settingsIn d value) (buffers .ctx) (s .routes)) bytes)
         good-end
 
   pub set-good : Good slot before (called s (record { asked = configures value; buffers = buffers }))
-  unfolding called contextCut cutAt left setConfiguration checked run refuse course
+  unfolding called contextCut cutAt left effectOf setConfiguration checked run refuse course
   set-good =
-      good-checked slot before s asked buffers run (buffers .ctx) (buffers .log) _ (mild-set d _ _ _) g
+      good-checked slot before s effect buffers run (buffers .ctx) (buffers .log) _ (mild-set d _ _ _) g
       (λ k. run-good k (live-here slot before s g (passed d _ _ _ _ k .0 .usable)))

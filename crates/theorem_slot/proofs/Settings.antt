@@ -16,7 +16,7 @@ use Rattle.record_endpoint.specs.declared.cells.Cells.{Cells}
 use Rattle.record_endpoint.specs.declared.cells.Owner.the-variants.{Interface}
 use Rattle.record_settings.specs.Held.{Held, isHeld, alternateOf, withoutSetting}
 use Rattle.theorem_routing.proofs.Laws.{names-append, ringFor-append, ringFor-start}
-use Rattle.theorem_slot.specs.Plain.{Setting, heldQueues, without, holds}
+use Rattle.theorem_slot.specs.Plain.{Setting, heldQueues, without, hasSetting}
 
 -- A setting's queues are those of its interface's endpoints.
 pub record Fits (c : Cells) (s : Setting) : Type 0 where
@@ -45,7 +45,7 @@ eqb-turned a b = go (decided (eqb b a))
 
 -- Endpoint p has a ring, and its owner holds one of the settings.
 abbrev pub heldAt : Cells → ℕ → List Setting → Bool
-heldAt c p ss = not (eqb (getD (c .rings) p 0) 0) && holds (getD (c .owners) p 0) ss
+heldAt c p ss = not (eqb (getD (c .rings) p 0) 0) && hasSetting (getD (c .owners) p 0) ss
 
 owned-turned :
     (c : Cells) (i p : ℕ) → isOwned (Interface i) c p ≡ (not (eqb (getD (c .rings) p 0) 0) && eqb i (getD (c .owners) p 0))
@@ -63,12 +63,12 @@ and-false false = refl
 -- The endpoints that the held settings name.
 pub held-names :
     (c : Cells) (ss : List Setting) (p : ℕ) → AllFit c ss → p < 30 → names (dciAt p) (heldQueues ss) ≡ heldAt c p ss
-unfolding AllFit heldQueues holds names
+unfolding AllFit heldQueues hasSetting names
 held-names c [] p f h = sym (and-false (not (eqb (getD (c .rings) p 0) 0)))
 held-names c (s ∷ ss) p f h =
     names-append (dciAt p) (s .queues) (heldQueues ss)
     ∙ rw (f .0 .named p h, owned-turned c (s .interface) p, held-names c ss p (f .1) h)
-    (and-or (not (eqb (getD (c .rings) p 0) 0)) (eqb (s .interface) (getD (c .owners) p 0)) (holds (getD (c .owners) p 0) ss))
+    (and-or (not (eqb (getD (c .rings) p 0) 0)) (eqb (s .interface) (getD (c .owners) p 0)) (hasSetting (getD (c .owners) p 0) ss))
 
 -- One setting leaves its endpoints their rings.
 one-ring :
@@ -88,13 +88,13 @@ one-ring c s p v f h =
 pub held-ring :
     (c : Cells) (ss : List Setting) (p v : ℕ) → AllFit c ss → p < 30 →
     ringFor (dciAt p) (heldQueues ss) v ≡ cond (heldAt c p ss) (getD (c .rings) p 0) v
-unfolding AllFit heldQueues holds ringFor
+unfolding AllFit heldQueues hasSetting ringFor
 held-ring c [] p v f h = rw (and-false (not (eqb (getD (c .rings) p 0) 0)))
 held-ring c (s ∷ ss) p v f h =
     ringFor-append (dciAt p) (s .queues) (heldQueues ss) v
     ∙ held-ring c ss p (ringFor (dciAt p) (s .queues) v) (f .1) h
     ∙ rw (one-ring c s p v (f .0) h, owned-turned c (s .interface) p)
-    (go (not (eqb (getD (c .rings) p 0) 0)) (eqb (s .interface) (getD (c .owners) p 0)) (holds (getD (c .owners) p 0) ss))
+    (go (not (eqb (getD (c .rings) p 0) 0)) (eqb (s .interface) (getD (c .owners) p 0)) (hasSetting (getD (c .owners) p 0) ss))
   where
     go :
         (a b k : Bool) →
@@ -124,10 +124,10 @@ unfoldable pub pairs : List Setting → List Held
 pairs [] = []
 pairs (s ∷ ss) = record { interface = s .interface; alternate = s .alternate } ∷ pairs ss
 
-pub pairs-holds : (i : ℕ) (ss : List Setting) → holds i ss ≡ isHeld i (pairs ss)
-unfolding pairs holds isHeld
-pairs-holds i [] = refl
-pairs-holds i (s ∷ ss) = rw (pairs-holds i ss)
+pub pairs-setting : (i : ℕ) (ss : List Setting) → hasSetting i ss ≡ isHeld i (pairs ss)
+unfolding pairs hasSetting isHeld
+pairs-setting i [] = refl
+pairs-setting i (s ∷ ss) = rw (pairs-setting i ss)
 
 pub pairs-append : (x y : List Setting) → pairs (x ++ y) ≡ pairs x ++ pairs y
 unfolding pairs
@@ -148,11 +148,11 @@ pairs-without i (s ∷ ss) = go (eqb (s .interface) i) (pairs-without i ss)
     go false e = rw e
 
 -- An interface without a setting loses none.
-pub without-none : (i : ℕ) (ss : List Setting) → holds i ss ≡ false → without i ss ≡ ss
-unfolding without holds
+pub without-none : (i : ℕ) (ss : List Setting) → hasSetting i ss ≡ false → without i ss ≡ ss
+unfolding without hasSetting
 without-none i [] e = refl
 without-none i (s ∷ ss) e =
-    let n : (eqb (s .interface) i ≡ false) × (holds i ss ≡ false) = or-none (eqb (s .interface) i) (holds i ss) e in
+    let n : (eqb (s .interface) i ≡ false) × (hasSetting i ss ≡ false) = or-none (eqb (s .interface) i) (hasSetting i ss) e in
     rw (n .0, without-none i ss (n .1))
 
 -- Settings that fit some endpoints fit others where each does.

@@ -25,8 +25,8 @@ use Rattle.device.specs.Sound.{sound}
 use Rattle.command.specs.Course.{Course, words, result, played, CutEnds}
 use Rattle.command.proofs.Operations.{ByteOperands, EachCommand}
 use Rattle.course_steps.specs.End.{End}
-use Rattle.theorem_controller.specs.Controller.{controlled, configurationSet}
-use Rattle.theorem_controller.proofs.Laws.{followed, controlled-course}
+use Rattle.theorem_controller.specs.Controller.{controlled, enabledAfter, doneWord}
+use Rattle.theorem_controller.proofs.Followed.{followed, controlled-course}
 use Rattle.device.specs.declared.record.Device.{Device}
 use Rattle.device.specs.Left.{Left, refused, ended}
 use Rattle.record_checks.specs.Think.{isThought}
@@ -34,8 +34,8 @@ use Rattle.device.specs.Check.{recordCheck, hubCheck}
 use Rattle.device.specs.Calls.{onCheck}
 use Rattle.device.specs.Claim.{claimCheck}
 use Rattle.device.specs.Release.{releaseCheck}
-use Rattle.theorem_slot.specs.Call.{Buffers, Asked, bringsUp, claims, releases, configures, updatesHub}
-use Rattle.theorem_slot.specs.Plain.{Plain, heldAfter, isLoose, anew, seen, observed}
+use Rattle.theorem_slot.specs.Call.{Buffers}
+use Rattle.theorem_slot.specs.Plain.{Plain, Effect, begins, holds, endsOne, endsAll, nothing, heldAfter, isLoose, anew, seen, observed}
 use Rattle.theorem_slot.specs.Theorem.{State}
 use Rattle.theorem_slot.proofs.Words.{taken-words}
 use Rattle.theorem_slot.proofs.Good.{Good}
@@ -109,79 +109,79 @@ pub mild-set : (d : Device) (ctx routes log : ℕ) → MildCheck (recordCheck d 
 mild-set d ctx routes log = mild-record d ctx routes log Pass mild-pass
 
 -- A refused call logs nothing, and the plain slot stays.
-quiet : Asked → List ℕ → Plain → Bool → Bool → Plain
-quiet asked outcomes p accepted broken =
-    anew asked accepted
+quiet : Effect → List ℕ → Plain → Bool → Bool → Plain
+quiet effect outcomes p accepted broken =
+    anew effect accepted
     (record {
       control = p .control;
       list = p .list;
-      held = heldAfter asked accepted outcomes [] (p .list) (p .held);
+      held = heldAfter effect accepted outcomes [] (p .list) (p .held);
       enabled = p .enabled;
       broken = p .broken || broken;
-      loose = p .loose || isLoose asked [] (p .held);
+      loose = p .loose || isLoose effect [] (p .held);
     })
 
-quiet-same : (asked : Asked) (outcomes : List ℕ) (p : Plain) → quiet asked outcomes p false false ≡ p
-unfolding quiet anew heldAfter isLoose configurationSet
-quiet-same (bringsUp b) outcomes p = rw (or-false (p .broken), or-false (p .loose)) refl
-quiet-same (claims i x r) outcomes p = rw (or-false (p .broken), or-false (p .loose)) refl
-quiet-same (releases i) outcomes p = rw (or-false (p .broken), or-false (p .loose)) refl
-quiet-same (configures v) outcomes p = rw (or-false (p .broken), or-false (p .loose)) refl
-quiet-same (updatesHub x y z) outcomes p = rw (or-false (p .broken), or-false (p .loose)) refl
+quiet-same : (effect : Effect) (outcomes : List ℕ) (p : Plain) → quiet effect outcomes p false false ≡ p
+unfolding quiet anew heldAfter isLoose doneWord
+quiet-same (begins a) outcomes p = rw (or-false (p .broken), or-false (p .loose)) refl
+quiet-same (holds i a rings) outcomes p = rw (or-false (p .broken), or-false (p .loose)) refl
+quiet-same (endsOne i) outcomes p = rw (or-false (p .broken), or-false (p .loose)) refl
+quiet-same (endsAll operation) outcomes p = rw (or-false (p .broken), or-false (p .loose)) refl
+quiet-same nothing outcomes p = rw (or-false (p .broken), or-false (p .loose)) refl
 
 pub observed-refused :
-    (asked : Asked) (buffers : Buffers) (a : Answer) (contexts : ℕ → List ℕ) (p : Plain) → Mild a →
-    observed asked buffers a [] contexts p ≡ p
+    (effect : Effect) (buffers : Buffers) (a : Answer) (contexts : ℕ → List ℕ) (p : Plain) → Mild a →
+    observed effect buffers a [] contexts p ≡ p
 unfolding observed seen controlled quiet
-observed-refused asked buffers a contexts p m =
-    ap (λ x. quiet asked (buffers .outcomes) p x (isLost a)) (m .0)
-    ∙ ap (quiet asked (buffers .outcomes) p false) (m .1)
-    ∙ quiet-same asked (buffers .outcomes) p
+observed-refused effect buffers a contexts p m =
+    ap (λ x. quiet effect (buffers .outcomes) p x (isLost a)) (m .0)
+    ∙ ap (quiet effect (buffers .outcomes) p false) (m .1)
+    ∙ quiet-same effect (buffers .outcomes) p
 
 -- The state after a call that checks, and then runs or refuses.
-unfoldable pub checked : State → Asked → Buffers → Check → (List ℕ → Left) → (Answer → Left) → State
-checked s asked buffers k run refuse =
+unfoldable pub checked : State → Effect → Buffers → Check → (List ℕ → Left) → (Answer → Left) → State
+checked s effect buffers k run refuse =
     let l = onCheck k (run (buffers .outcomes)) refuse in
     record {
       device = l .device;
       routes = l .routes;
       plain =
-          observed asked buffers (l .answer) (take (l .count) (l .log))
+          observed effect buffers (l .answer) (take (l .count) (l .log))
           (λ i. (onCheck k (run (take i (buffers .outcomes))) refuse) .ctx)
           (s .plain);
     }
 
-module _ (slot : ℕ) (before : List ℕ) (s : State) (asked : Asked) (buffers : Buffers) (run : List ℕ → Left) where
+module _ (slot : ℕ) (before : List ℕ) (s : State) (effect : Effect) (buffers : Buffers) (run : List ℕ → Left) where
   -- A call on the record that may be refused with mild answers.
   pub good-checked :
       (ctx log : List ℕ) (k : Check) → MildCheck k → Good slot before s →
-      (k ≡ Pass → Good slot before (checked s asked buffers Pass run (λ a. refused (s .device) a ctx (s .routes) log))) →
-      Good slot before (checked s asked buffers k run (λ a. refused (s .device) a ctx (s .routes) log))
+      (k ≡ Pass → Good slot before (checked s effect buffers Pass run (λ a. refused (s .device) a ctx (s .routes) log))) →
+      Good slot before (checked s effect buffers k run (λ a. refused (s .device) a ctx (s .routes) log))
   unfolding MildCheck checked onCheck refused
   good-checked ctx log Pass m g h = h refl
-  good-checked ctx log (Refuse a) m g h = rw (observed-refused asked buffers a (λ i. ctx) (s .plain) m) g
+  good-checked ctx log (Refuse a) m g h = rw (observed-refused effect buffers a (λ i. ctx) (s .plain) m) g
 
 -- The state that the end of a course makes.
-unfoldable pub ran : State → Asked → Buffers → (End → Device) → Course End → State
-ran s asked buffers made course =
+unfoldable pub ran : State → Effect → Buffers → (End → Device) → Course End → State
+ran s effect buffers made course =
     let r = result (buffers .outcomes) 0 course in
     record {
       device = made r;
       routes = r .routes;
       plain =
-          seen asked buffers (r .answer) (words (buffers .outcomes) 0 course)
-          (followed (buffers .outcomes) 0 course (s .plain .enabled))
+          seen effect buffers (r .answer) (words (buffers .outcomes) 0 course)
+          (followed enabledAfter (buffers .outcomes) 0 course (s .plain .enabled))
           (s .plain);
     }
 
 -- A call that runs a course leaves that state.
 pub checked-ran :
-    (s : State) (asked : Asked) (buffers : Buffers) (made : End → Device) (course : Course End) (refuse : Answer → Left) →
-    ((b : Bool) (p : Plain) → anew asked b p ≡ p) →
+    (s : State) (effect : Effect) (buffers : Buffers) (made : End → Device) (course : Course End) (refuse : Answer → Left) →
+    ((b : Bool) (p : Plain) → anew effect b p ≡ p) →
     length (words (buffers .outcomes) 0 course) ≤ length (buffers .log) →
     CutEnds (λ (e : End). e .ctx) course → EachCommand ByteOperands course →
-    checked s asked buffers Pass (λ o. ended made (played o 0 course (buffers .log))) refuse ≡ ran s asked buffers made course
+    checked s effect buffers Pass (λ o. ended made (played o 0 course (buffers .log))) refuse ≡ ran s effect buffers made course
 unfolding checked onCheck ended ran observed seen played
-checked-ran s asked buffers made course refuse same room cuts bytes =
-    rw (taken-words (buffers .outcomes) course (buffers .log) room, same, controlled-course (λ (e : End). e .ctx) (buffers .outcomes) 0 course (s .plain .enabled) cuts bytes)
+checked-ran s effect buffers made course refuse same room cuts bytes =
+    rw (taken-words (buffers .outcomes) course (buffers .log) room, same, controlled-course enabledAfter (λ (e : End). e .ctx) (buffers .outcomes) 0 course (s .plain .enabled) cuts bytes)
     refl

@@ -9,7 +9,7 @@ use Rattle.answer.specs.Answer.{isAccepted, isLost}
 use Rattle.context.specs.Steps.{wordDcis}
 use Rattle.transfer.specs.Routes.{Queue, queues, ringFor, names}
 use Rattle.record_settings.specs.Held.{settingWords}
-use Rattle.theorem_controller.specs.Controller.{controlled, configurationSet}
+use Rattle.theorem_controller.specs.Controller.{SET-CONFIGURATION, controlled, enabledAfter, doneWord}
 use Rattle.course_init.specs.Reading.{BringUp}
 use Rattle.theorem_slot.specs.Call.{Buffers, Asked, bringsUp, claims, releases, configures, updatesHub}
 
@@ -46,31 +46,50 @@ unfoldable pub without : ℕ → List Setting → List Setting
 without i [] = []
 without i (s ∷ ss) = cond (eqb (s .interface) i) (without i ss) (s ∷ without i ss)
 
-unfoldable pub holds : ℕ → List Setting → Bool
-holds i [] = false
-holds i (s ∷ ss) = eqb (s .interface) i || holds i ss
+unfoldable pub hasSetting : ℕ → List Setting → Bool
+hasSetting i [] = false
+hasSetting i (s ∷ ss) = eqb (s .interface) i || hasSetting i ss
 
 -- The setting of an accepted claim: the alternate that lookup finds, each endpoint word with the ring offered for it.
 unfoldable pub settingOf : List ℕ → ℕ → ℕ → List ℕ → Setting
 settingOf list interface alternate rings =
     record { interface = interface; alternate = alternate; queues = queues (wordDcis (settingWords list interface alternate)) rings }
 
--- What a call's answer, and the words that it logged, say of the held settings.
-unfoldable pub heldAfter : Asked → Bool → List ℕ → List ℕ → List ℕ → List Setting → List Setting
-heldAfter (bringsUp a) accepted outcomes words list held = held
-heldAfter (claims i a rings) accepted outcomes words list held =
-    cond accepted (without i held ++ (settingOf list i a rings ∷ [])) held
-heldAfter (releases i) accepted outcomes words list held = cond accepted (without i held) held
-heldAfter (configures value) accepted outcomes words list held = cond (configurationSet outcomes 0 words) [] held
-heldAfter (updatesHub ports multi ns) accepted outcomes words list held = held
+-- What a call does to the slot, by its arguments.
+pub data Effect : Type 0 where
+  -- accepted, the slot begins anew
+  begins : BringUp → Effect
+  -- accepted, an interface holds an alternate with these rings
+  holds : ℕ → ℕ → List ℕ → Effect
+  -- accepted, an interface holds nothing
+  endsOne : ℕ → Effect
+  -- whatever the answer, no interface holds anything if a command of this operation is done
+  endsAll : ℕ → Effect
+  nothing : Effect
 
--- Whether a call is a release that sent a command though its interface holds no setting.
-unfoldable pub isLoose : Asked → List ℕ → List Setting → Bool
-isLoose (bringsUp a) words held = false
-isLoose (claims i a rings) words held = false
-isLoose (releases i) words held = ltb 0 (length words) && not (holds i held)
-isLoose (configures value) words held = false
-isLoose (updatesHub ports multi ns) words held = false
+unfoldable pub effectOf : Asked → Effect
+effectOf (bringsUp a) = begins a
+effectOf (claims i a rings) = holds i a rings
+effectOf (releases i) = endsOne i
+effectOf (configures value) = endsAll SET-CONFIGURATION
+effectOf (updatesHub ports multi ns) = nothing
+
+-- What a call's answer, and the words that it logged, say of the held settings.
+unfoldable pub heldAfter : Effect → Bool → List ℕ → List ℕ → List ℕ → List Setting → List Setting
+heldAfter (begins a) accepted outcomes words list held = held
+heldAfter (holds i a rings) accepted outcomes words list held =
+    cond accepted (without i held ++ (settingOf list i a rings ∷ [])) held
+heldAfter (endsOne i) accepted outcomes words list held = cond accepted (without i held) held
+heldAfter (endsAll operation) accepted outcomes words list held = cond (doneWord operation outcomes 0 words) [] held
+heldAfter nothing accepted outcomes words list held = held
+
+-- Whether a call would end an interface's setting, and sent a command, though the interface holds none.
+unfoldable pub isLoose : Effect → List ℕ → List Setting → Bool
+isLoose (begins a) words held = false
+isLoose (holds i a rings) words held = false
+isLoose (endsOne i) words held = ltb 0 (length words) && not (hasSetting i held)
+isLoose (endsAll operation) words held = false
+isLoose nothing words held = false
 
 -- A slot whose bring-up was accepted: no held setting, and nothing but control enabled.
 unfoldable pub begun : BringUp → Plain
@@ -85,27 +104,27 @@ begun a =
     }
 
 -- An accepted bring-up begins it anew.
-unfoldable pub anew : Asked → Bool → Plain → Plain
-anew (bringsUp a) accepted p = cond accepted (begun a) p
-anew (claims i a rings) accepted p = p
-anew (releases i) accepted p = p
-anew (configures value) accepted p = p
-anew (updatesHub ports multi ns) accepted p = p
+unfoldable pub anew : Effect → Bool → Plain → Plain
+anew (begins a) accepted p = cond accepted (begun a) p
+anew (holds i a rings) accepted p = p
+anew (endsOne i) accepted p = p
+anew (endsAll operation) accepted p = p
+anew nothing accepted p = p
 
--- The plain slot after a call, from its arguments, its answer, the words that it logged and the endpoints that these leave enabled.
-unfoldable pub seen : Asked → Buffers → Answer → List ℕ → (ℕ → Bool) → Plain → Plain
-seen asked buffers answer words enabled p =
+-- The plain slot after a call, from its effect, its answer, the words that it logged and the endpoints that these leave enabled.
+unfoldable pub seen : Effect → Buffers → Answer → List ℕ → (ℕ → Bool) → Plain → Plain
+seen effect buffers answer words enabled p =
     record {
       control = p .control;
       list = p .list;
-      held = heldAfter asked (isAccepted answer) (buffers .outcomes) words (p .list) (p .held);
+      held = heldAfter effect (isAccepted answer) (buffers .outcomes) words (p .list) (p .held);
       enabled = enabled;
       broken = p .broken || isLost answer;
-      loose = p .loose || isLoose asked words (p .held);
+      loose = p .loose || isLoose effect words (p .held);
     }
 
 -- Its controller reads the words, and the contexts of their commands.
-unfoldable pub observed : Asked → Buffers → Answer → List ℕ → (ℕ → List ℕ) → Plain → Plain
-observed asked buffers answer words contexts p =
-    anew asked (isAccepted answer)
-    (seen asked buffers answer words (controlled contexts (buffers .outcomes) 0 words (p .enabled)) p)
+unfoldable pub observed : Effect → Buffers → Answer → List ℕ → (ℕ → List ℕ) → Plain → Plain
+observed effect buffers answer words contexts p =
+    anew effect (isAccepted answer)
+    (seen effect buffers answer words (controlled enabledAfter contexts (buffers .outcomes) 0 words (p .enabled)) p)

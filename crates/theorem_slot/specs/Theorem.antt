@@ -22,7 +22,7 @@ use Rattle.device.specs.Sound.{sound}
 use Rattle.device.specs.Check.{recordCheck}
 use Rattle.device.specs.Claim.{claimCheck}
 use Rattle.theorem_slot.specs.Call.{Buffers, Asked, bringsUp, claims, releases, configures, updatesHub, Call, left, AllOfSlot}
-use Rattle.theorem_slot.specs.Plain.{Plain, plainRoute, isHeldDci, begun, observed}
+use Rattle.theorem_slot.specs.Plain.{Plain, plainRoute, isHeldDci, effectOf, begun, observed}
 
 -- The record and the table as the calls hand them on, and the plain slot beside them.
 pub record State : Type 0 where
@@ -45,7 +45,7 @@ called s c =
     record {
       device = l .device;
       routes = l .routes;
-      plain = observed (c .asked) (c .buffers) (l .answer) (take (l .count) (l .log)) (contextCut s c) (s .plain);
+      plain = observed (effectOf (c .asked)) (c .buffers) (l .answer) (take (l .count) (l .log)) (contextCut s c) (s .plain);
     }
 
 unfoldable pub after : State → List Call → State
