@@ -104,7 +104,7 @@ module _ (d : Device) (ctx routes log o : List ℕ) (i a : ℕ) (rings : List �
   claim-rerouted =
       let words = settingWords (listOf d) i a in
       let pending = pendingRings words rings in
-      claim-routed routes (d .slot .0) i words pending (cellsIn d) (g .routed)
+      claim-routed routes (d .slot .0) i pending (cellsIn d) words (g .routed)
       (in-table d _ _ _ routes (claim-check .0) refl) (claim-facts .free)
       (λ p h z. not-false (hasPlace p words) (sym (offer-places p h) ∙ ne-eqb (getD pending p 0) 0 z))
 

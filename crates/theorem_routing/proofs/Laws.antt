@@ -29,7 +29,7 @@ use Rattle.record_endpoint.specs.declared.cells.Owner.the-variants.{Interface}
 use Rattle.record_endpoint.proofs.Laws.{dci-place, dci-low, dci-high, owned-at, owned-zero, claimed-ring, pending-at, word-at, wordDcis as endpointDcis, queues-name, queues-other, queues-ring, queues-small}
 use Rattle.record_settings.specs.Match.{hasPlace, addressesFree}
 use Rattle.record_settings.proofs.Laws.{each-at, each-if, pending-place}
-use Rattle.theorem_routing.specs.Routing.{InTable, RoutedBy, Rerouted}
+use Rattle.theorem_routing.specs.Routing.{InTable, RoutedBy, NamedBy, Rerouted}
 
 -- What holds of the Dci at each place holds of each Dci of a device context but 0 and control's.
 pub each-dci : (P : ℕ → Type 0) → ((p : ℕ) → p < 30 → P (dciAt p)) → (d : ℕ) → 2 ≤ d → d < 32 → P d
@@ -79,42 +79,49 @@ module _ (routes : List ℕ) (slot : ℕ) (rings : List ℕ) where
           and-true (isFree routes slot old (queueAt rings a)) (newFree routes slot old qs)
           (h a (omega arith) (eqb-false (getD rings a 0) 0 e)) f
 
--- Some endpoints' queues x replaced by y, where the routes are those of the endpoints.
+-- Some endpoints' queues x replaced by y.
 module _ (routes : List ℕ) (slot : ℕ) (c : Cells) (x y : List ℕ)
-    (r : RoutedBy routes slot c)
-    (part : (p : ℕ) → p < 30 → (getD x p 0 ≡ 0 → ⊥) → getD (c .rings) p 0 ≡ getD x p 0)
-    (free : (p : ℕ) → p < 30 → (getD y p 0 ≡ 0 → ⊥) → getD x p 0 ≡ 0 → getD (c .rings) p 0 ≡ 0) where
-  part-old : oldMatch routes slot (queuesOf x) ≡ true
+    (part : (p : ℕ) → p < 30 → (getD x p 0 ≡ 0 → ⊥) → getD (c .rings) p 0 ≡ getD x p 0) where
+  part-old : NamedBy routes slot c → oldMatch routes slot (queuesOf x) ≡ true
   unfolding queuesOf queueAt
-  part-old = old-from routes slot x 30 0 (omega arith) (λ p h z. r p h ∙ part p h z)
-
-  part-free : (p : ℕ) → p < 30 → (getD y p 0 ≡ 0 → ⊥) → isFree routes slot (queuesOf x) (queueAt y p) ≡ true
-  unfolding isFree queueAt
-  part-free p h z = or-left (eqb route 0 || names (dciAt p) (queuesOf x)) _ (go (decided (eqb (getD x p 0) 0)))
-    where
-      route : ℕ
-      route = routeOf routes slot (dciAt p)
-
-      go : Decided (eqb (getD x p 0) 0) → eqb route 0 || names (dciAt p) (queuesOf x) ≡ true
-      go (inl e) =
-          or-left (eqb route 0) (names (dciAt p) (queuesOf x))
-          (eq-eqb route 0 (r p h ∙ free p h z (eqb-true (getD x p 0) 0 e)))
-      go (inr e) = or-right (eqb route 0) (names (dciAt p) (queuesOf x)) (queues-name x p h ∙ ap not e)
-
-  part-new : newFree routes slot (queuesOf x) (queuesOf y) ≡ true
-  unfolding queuesOf queueAt
-  part-new = new-from routes slot y (queuesOf x) 30 0 (omega arith) part-free
-
-  part-done : replaced routes slot (queuesOf x) (queuesOf y) ≡ replace.Done
-  part-done = done-replaced routes slot (queuesOf x) (queuesOf y) part-old part-new
+  part-old n = old-from routes slot x 30 0 (omega arith) (λ p h z. n p h (λ e. z (sym (part p h z) ∙ e)) ∙ part p h z)
 
   part-at :
-      InTable routes slot → (p : ℕ) → p < 30 →
+      replaced routes slot (queuesOf x) (queuesOf y) ≡ replace.Done → InTable routes slot → (p : ℕ) → p < 30 →
       routeOf (withReplaced routes slot (queuesOf x) (queuesOf y)) slot (dciAt p)
-      ≡ cond (eqb (getD y p 0) 0) (cond (not (eqb (getD x p 0) 0)) 0 (getD (c .rings) p 0)) (getD y p 0)
-  part-at room p h =
-      replaced-at routes slot (queuesOf x) (queuesOf y) (dciAt p) part-done (dci-inside routes slot p room h)
-      ∙ rw (queues-name x p h, r p h) (queues-ring y p _ h)
+      ≡ cond (eqb (getD y p 0) 0) (cond (not (eqb (getD x p 0) 0)) 0 (routeOf routes slot (dciAt p))) (getD y p 0)
+  part-at done room p h =
+      replaced-at routes slot (queuesOf x) (queuesOf y) (dciAt p) done (dci-inside routes slot p room h)
+      ∙ rw (queues-name x p h) (queues-ring y p _ h)
+
+  -- The routes are those of the endpoints.
+  module _ (r : RoutedBy routes slot c)
+      (free : (p : ℕ) → p < 30 → (getD y p 0 ≡ 0 → ⊥) → getD x p 0 ≡ 0 → getD (c .rings) p 0 ≡ 0) where
+    part-free : (p : ℕ) → p < 30 → (getD y p 0 ≡ 0 → ⊥) → isFree routes slot (queuesOf x) (queueAt y p) ≡ true
+    unfolding isFree queueAt
+    part-free p h z = or-left (eqb route 0 || names (dciAt p) (queuesOf x)) _ (go (decided (eqb (getD x p 0) 0)))
+      where
+        route : ℕ
+        route = routeOf routes slot (dciAt p)
+
+        go : Decided (eqb (getD x p 0) 0) → eqb route 0 || names (dciAt p) (queuesOf x) ≡ true
+        go (inl e) =
+            or-left (eqb route 0) (names (dciAt p) (queuesOf x))
+            (eq-eqb route 0 (r p h ∙ free p h z (eqb-true (getD x p 0) 0 e)))
+        go (inr e) = or-right (eqb route 0) (names (dciAt p) (queuesOf x)) (queues-name x p h ∙ ap not e)
+
+    part-new : newFree routes slot (queuesOf x) (queuesOf y) ≡ true
+    unfolding queuesOf queueAt
+    part-new = new-from routes slot y (queuesOf x) 30 0 (omega arith) part-free
+
+    part-done : replaced routes slot (queuesOf x) (queuesOf y) ≡ replace.Done
+    part-done = done-replaced routes slot (queuesOf x) (queuesOf y) (part-old (λ p h z. r p h)) part-new
+
+    part-routed :
+        InTable routes slot → (p : ℕ) → p < 30 →
+        routeOf (withReplaced routes slot (queuesOf x) (queuesOf y)) slot (dciAt p)
+        ≡ cond (eqb (getD y p 0) 0) (cond (not (eqb (getD x p 0) 0)) 0 (getD (c .rings) p 0)) (getD y p 0)
+    part-routed room p h = part-at part-done room p h ∙ rw (r p h)
 
 -- The endpoints of an owner are some of the endpoints.
 owned-part :
@@ -145,33 +152,58 @@ free-none words i c p f h w z =
     go (inr e) (inl d) = eqb-true ring 0 d
     go (inr e) (inr d) = sym (owned-at (Interface i) c p h ∙ rw (d, e)) ∙ z
 
--- A claim of interface i, whose pending rings are at places of its words: its routes are replaced by them.
-module _ (routes : List ℕ) (slot : ℕ) (i : ℕ) (words pending : List ℕ) (c : Cells)
-    (r : RoutedBy routes slot c)
-    (room : InTable routes slot)
-    (free : addressesFree words i c ≡ true)
-    (at : (p : ℕ) → p < 30 → (getD pending p 0 ≡ 0 → ⊥) → hasPlace p words ≡ true) where
-  claim-free :
-      (p : ℕ) → p < 30 → (getD pending p 0 ≡ 0 → ⊥) → getD (ownedRings (Interface i) c) p 0 ≡ 0 → getD (c .rings) p 0 ≡ 0
-  claim-free p h z = free-none words i c p free h (at p h z)
+-- Interface i's queues replaced by pending ones: at each place.
+module _ (routes : List ℕ) (slot : ℕ) (i : ℕ) (pending : List ℕ) (c : Cells) where
+  abbrev old : List ℕ
+  old = ownedRings (Interface i) c
 
-  pub claim-routed :
-      Rerouted routes slot (queuesOf (ownedRings (Interface i) c)) (queuesOf pending) (claimedCells i pending c)
+  claimed-place :
+      (v p : ℕ) → p < 30 →
+      cond (eqb (getD pending p 0) 0) (cond (not (eqb (getD old p 0) 0)) 0 v) (getD pending p 0)
+      ≡ cond (eqb (getD pending p 0) 0) (cond (isOwned (Interface i) c p) 0 v) (getD pending p 0)
+  claimed-place v p h = rw (owned-zero (Interface i) c p h) (go (eqb (getD pending p 0) 0) (isOwned (Interface i) c p))
+    where
+      go : (t o : Bool) → cond t (cond (not (not o)) 0 v) (getD pending p 0) ≡ cond t (cond o 0 v) (getD pending p 0)
+      go t true = refl
+      go t false = refl
+
+  -- Whatever else the slot's words hold.
+  pub claim-named :
+      replaced routes slot (queuesOf old) (queuesOf pending) ≡ replace.Done → NamedBy routes slot c → InTable routes slot →
+      NamedBy (withReplaced routes slot (queuesOf old) (queuesOf pending)) slot (claimedCells i pending c)
   unfolding claimedRing
-  claim-routed =
-      record {
-        done = part-done routes slot c _ pending r (owned-part (Interface i) c) claim-free;
-        routed = λ p h.
-            part-at routes slot c _ pending r (owned-part (Interface i) c) claim-free room p h
-            ∙ rw (owned-zero (Interface i) c p h) (go (eqb (getD pending p 0) 0) (isOwned (Interface i) c p) p)
-            ∙ sym (claimed-ring i pending c p h);
-      }
+  claim-named done n room p h z =
+      part-at routes slot c old pending (owned-part (Interface i) c) done room p h
+      ∙ claimed-place (routeOf routes slot (dciAt p)) p h
+      ∙ go (decided (eqb (getD pending p 0) 0)) (decided (isOwned (Interface i) c p))
+      ∙ sym (claimed-ring i pending c p h)
     where
       go :
-          (t o : Bool) (p : ℕ) →
-          cond t (cond (not (not o)) 0 (getD (c .rings) p 0)) (getD pending p 0) ≡ cond t (cond o 0 (getD (c .rings) p 0)) (getD pending p 0)
-      go t true p = refl
-      go t false p = refl
+          Decided (eqb (getD pending p 0) 0) → Decided (isOwned (Interface i) c p) →
+          cond (eqb (getD pending p 0) 0) (cond (isOwned (Interface i) c p) 0 (routeOf routes slot (dciAt p))) (getD pending p 0)
+          ≡ cond (eqb (getD pending p 0) 0) (cond (isOwned (Interface i) c p) 0 (getD (c .rings) p 0)) (getD pending p 0)
+      go (inr t) o = rw t
+      go (inl t) (inl o) = rw (t, o)
+      go (inl t) (inr o) = rw (t, o) (n p h (λ e. z (claimed-ring i pending c p h ∙ rw (t, o) e)))
+
+  -- The pending rings of a claim are at places of its words, and its addresses free.
+  module _ (words : List ℕ) (r : RoutedBy routes slot c)
+      (room : InTable routes slot)
+      (free : addressesFree words i c ≡ true)
+      (at : (p : ℕ) → p < 30 → (getD pending p 0 ≡ 0 → ⊥) → hasPlace p words ≡ true) where
+    claim-free : (p : ℕ) → p < 30 → (getD pending p 0 ≡ 0 → ⊥) → getD old p 0 ≡ 0 → getD (c .rings) p 0 ≡ 0
+    claim-free p h z = free-none words i c p free h (at p h z)
+
+    pub claim-routed : Rerouted routes slot (queuesOf old) (queuesOf pending) (claimedCells i pending c)
+    unfolding claimedRing
+    claim-routed =
+        record {
+          done = part-done routes slot c old pending (owned-part (Interface i) c) r claim-free;
+          routed = λ p h.
+              part-routed routes slot c old pending (owned-part (Interface i) c) r claim-free room p h
+              ∙ claimed-place (getD (c .rings) p 0) p h
+              ∙ sym (claimed-ring i pending c p h);
+        }
 
 -- No rings are no queues.
 pub no-queues : queuesOf (replicate PLACES 0) ≡ []
@@ -182,13 +214,29 @@ no-words : (i : ℕ) (c : Cells) → addressesFree [] i c ≡ true
 unfolding addressesFree hasPlace
 no-words i c = each-if _ (λ p l. refl)
 
+-- Queues taken out, where they are routed.
+module _ (routes : List ℕ) (slot : ℕ) (c : Cells) (n : NamedBy routes slot c) where
+  out-done :
+      (x : List ℕ) → ((p : ℕ) → p < 30 → (getD x p 0 ≡ 0 → ⊥) → getD (c .rings) p 0 ≡ getD x p 0) →
+      replaced routes slot (queuesOf x) [] ≡ replace.Done
+  unfolding newFree
+  out-done x part = done-replaced routes slot (queuesOf x) [] (part-old routes slot c x [] part n) refl
+
+  -- An interface's, by a release.
+  pub release-done : (i : ℕ) → replaced routes slot (queuesOf (ownedRings (Interface i) c)) [] ≡ replace.Done
+  release-done i = out-done (ownedRings (Interface i) c) (owned-part (Interface i) c)
+
+  -- All, by a set configuration.
+  pub bare-done : replaced routes slot (queuesOf (c .rings)) [] ≡ replace.Done
+  bare-done = out-done (c .rings) (λ p h z. refl)
+
 module _ (routes : List ℕ) (slot : ℕ) (c : Cells) (r : RoutedBy routes slot c) (room : InTable routes slot) where
   -- A release takes the interface's routes out.
   pub release-routed :
       (i : ℕ) → Rerouted routes slot (queuesOf (ownedRings (Interface i) c)) [] (claimedCells i (replicate PLACES 0) c)
   release-routed i =
       rw (← no-queues)
-      (claim-routed routes slot i [] (replicate PLACES 0) c r room (no-words i c) (λ p h z. absurd (z (getD-replicate 30 p 0 0 h))))
+      (claim-routed routes slot i (replicate PLACES 0) c [] r room (no-words i c) (λ p h z. absurd (z (getD-replicate 30 p 0 0 h))))
 
   -- A set configuration takes all out.
   pub bare-routed : Rerouted routes slot (queuesOf (c .rings)) [] noCells
@@ -196,9 +244,9 @@ module _ (routes : List ℕ) (slot : ℕ) (c : Cells) (r : RoutedBy routes slot 
   bare-routed =
       rw (← no-queues)
       (record {
-        done = part-done routes slot c (c .rings) (replicate 30 0) r (λ p h z. refl) (λ p h z e. e);
+        done = part-done routes slot c (c .rings) (replicate 30 0) (λ p h z. refl) r (λ p h z e. e);
         routed = λ p h.
-            part-at routes slot c (c .rings) (replicate 30 0) r (λ p h z. refl) (λ p h z e. e) room p h
+            part-routed routes slot c (c .rings) (replicate 30 0) (λ p h z. refl) r (λ p h z e. e) room p h
             ∙ rw (none p h) (go p (decided (eqb (getD (c .rings) p 0) 0)));
       })
     where
@@ -336,7 +384,7 @@ pub offer-routed :
     offerOk (length words) rings (c .rings) control quarantined ≡ true →
     Rerouted routes slot (queuesOf (ownedRings (Interface i) c)) (queuesOf (pendingRings words rings)) (claimedCells i (pendingRings words rings) c)
 offer-routed routes slot i words rings control quarantined c r room free offer =
-    claim-routed routes slot i words (pendingRings words rings) c r room free
+    claim-routed routes slot i (pendingRings words rings) c words r room free
     (λ p h z.
     not-false (hasPlace p words)
     (sym (offer-places words rings (c .rings) control quarantined offer p h) ∙ ne-eqb (getD (pendingRings words rings) p 0) 0 z))

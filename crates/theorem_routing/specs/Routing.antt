@@ -16,6 +16,11 @@ InTable routes slot = 32 * slot + 32 ≤ length routes
 abbrev pub RoutedBy : List ℕ → ℕ → Cells → Type 0
 RoutedBy routes slot c = (p : ℕ) → p < PLACES → routeOf routes slot (dciAt p) ≡ getD (c .rings) p 0
 
+-- Where one of the endpoints is, its ring; the slot's other words may hold anything.
+abbrev pub NamedBy : List ℕ → ℕ → Cells → Type 0
+NamedBy routes slot c =
+    (p : ℕ) → p < PLACES → (getD (c .rings) p 0 ≡ 0 → ⊥) → routeOf routes slot (dciAt p) ≡ getD (c .rings) p 0
+
 -- `replace_queues` finds the old routes right and the new ones free, and leaves the routes of these endpoints.
 pub record Rerouted (routes : List ℕ) (slot : ℕ) (old new : List Queue) (c : Cells) : Type 0 where
   pub done : replaced routes slot old new ≡ replace.Done

@@ -1,24 +1,30 @@
 -- A bring-up of a slot that was brought up is refused, and keeps the invariant.
 use Prim.Native.Nat.{ℕ}
-use mathlib.Core.Path.{_≡_, sym, _∙_, ap}
+use mathlib.Core.Path.{_≡_, refl, sym, _∙_, ap}
 use mathlib.Core.List.{List}
+use mathlib.Core.Bool.{false}
 use mathlib.Core.Logic.{inl}
-use native.Mathlib.Omega.{arith}
 use Rattle.transfer.specs.Routes.{routeOf}
 use Rattle.answer.specs.declared.Answer.{Answer}
 use Rattle.course_init.specs.Reading.{BringUp}
 use Rattle.device_bring_up.specs.BringUp.{noDevice, bringUp}
 use Rattle.device_bring_up.proofs.Laws.{Refusal, Refused, bring-up-full}
+use Rattle.device.specs.Sound.{placeSound, sound}
 use Rattle.theorem_slot.specs.Call.{Buffers, bringsUp, left}
 use Rattle.theorem_slot.specs.Plain.{begins, effectOf}
 use Rattle.theorem_slot.specs.Theorem.{State, contextCut, called}
-use Rattle.theorem_slot.proofs.Good.{Good, good-same, route-one}
+use Rattle.theorem_slot.proofs.Good.{Good, good-same}
 use Rattle.theorem_slot.proofs.Step.{Mild, observed-refused}
+
+-- What a refused bring-up returns is no sound record.
+no-device : sound noDevice ≡ false
+unfolding noDevice sound placeSound
+no-device = refl
 
 module _ (slot : ℕ) (before : List ℕ) (s : State) (buffers : Buffers) (a : BringUp) (same : a .slot ≡ slot) (g : Good slot before s) where
   -- control's route is there
   full : routeOf (s .routes) (a .slot) 1 ≡ 0 → ⊥
-  full e = g .control (sym (route-one (s .plain)) ∙ sym (g .kept .own 1 (omega arith)) ∙ (rw same at e))
+  full e = g .control (sym (g .first) ∙ (rw same at e))
 
   now : State
   now = called s (record { asked = bringsUp a; buffers = buffers })
@@ -39,8 +45,8 @@ module _ (slot : ℕ) (before : List ℕ) (s : State) (buffers : Buffers) (a : B
         good-same slot before s now g (r .table) (ap (λ p. p .control) plain-same) (ap (λ p. p .held) plain-same)
         (λ b f d two h.
         ap (λ p. p .enabled d) plain-same
-        ∙ g .kept .enabled (sym (ap (λ p. p .broken) plain-same) ∙ b) (sym (ap (λ p. p .loose) plain-same) ∙ f) d two h)
-        (inl (ap (λ d. d .usable) (r .device)))
+        ∙ g .enabled (sym (ap (λ p. p .broken) plain-same) ∙ b) (sym (ap (λ p. p .loose) plain-same) ∙ f) d two h)
+        (inl (ap (λ d. d .usable) (r .device), ap sound (r .device) ∙ no-device))
 
   pub bring-up-good : Good slot before (called s (record { asked = bringsUp a; buffers = buffers }))
   unfolding now

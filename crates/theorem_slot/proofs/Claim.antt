@@ -1,5 +1,5 @@
 -- A claim keeps the invariant.
-use Prim.Native.Nat.{ℕ, _+_, _≤_, _<_}
+use Prim.Native.Nat.{ℕ, _≤_, _<_}
 use mathlib.Core.Path.{_≡_, refl, sym, _∙_, ap}
 use mathlib.Core.Bool.{true, false, not, cond}
 use mathlib.Core.List.{List, [], _∷_, _++_}
@@ -23,6 +23,7 @@ use Rattle.command.proofs.Operations.{ByteOperands, EachCommand}
 use Rattle.context_block.specs.Promises.{someDci}
 use Rattle.context.specs.Place.{Spaced}
 use Rattle.context.specs.Steps.{wordDcis}
+use Rattle.transfer.specs.declared.Replaced.the-variants as replace
 use Rattle.transfer.specs.Routes.{routeOf, queues, ringFor, replaced, withReplaced}
 use Rattle.record_endpoint.specs.Order.{dciAt}
 use Rattle.record_endpoint.specs.Cells.{isOwned, ownedRings, queuesOf, pendingRings, claimedCells, withActive}
@@ -31,8 +32,8 @@ use Rattle.record_endpoint.proofs.Laws.{queues-fit, dci-low, dci-high}
 use Rattle.record_settings.specs.Held.{isHeld, alternateOf, isFound, settingWords, withSetting}
 use Rattle.record_settings.specs.Match.{hasPlace, addressesFree}
 use Rattle.record_settings.proofs.Laws.{match-facts, match-unheld}
-use Rattle.theorem_routing.specs.Routing.{Rerouted}
-use Rattle.theorem_routing.proofs.Laws.{each-dci, words-dci, offer-places, offer-routed}
+use Rattle.theorem_routing.specs.Routing.{NamedBy, Rerouted}
+use Rattle.theorem_routing.proofs.Laws.{each-dci, words-dci, claim-named, offer-places, offer-routed}
 use Rattle.course_steps.specs.End.{End}
 use Rattle.theorem_controller.specs.Controller.{enabledAfter}
 use Rattle.theorem_controller.proofs.Followed.{followed}
@@ -51,9 +52,9 @@ use Rattle.theorem_slot.specs.Call.{Buffers, claims, left}
 use Rattle.theorem_slot.specs.Plain.{Setting, Plain, plainRoute, isHeldDci, without, settingOf, Effect, holds, effectOf, heldAfter, anew, observed, seen}
 use Rattle.theorem_slot.specs.Theorem.{State, cutAt, contextCut, called}
 use Rattle.theorem_slot.proofs.Settings.{last-ring, AllFit, pairs, pairs-append, pairs-without, fit-without, fit-append, alternate-byte}
-use Rattle.theorem_slot.proofs.Good.{Good, Live, live-tells, routed-from, enabled-was, live-here}
+use Rattle.theorem_slot.proofs.Good.{Live, Unrouted, Good, live-tells, routed-from, named-from, enabled-was, live-here}
 use Rattle.theorem_slot.proofs.Step.{accepted-not, lost-not, checked, good-checked, mild-claim, ran, checked-ran}
-use Rattle.theorem_slot.proofs.Made.{fit-active, now-tells, made-moved, made-same, byte-dcis}
+use Rattle.theorem_slot.proofs.Made.{fit-active, made-moved, made-same, byte-dcis}
 use Rattle.theorem_slot.proofs.Claimed.{some-place, owned-ring, free-ring, fits-other, fits-own, pending-free, claimed-some}
 
 -- What the check of a claim says, as tests.
@@ -141,13 +142,21 @@ module _ (slot : ℕ) (before : List ℕ) (s : State) (buffers : Buffers) (i a :
     places : (q : ℕ) → q < 30 → eqb (getD pending q 0) 0 ≡ not (hasPlace q newWords)
     places = offer-places newWords rings ((cellsIn d) .rings) (d .control) (quarantinedOf d) (tests .offer)
 
-    rerouted :
-        Rerouted (s .routes) slot (queuesOf (ownedRings (Interface i) (cellsIn d))) (queuesOf pending)
-        (claimedCells i pending (cellsIn d))
-    rerouted =
+    abbrev old : List ℕ
+    old = ownedRings (Interface i) (cellsIn d)
+
+    rerouted : Unrouted before slot → Rerouted (s .routes) slot (queuesOf old) (queuesOf pending) (claimedCells i pending (cellsIn d))
+    rerouted u =
         offer-routed (s .routes) slot i newWords rings (d .control) (quarantinedOf d) (cellsIn d)
-        (routed-from slot (s .routes) p (cellsIn d) (g .kept .own) (live-tells slot d p l)) (rw (g .long) (g .room)) (tests .free)
+        (routed-from slot (s .routes) p (cellsIn d) (g .own u) (live-tells slot d p l)) (rw (g .long) (g .room)) (tests .free)
         (tests .offer)
+
+    named :
+        replaced (s .routes) slot (queuesOf old) (queuesOf pending) ≡ replace.Done →
+        NamedBy (withReplaced (s .routes) slot (queuesOf old) (queuesOf pending)) slot (claimedCells i pending (cellsIn d))
+    named done =
+        claim-named (s .routes) slot i pending (cellsIn d) done
+        (named-from slot (s .routes) p (cellsIn d) (g .named) (live-tells slot d p l)) (rw (g .long) (g .room))
 
     was :
         p .broken ≡ false → p .loose ≡ false → (q : ℕ) → q < 30 →
@@ -193,15 +202,12 @@ module _ (slot : ℕ) (before : List ℕ) (s : State) (buffers : Buffers) (i a :
         let v = claim-moved (claimIn d i a rings) (buffers .ctx) (s .routes) (buffers .outcomes) 0 in
         let moved : end .moved ≡ true = v .by-answer .1 e in
         let m = claim-moves d _ _ _ i a rings k end moved in
-        let n : isLost (end .answer) ≡ false = rw e refl in
         let held : now .plain .held ≡ settings = rw e refl in
         made-moved slot before s now g l (withSetting i a (heldOf d)) (claimedCells i pending (cellsIn d)) (isLost (end .answer)) m refl refl
-        (ap pairs held ∙ settings-pairs) (rw held settings-fit) (ownedRings (Interface i) (cellsIn d)) pending
-        (v .routed moved
-        ∙ ap (λ x. withReplaced (s .routes) x (queuesOf (ownedRings (Interface i) (cellsIn d))) (queuesOf pending)) (l .place))
-        (rerouted .routed)
-        (now-tells slot before s now g l (withSetting i a (heldOf d)) (claimedCells i pending (cellsIn d)) (isLost (end .answer)) m refl refl
-        (ap pairs held ∙ settings-pairs) (rw held settings-fit) n)
+        (ap pairs held ∙ settings-pairs) (rw held settings-fit) old pending
+        (v .routed moved ∙ ap (λ x. withReplaced (s .routes) x (queuesOf old) (queuesOf pending)) (l .place))
+        (named (ap (λ x. replaced (s .routes) x (queuesOf old) (queuesOf pending)) (sym (l .place)) ∙ v .allowed moved))
+        (λ u. rerouted u .routed)
         (λ b f. accepted-enabled e (or-left-false (p .broken) _ b) (or-left-false (p .loose) _ f))
 
     -- Otherwise it is as it was.
@@ -230,7 +236,7 @@ module _ (slot : ℕ) (before : List ℕ) (s : State) (buffers : Buffers) (i a :
         (dci-high q h) (p .enabled) code e
         (λ o. was b f q h ∙ ap not (owned-ring i (cellsIn d) q (sym (old-dci q h) ∙ o)))
         (λ w o. was b f q h ∙ ap not (free-ring newWords i (cellsIn d) q (tests .free) h (sym (new-dci q h) ∙ w) (sym (old-dci q h) ∙ o)))
-        ∙ g .kept .enabled b f (dciAt q) (dci-low q h) (dci-high q h))
+        ∙ g .enabled b f (dciAt q) (dci-low q h) (dci-high q h))
 
     ended-good :
         (end .answer ≡ answer.Accepted) ⊎ Refused (end .answer) → ((end .moved ≡ true) ↔ (end .answer ≡ answer.Accepted)) →
@@ -285,7 +291,7 @@ module _ (slot : ℕ) (before : List ℕ) (s : State) (buffers : Buffers) (i a :
   unfolding called contextCut cutAt left effectOf claim checked run refuse course
   claim-good =
       good-checked slot before s effect buffers run (buffers .ctx) (buffers .log) _ (mild-claim d _ _ _ i a rings) g
-      (λ k. run-good k (live-here slot before s g (passed d _ _ _ _ k .0 .usable)))
+      (λ k. run-good k (live-here slot before s g (passed d _ _ _ _ k .0 .is-sound)))
 
   -- With every outcome done it is accepted.
   module _ (k : recordCheck d (length (buffers .ctx)) (length (s .routes)) (length (buffers .log)) (claimCheck d i a rings) ≡ Pass)
@@ -294,30 +300,30 @@ module _ (slot : ℕ) (before : List ℕ) (s : State) (buffers : Buffers) (i a :
     unfolding left claim run course onCheck
     claimed = rw k refl
 
-    end-accepted : end .answer ≡ answer.Accepted
+    end-accepted : Unrouted before slot → end .answer ≡ answer.Accepted
     unfolding end course claimIn pendingOf
-    end-accepted =
-        let l = live-here slot before s g (passed d _ _ _ _ k .0 .usable) in
-        let old = ownedRings (Interface i) (cellsIn d) in
+    end-accepted u =
+        let l = live-here slot before s g (passed d _ _ _ _ k .0 .is-sound) in
+        let were = ownedRings (Interface i) (cellsIn d) in
         ap (λ (e : End). e .answer)
         (claim-accepted (claimIn d i a rings) (buffers .ctx) (s .routes) (buffers .outcomes) 0
-        (λ n l h. done n (omega (arith, h, queues-fit old)))
-        (ap (λ x. replaced (s .routes) x (queuesOf old) (queuesOf pending)) (l .place) ∙ rerouted k l .done))
+        (λ n l h. done n (omega (arith, h, queues-fit were)))
+        (ap (λ x. replaced (s .routes) x (queuesOf were) (queuesOf pending)) (l .place) ∙ rerouted k l u .done))
 
-    pub claim-done : (left (claims i a rings) buffers d (s .routes)) .answer ≡ answer.Accepted
+    pub claim-done : Unrouted before slot → (left (claims i a rings) buffers d (s .routes)) .answer ≡ answer.Accepted
     unfolding run ended played end
-    claim-done = ap (λ (x : Left). x .answer) claimed ∙ end-accepted
+    claim-done u = ap (λ (x : Left). x .answer) claimed ∙ end-accepted u
 
   -- An accepted claim's rings are routed.
   pub claim-routes :
-      (left (claims i a rings) buffers d (s .routes)) .answer ≡ answer.Accepted → (x : ℕ) → x < 32 →
+      Unrouted before slot → (left (claims i a rings) buffers d (s .routes)) .answer ≡ answer.Accepted → (x : ℕ) → x < 32 →
       someDci x (settingWords (p .list) i a) ≡ true → someDci 1 (settingWords (p .list) i a) ≡ false →
       routeOf ((left (claims i a rings) buffers d (s .routes)) .routes) slot x
       ≡ ringFor x (queues (wordDcis (settingWords (p .list) i a)) rings) 0
   unfolding called effectOf observed anew seen heldAfter number plainRoute settingOf
-  claim-routes e x h w z =
+  claim-routes u e x h w z =
       let ws = settingWords (p .list) i a in
       let next = called s (record { asked = claims i a rings; buffers = buffers }) in
       let held : next .plain .held ≡ without i (p .held) ++ (settingOf (p .list) i a rings ∷ []) = rw e refl in
       let n : eqb x 1 ≡ false = ne-eqb x 1 (λ q. not-both (someDci 1 ws) (rw q at w) z) in
-      claim-good .kept .own x h ∙ rw (n, held) (last-ring x (without i (p .held)) (settingOf (p .list) i a rings) (words-dci x ws rings ∙ w))
+      claim-good .own u x h ∙ rw (n, held) (last-ring x (without i (p .held)) (settingOf (p .list) i a rings) (words-dci x ws rings ∙ w))

@@ -1,12 +1,15 @@
 -- Demand 3.
 use Prim.Native.Nat.{ℕ, _+_, _*_, _<_, _≤_}
 use mathlib.Core.Path.{_≡_, refl, sym, _∙_, ap}
-use mathlib.Core.Bool.{true, false}
+use mathlib.Core.Bool.{true, false, cond}
 use mathlib.Core.List.{List, [], _∷_}
 use mathlib.Core.Logic.{inr}
 use native.Mathlib.Omega.{arith}
 use borrow.Author.Tests.{ne-eqb}
+use lib.Dec.{eqb}
 use lib.ListN.{length}
+use Rattle.laws.proofs.Tests.{not-both}
+use Rattle.answer.specs.declared.Answer.the-variants as answer
 use Rattle.answer.specs.declared.Check.the-variants.{Pass}
 use Rattle.record_ring.proofs.Laws.{ring-nonzero}
 use Rattle.command.specs.declared.Sent.the-variants.{Done}
@@ -28,9 +31,9 @@ use Rattle.device_bring_up.proofs.Laws.{BroughtUp, bring-up-accepted, bring-up-
 use Rattle.theorem_slot.specs.Call.{Buffers, Asked, bringsUp, claims, releases, configures, updatesHub, Call, OfSlot, AllOfSlot}
 use Rattle.theorem_slot.specs.Call as call
 use Rattle.theorem_slot.specs.Plain.{heldQueues, plainRoute, isHeldDci, begun}
-use Rattle.theorem_slot.specs.Theorem.{State, called, after, start, AfterBringUp, Demand3, SoundWhileUsable, Claimed, ClaimsAccepted}
+use Rattle.theorem_slot.specs.Theorem.{State, called, after, start, Demand3, SoundWhileUsable, Claimed, ClaimsAccepted}
 use Rattle.theorem_slot.proofs.Settings.{eqb-turned, AllFit, pairs}
-use Rattle.theorem_slot.proofs.Good.{Good, live-here}
+use Rattle.theorem_slot.proofs.Good.{Unrouted, Good, good-kept, live-here, usable-sound}
 use Rattle.theorem_slot.proofs.BringUp.{bring-up-good}
 use Rattle.theorem_slot.proofs.Claim.{claim-good, claim-done, claim-routes}
 use Rattle.theorem_slot.proofs.Release.{release-good}
@@ -58,7 +61,7 @@ after-good slot before s (c ∷ cs) o g =
     after-good slot before (called s c) cs (o .1) (called-good slot before s (c .asked) (c .buffers) (o .0) g)
 
 -- The accepted bring-up.
-module _ (b : BringUp) (l : Buffers) (routes : List ℕ) (empty : (d : ℕ) → d < 32 → routeOf routes (b .slot) d ≡ 0) where
+module _ (b : BringUp) (l : Buffers) (routes : List ℕ) where
   left : Left
   left = bringUp b (l .ctx) routes (l .log) (l .outcomes)
 
@@ -66,68 +69,62 @@ module _ (b : BringUp) (l : Buffers) (routes : List ℕ) (empty : (d : ℕ) → 
     room : 32 * b .slot + 32 ≤ length routes
     room = omega (arith, w .pass .slot-high, w .pass .table)
 
-    own : (d : ℕ) → d < 32 → routeOf (left .routes) (b .slot) d ≡ plainRoute (begun b) d
-    unfolding plainRoute begun heldQueues ringFor published routeIndex
-    own d h =
+    route : (d : ℕ) → d < 32 → routeOf (left .routes) (b .slot) d ≡ cond (eqb d 1) (b .ring) (routeOf routes (b .slot) d)
+    unfolding ringFor published routeIndex
+    route d h =
         let q : List Queue = record { dci = 1; ring = b .ring } ∷ [] in
         ap (λ r. routeOf r (b .slot) d) (w .table)
         ∙ published-at routes (b .slot) q d (omega (arith, room))
-        ∙ rw (empty d h, eqb-turned 1 d) refl
+        ∙ rw (eqb-turned 1 d) refl
 
     start-good : Good (b .slot) routes (start b left)
-    unfolding start begun left AllFit pairs isHeldDci heldQueues names
+    unfolding start begun left AllFit pairs isHeldDci plainRoute heldQueues names ringFor
     start-good =
         record {
           long = bring-up-length b (l .ctx) routes (l .log) (l .outcomes);
           room = room;
-          kept =
-              record {
-                own = own;
-                others = bring-up-outside b (l .ctx) routes (l .log) (l .outcomes);
-                enabled = λ x y d two h. ne-eqb d 1 (λ e. omega arith);
-              };
+          others = bring-up-outside b (l .ctx) routes (l .log) (l .outcomes);
+          live = inr (record { is-sound = w .is-sound; place = w .slot; list = w .list; held = sym (w .held); fits = tt });
+          enabled = λ x y d two h. ne-eqb d 1 (λ e. omega arith);
           control = ring-nonzero (b .ring) (w .pass .ring);
-          live =
-              inr
-              (record {
-                usable = w .usable;
-                is-sound = w .is-sound;
-                place = w .slot;
-                list = w .list;
-                held = sym (w .held);
-                fits = tt;
-              });
+          first = route 1 (omega arith);
+          named = λ q h e. not-both false e refl;
+          own = λ u d h. route d h ∙ rw (u d h) refl;
         }
 
--- The invariant holds after any calls.
-all-good : AfterBringUp Good
+-- The invariant holds after any calls, whatever the slot's words held.
+all-good :
+    (b : BringUp) (l : Buffers) (routes : List ℕ) (calls : List Call) →
+    (bringUp b (l .ctx) routes (l .log) (l .outcomes)) .answer ≡ answer.Accepted → AllOfSlot (b .slot) calls →
+    Good (b .slot) routes (after (start b (bringUp b (l .ctx) routes (l .log) (l .outcomes))) calls)
 unfolding left
-all-good b l routes calls empty accepted all =
+all-good b l routes calls accepted all =
     after-good (b .slot) routes _ calls all
-    (start-good b l routes empty (bring-up-accepted b (l .ctx) routes (l .log) (l .outcomes) accepted))
+    (start-good b l routes (bring-up-accepted b (l .ctx) routes (l .log) (l .outcomes) accepted))
 
 pub demand-three : Demand3
-demand-three b l routes calls empty accepted all = all-good b l routes calls empty accepted all .kept
+demand-three b l routes calls empty accepted all = good-kept (b .slot) routes _ empty (all-good b l routes calls accepted all)
 
 pub sound-while-usable : SoundWhileUsable
 sound-while-usable b l routes calls empty accepted all u =
-    live-here (b .slot) routes _ (all-good b l routes calls empty accepted all) u .is-sound
+    usable-sound (b .slot) routes _ (all-good b l routes calls accepted all) u
 
 -- A claim of a usable record.
 claimed-good :
-    (slot : ℕ) (before : List ℕ) (s : State) → Good slot before s → (i a : ℕ) (rings : List ℕ) (l : Buffers) → i < 256 → a < 256 →
+    (slot : ℕ) (before : List ℕ) (s : State) → Unrouted before slot → Good slot before s → (i a : ℕ) (rings : List ℕ) (l : Buffers) →
+    i < 256 → a < 256 →
     recordCheck (s .device) (length (l .ctx)) (length (s .routes)) (length (l .log)) (claimCheck (s .device) i a rings) ≡ Pass →
     ((k : ℕ) → k < 32 → outcomeAt (l .outcomes) k ≡ Done) →
     Claimed slot (settingWords (s .plain .list) i a) rings (call.left (claims i a rings) l (s .device) (s .routes))
-claimed-good slot before s g i a rings l x y k done =
-    let e = claim-done slot before s l i a rings x y g k done in
+claimed-good slot before s u g i a rings l x y k done =
+    let e = claim-done slot before s l i a rings x y g k done u in
     let p = passed (s .device) _ _ _ _ k .0 in
-    let v = live-here slot before s g (p .usable) in
+    let v = live-here slot before s g (p .is-sound) in
     let valid : validList (s .plain .list) ≡ true = rw (← v .list) (p .facts .list) in
     let ws = settingWords (s .plain .list) i a in
     let low : someDci 1 ws ≡ false = sym (words-dci 1 ws rings) ∙ words-low-name ws rings (setting-word (s .plain .list) valid i a) 1 (omega arith) in
-    record { accepted = e; routed = λ d h w. claim-routes slot before s l i a rings x y g e d h w low }
+    record { accepted = e; routed = λ d h w. claim-routes slot before s l i a rings x y g u e d h w low }
 
 pub claims-accepted : ClaimsAccepted
 claims-accepted b l routes calls empty accepted all =
-    claimed-good (b .slot) routes _ (all-good b l routes calls empty accepted all)
+    claimed-good (b .slot) routes _ empty (all-good b l routes calls accepted all)

@@ -5,7 +5,7 @@ use mathlib.Core.Bool.{true, false, not, cond}
 use mathlib.Core.List.{List}
 use mathlib.Core.Logic.{_⊎_, inl, inr}
 use native.Mathlib.Omega.{arith}
-use borrow.Author.Tests.{ne-eqb, eqb-true, eqb-false}
+use borrow.Author.Tests.{eq-eqb, ne-eqb, eqb-true, eqb-false}
 use lib.Dec.{eqb}
 use lib.ListN.{length, getD}
 use Rattle.laws.proofs.Tests.{not-both}
@@ -17,7 +17,7 @@ use Rattle.record_endpoint.specs.declared.cells.Cells.{Cells}
 use Rattle.record_endpoint.proofs.Laws.{dci-low, dci-high}
 use Rattle.record_settings.specs.Held.{isHeld}
 use Rattle.record_settings.proofs.Laws.{match-facts}
-use Rattle.theorem_routing.specs.Routing.{RoutedBy}
+use Rattle.theorem_routing.specs.Routing.{RoutedBy, NamedBy}
 use Rattle.theorem_routing.proofs.Laws.{each-dci}
 use Rattle.device.specs.declared.record.Device.{Device}
 use Rattle.device.specs.Device.{listOf, cellsIn, heldOf}
@@ -27,21 +27,41 @@ use Rattle.theorem_slot.specs.Plain.{Plain, plainRoute, isHeldDci, heldQ
 use Rattle.theorem_slot.specs.Theorem.{State, Kept, Untouched}
 use Rattle.theorem_slot.proofs.Settings.{AllFit, heldAt, held-low, held-names, held-ring, pairs, pairs-setting}
 
--- A usable record and the plain slot say the same.
+-- A sound record and the plain slot say the same, whether or not it is usable.
 pub record Live (slot : ℕ) (d : Device) (p : Plain) : Type 0 where
-  pub usable : d .usable ≡ true
   pub is-sound : sound d ≡ true
   pub place : d .slot .0 ≡ slot
   pub list : listOf d ≡ p .list
   pub held : pairs (p .held) ≡ heldOf d
   pub fits : AllFit (cellsIn d) (p .held)
 
+-- A record of no slot, as a refused bring-up returns it.
+abbrev pub Slotless : Device → Type 0
+Slotless d = (d .usable ≡ false) × (sound d ≡ false)
+
+-- A slot without routes.
+abbrev pub Unrouted : List ℕ → ℕ → Type 0
+Unrouted routes slot = (d : ℕ) → d < 32 → routeOf routes slot d ≡ 0
+
 pub record Good (slot : ℕ) (before : List ℕ) (s : State) : Type 0 where
   pub long : length (s .routes) ≡ length before
   pub room : 32 * slot + 32 ≤ length before
-  pub kept : Kept slot before s
+  pub others : (k : ℕ) → Outside slot k → getD (s .routes) k 0 ≡ getD before k 0
+  pub live : Slotless (s .device) ⊎ Live slot (s .device) (s .plain)
+  pub enabled :
+      s .plain .broken ≡ false → s .plain .loose ≡ false → (d : ℕ) → 2 ≤ d → d < 32 →
+      s .plain .enabled d ≡ isHeldDci (s .plain) d
+  -- whatever the slot's words held before its bring-up, control and the held endpoints are routed
   pub control : s .plain .control ≡ 0 → ⊥
-  pub live : (s .device .usable ≡ false) ⊎ Live slot (s .device) (s .plain)
+  pub first : routeOf (s .routes) slot 1 ≡ s .plain .control
+  pub named :
+      (q : ℕ) → q < 30 → isHeldDci (s .plain) (dciAt q) ≡ true →
+      routeOf (s .routes) slot (dciAt q) ≡ ringFor (dciAt q) (heldQueues (s .plain .held)) 0
+  -- and nothing else, where they were all 0
+  pub own : Unrouted before slot → (d : ℕ) → d < 32 → routeOf (s .routes) slot d ≡ plainRoute (s .plain) d
+
+pub good-kept : (slot : ℕ) (before : List ℕ) (s : State) → Unrouted before slot → Good slot before s → Kept slot before s
+good-kept slot before s e g = record { own = g .own e; others = g .others; enabled = g .enabled }
 
 -- The plain slot's queues are those of some endpoints.
 pub record Tells (p : Plain) (c : Cells) : Type 0 where
@@ -49,7 +69,7 @@ pub record Tells (p : Plain) (c : Cells) : Type 0 where
   pub named : (q : ℕ) → q < 30 → names (dciAt q) (heldQueues (p .held)) ≡ not (eqb (getD (c .rings) q 0) 0)
   pub low : names 0 (heldQueues (p .held)) ≡ false
 
--- A usable record's endpoints.
+-- A sound record's endpoints.
 pub live-tells : (slot : ℕ) (d : Device) (p : Plain) → Live slot d p → Tells p (cellsIn d)
 live-tells slot d p l =
     record {
@@ -102,6 +122,15 @@ pub routed-from :
     ((d : ℕ) → d < 32 → routeOf routes slot d ≡ plainRoute p d) → Tells p c → RoutedBy routes slot c
 routed-from slot routes p c own t q h = own (dciAt q) (dci-high q h) ∙ route-at p q h ∙ t .ring q h
 
+-- Each that is there is routed.
+pub named-from :
+    (slot : ℕ) (routes : List ℕ) (p : Plain) (c : Cells) →
+    ((q : ℕ) → q < 30 → isHeldDci p (dciAt q) ≡ true → routeOf routes slot (dciAt q) ≡ ringFor (dciAt q) (heldQueues (p .held)) 0) →
+    Tells p c → NamedBy routes slot c
+unfolding isHeldDci
+named-from slot routes p c named t q h z =
+    named q h (t .named q h ∙ ap not (ne-eqb (getD (c .rings) q 0) 0 z)) ∙ t .ring q h
+
 -- And the other way round.
 pub own-from :
     (slot : ℕ) (routes : List ℕ) (p : Plain) (c : Cells) → RoutedBy routes slot c → Tells p c →
@@ -111,62 +140,64 @@ own-from slot routes p c r t z o =
     each-word (λ d. routeOf routes slot d ≡ plainRoute p d) (z ∙ sym (route-zero p (t .low))) (o ∙ sym (route-one p))
     (λ q h. r q h ∙ sym (t .ring q h) ∙ sym (route-at p q h))
 
--- A call that moves routes of the slot.
-module _ (slot : ℕ) (before : List ℕ) (s now : State) (g : Good slot before s) where
-  -- the table after it
-  module _ (u : Untouched slot (s .routes) (now .routes)) where
-    others : (k : ℕ) → Outside slot k → getD (now .routes) k 0 ≡ getD before k 0
-    others k o = u .words k o ∙ g .kept .others k o
+pub named-of :
+    (slot : ℕ) (routes : List ℕ) (p : Plain) (c : Cells) → NamedBy routes slot c → Tells p c →
+    (q : ℕ) → q < 30 → isHeldDci p (dciAt q) ≡ true → routeOf routes slot (dciAt q) ≡ ringFor (dciAt q) (heldQueues (p .held)) 0
+unfolding isHeldDci
+named-of slot routes p c n t q h e =
+    n q h (λ z. not-both (names (dciAt q) (heldQueues (p .held))) e (t .named q h ∙ ap not (eq-eqb (getD (c .rings) q 0) 0 z)))
+    ∙ sym (t .ring q h)
 
-    -- Words 0 and 1 stay, and the others are those of the endpoints that the plain slot tells of.
-    pub good-moved :
-        (old c : Cells) → Tells (s .plain) old → Tells (now .plain) c → RoutedBy (now .routes) slot c →
-        ((d : ℕ) → d < 2 → routeOf (now .routes) slot d ≡ routeOf (s .routes) slot d) →
-        now .plain .control ≡ s .plain .control →
-        (now .plain .broken ≡ false → now .plain .loose ≡ false → (q : ℕ) → q < 30 →
-        now .plain .enabled (dciAt q) ≡ not (eqb (getD (c .rings) q 0) 0)) →
-        (now .device .usable ≡ false) ⊎ Live slot (now .device) (now .plain) →
-        Good slot before now
-    unfolding isHeldDci
-    good-moved old c was t r low same e l =
-        record {
-          long = u .long ∙ g .long;
-          room = g .room;
-          kept =
-              record {
-                own =
-                    own-from slot (now .routes) (now .plain) c r t
-                    (low 0 (omega arith) ∙ g .kept .own 0 (omega arith) ∙ route-zero (s .plain) (was .low))
-                    (low 1 (omega arith) ∙ g .kept .own 1 (omega arith) ∙ route-one (s .plain) ∙ sym same);
-                others = others;
-                enabled = λ b f.
-                    each-dci (λ d. now .plain .enabled d ≡ names d (heldQueues (now .plain .held)))
-                    (λ q h. e b f q h ∙ sym (t .named q h));
-              };
-          control = λ z. g .control (sym same ∙ z);
-          live = l;
-        }
+module _ (slot : ℕ) (before : List ℕ) (s now : State) (g : Good slot before s) where
+  -- A call that moves routes of the slot: words 0 and 1 stay, and the others are those of the endpoints that the plain slot tells of.
+  pub good-moved :
+      Untouched slot (s .routes) (now .routes) →
+      (old c : Cells) → Tells (s .plain) old → Tells (now .plain) c → NamedBy (now .routes) slot c →
+      (Unrouted before slot → RoutedBy (now .routes) slot c) →
+      ((d : ℕ) → d < 2 → routeOf (now .routes) slot d ≡ routeOf (s .routes) slot d) →
+      now .plain .control ≡ s .plain .control →
+      (now .plain .broken ≡ false → now .plain .loose ≡ false → (q : ℕ) → q < 30 →
+      now .plain .enabled (dciAt q) ≡ not (eqb (getD (c .rings) q 0) 0)) →
+      Slotless (now .device) ⊎ Live slot (now .device) (now .plain) →
+      Good slot before now
+  unfolding isHeldDci
+  good-moved u old c was t n r low same e l =
+      record {
+        long = u .long ∙ g .long;
+        room = g .room;
+        others = λ k o. u .words k o ∙ g .others k o;
+        live = l;
+        enabled = λ b f.
+            each-dci (λ d. now .plain .enabled d ≡ names d (heldQueues (now .plain .held)))
+            (λ q h. e b f q h ∙ sym (t .named q h));
+        control = λ z. g .control (sym same ∙ z);
+        first = low 1 (omega arith) ∙ g .first ∙ sym same;
+        named = named-of slot (now .routes) (now .plain) c n t;
+        own = λ x.
+            own-from slot (now .routes) (now .plain) c (r x) t
+            (low 0 (omega arith) ∙ g .own x 0 (omega arith) ∙ route-zero (s .plain) (was .low))
+            (low 1 (omega arith) ∙ g .first ∙ sym same);
+      }
 
   -- A call that leaves routes and held settings.
   pub good-same :
       now .routes ≡ s .routes → now .plain .control ≡ s .plain .control → now .plain .held ≡ s .plain .held →
       (now .plain .broken ≡ false → now .plain .loose ≡ false → (d : ℕ) → 2 ≤ d → d < 32 →
       now .plain .enabled d ≡ isHeldDci (s .plain) d) →
-      (now .device .usable ≡ false) ⊎ Live slot (now .device) (now .plain) →
+      Slotless (now .device) ⊎ Live slot (now .device) (now .plain) →
       Good slot before now
   unfolding isHeldDci plainRoute
   good-same r c h e l =
       record {
         long = rw r (g .long);
         room = g .room;
-        kept =
-            record {
-              own = λ d k. rw (r, c, h) (g .kept .own d k);
-              others = λ k o. rw r (g .kept .others k o);
-              enabled = λ b f d two k. rw h (e b f d two k);
-            };
-        control = λ z. g .control (sym c ∙ z);
+        others = λ k o. rw r (g .others k o);
         live = l;
+        enabled = λ b f d two k. rw h (e b f d two k);
+        control = λ z. g .control (sym c ∙ z);
+        first = rw (r, c) (g .first);
+        named = λ q k. rw (r, h) (g .named q k);
+        own = λ x d k. rw (r, c, h) (g .own x d k);
       }
 
 -- While neither mark is set, the enabled endpoints are the record's.
@@ -176,32 +207,33 @@ pub enabled-was :
     s .plain .enabled (dciAt q) ≡ not (eqb (getD ((cellsIn (s .device)) .rings) q 0) 0)
 unfolding isHeldDci
 enabled-was slot before s g l b f q h =
-    g .kept .enabled b f (dciAt q) (dci-low q h) (dci-high q h) ∙ live-tells slot (s .device) (s .plain) l .named q h
+    g .enabled b f (dciAt q) (dci-low q h) (dci-high q h) ∙ live-tells slot (s .device) (s .plain) l .named q h
 
--- A record that passed its checks is usable.
+-- A sound record, as one that passed its checks is.
 pub live-here :
-    (slot : ℕ) (before : List ℕ) (s : State) → Good slot before s → s .device .usable ≡ true → Live slot (s .device) (s .plain)
-live-here slot before s g u = go (g .live)
+    (slot : ℕ) (before : List ℕ) (s : State) → Good slot before s → sound (s .device) ≡ true → Live slot (s .device) (s .plain)
+live-here slot before s g t = go (g .live)
   where
-    go : (s .device .usable ≡ false) ⊎ Live slot (s .device) (s .plain) → Live slot (s .device) (s .plain)
-    go (inl n) = not-both (s .device .usable) u n
+    go : Slotless (s .device) ⊎ Live slot (s .device) (s .plain) → Live slot (s .device) (s .plain)
+    go (inl n) = not-both (sound (s .device)) t (n .1)
     go (inr l) = l
 
--- A usable record, where plain slots hold the same.
+-- A usable record is sound.
+pub usable-sound : (slot : ℕ) (before : List ℕ) (s : State) → Good slot before s → s .device .usable ≡ true → sound (s .device) ≡ true
+usable-sound slot before s g u = go (g .live)
+  where
+    go : Slotless (s .device) ⊎ Live slot (s .device) (s .plain) → sound (s .device) ≡ true
+    go (inl n) = not-both (s .device .usable) u (n .0)
+    go (inr l) = l .is-sound
+
+-- What both say stays where plain slots hold the same.
 pub live-same :
     (slot : ℕ) (d : Device) (p q : Plain) → q .list ≡ p .list → q .held ≡ p .held → Live slot d p → Live slot d q
 live-same slot d p q e h l =
     record {
-      usable = l .usable;
       is-sound = l .is-sound;
       place = l .place;
       list = l .list ∙ sym e;
       held = ap pairs h ∙ l .held;
       fits = rw h (l .fits);
     }
-
-pub live-or :
-    (slot : ℕ) (d : Device) (p q : Plain) → q .list ≡ p .list → q .held ≡ p .held →
-    (d .usable ≡ false) ⊎ Live slot d p → (d .usable ≡ false) ⊎ Live slot d q
-live-or slot d p q e h (inl u) = inl u
-live-or slot d p q e h (inr l) = inr (live-same slot d p q e h l)

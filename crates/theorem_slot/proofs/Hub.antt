@@ -1,31 +1,31 @@
 -- A hub update keeps the invariant.
 use Prim.Native.Nat.{ℕ, _≤_}
 use mathlib.Core.Path.{_≡_, refl}
-use mathlib.Core.Bool.{Bool, false}
+use mathlib.Core.Bool.{Bool, true}
 use mathlib.Core.List.{List, [], _∷_}
-use mathlib.Core.Logic.{_⊎_, inl}
 use native.Mathlib.Omega.{arith}
 use lib.ListN.{length}
 use Rattle.laws.proofs.Cases.{or-left-false}
 use Rattle.answer.specs.declared.Answer.{Answer}
 use Rattle.answer.specs.declared.Check.the-variants.{Pass}
-use Rattle.answer.specs.Answer.{number}
-use Rattle.command.specs.declared.Sent.{Sent}
-use Rattle.command.specs.declared.Sent.the-variants as sent
+use Rattle.answer.specs.Answer.{isLost}
 use Rattle.command.specs.declared.Command.the-variants as command
 use Rattle.command.specs.Command.{commandWord, outcomeAt}
 use Rattle.command.specs.Course.{words, result, played}
 use Rattle.course_steps.specs.End.{answerOf}
 use Rattle.theorem_controller.specs.Controller.{controlled, enabledAfter}
+use Rattle.device.specs.Device.{cellsIn, heldOf}
+use Rattle.device.specs.Sound.{sound}
 use Rattle.device.specs.Left.{Left, refused, marked}
 use Rattle.device.specs.Calls.{onCheck, hubContext, hubCourse, hubLeft, hubUpdate}
-use Rattle.device.proofs.Facts.{unusable-not}
+use Rattle.device.proofs.Made.{marked-made}
 use Rattle.device.proofs.Laws.{passed}
 use Rattle.theorem_slot.specs.Call.{Buffers, updatesHub, left}
-use Rattle.theorem_slot.specs.Plain.{nothing, effectOf, heldAfter, anew, observed, seen}
+use Rattle.theorem_slot.specs.Plain.{nothing, effectOf, heldAfter, isLoose, anew, observed, seen}
 use Rattle.theorem_slot.specs.Theorem.{State, cutAt, contextCut, called}
-use Rattle.theorem_slot.proofs.Good.{Good, Live, good-same, live-or}
+use Rattle.theorem_slot.proofs.Good.{Good, live-here}
 use Rattle.theorem_slot.proofs.Step.{checked, good-checked, mild-hub}
+use Rattle.theorem_slot.proofs.Made.{made-same}
 use Rattle.theorem_slot.proofs.Words.{taken-words}
 
 module _ (slot : ℕ) (before : List ℕ) (s : State) (buffers : Buffers) (ports : ℕ) (multi : Bool) (ns : ℕ) (g : Good slot before s) where
@@ -41,20 +41,13 @@ module _ (slot : ℕ) (before : List ℕ) (s : State) (buffers : Buffers) (ports
         plain = seen nothing buffers a (commandWord command.Evaluate ∷ []) (s .plain .enabled) (s .plain);
       }
 
-  live-after :
-      (x : Sent) →
-      ((answered (answerOf x)) .device .usable ≡ false) ⊎ Live slot ((answered (answerOf x)) .device) ((answered (answerOf x)) .plain)
-  unfolding answered answerOf marked seen number heldAfter
-  live-after sent.Done = live-or slot (s .device) (s .plain) _ refl refl (g .live)
-  live-after (sent.Failed code) = live-or slot (s .device) (s .plain) _ refl refl (g .live)
-  live-after sent.Cut = inl (unusable-not (s .device))
-
-  good-answered : (x : Sent) → Good slot before (answered (answerOf x))
-  unfolding answered seen heldAfter
-  good-answered x =
-      good-same slot before s (answered (answerOf x)) g refl refl refl
-      (λ b f. g .kept .enabled (or-left-false (s .plain .broken) _ b) (or-left-false (s .plain .loose) _ f))
-      (live-after x)
+  good-answered : s .device .usable ≡ true → sound (s .device) ≡ true → (a : Answer) → Good slot before (answered a)
+  unfolding answered seen heldAfter isLoose
+  good-answered u t a =
+      let l = live-here slot before s g t in
+      made-same slot before s (answered a) g l (heldOf (s .device)) (cellsIn (s .device)) (isLost a) (marked-made (s .device) u t a) refl
+      refl (l .held) (l .fits) refl refl
+      (λ b f. g .enabled (or-left-false (s .plain .broken) _ b) (or-left-false (s .plain .loose) _ f))
 
   run : List ℕ → Left
   run o = hubLeft (s .device) ctx (s .routes) (played o 0 (hubCourse ctx) (buffers .log))
@@ -76,4 +69,7 @@ module _ (slot : ℕ) (before : List ℕ) (s : State) (buffers : Buffers) (ports
   unfolding called contextCut cutAt left effectOf hubUpdate checked run refuse ctx
   hub-good =
       good-checked slot before s nothing buffers run (buffers .ctx) (buffers .log) _ (mild-hub (s .device) _ _ _ ns) g
-      (λ e. rw (evaluated (omega (arith, one-word, passed (s .device) _ _ _ _ e .0 .room))) (good-answered (outcomeAt (buffers .outcomes) 0)))
+      (λ e.
+      let p = passed (s .device) _ _ _ _ e .0 in
+      rw (evaluated (omega (arith, one-word, p .room)))
+      (good-answered (p .usable) (p .is-sound) (answerOf (outcomeAt (buffers .outcomes) 0))))

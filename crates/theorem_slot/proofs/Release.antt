@@ -18,6 +18,7 @@ use Rattle.command.specs.Course.{Course, ends, sends, words, result, played}
 use Rattle.command.proofs.Operations.{ByteOperands, EachCommand}
 use Rattle.context_block.specs.Promises.{someDci}
 use Rattle.context.specs.Place.{Spaced}
+use Rattle.transfer.specs.declared.Replaced.the-variants as replace
 use Rattle.transfer.specs.Routes.{replaced, withReplaced}
 use Rattle.record_endpoint.specs.Order.{PLACES, dciAt}
 use Rattle.record_endpoint.specs.Cells.{isOwned, ownedRings, queuesOf, claimedCells, withActive}
@@ -25,8 +26,8 @@ use Rattle.record_endpoint.specs.declared.cells.Owner.the-variants.{Interface}
 use Rattle.record_endpoint.proofs.Laws.{queues-fit, dci-low, dci-high}
 use Rattle.record_settings.specs.Held.{isHeld, alternateOf, settingWords, withoutSetting}
 use Rattle.record_settings.proofs.Laws.{match-facts, match-unheld}
-use Rattle.theorem_routing.specs.Routing.{Rerouted}
-use Rattle.theorem_routing.proofs.Laws.{no-queues, release-routed}
+use Rattle.theorem_routing.specs.Routing.{InTable, RoutedBy, NamedBy}
+use Rattle.theorem_routing.proofs.Laws.{no-queues, claim-named, release-done, release-routed}
 use Rattle.course_steps.specs.End.{End}
 use Rattle.theorem_controller.specs.Controller.{enabledAfter}
 use Rattle.theorem_controller.proofs.Followed.{followed}
@@ -44,9 +45,9 @@ use Rattle.theorem_slot.specs.Call.{Buffers, releases, left}
 use Rattle.theorem_slot.specs.Plain.{Plain, isHeldDci, without, hasSetting, Effect, endsOne, effectOf, heldAfter, isLoose, anew, seen}
 use Rattle.theorem_slot.specs.Theorem.{State, cutAt, contextCut, called}
 use Rattle.theorem_slot.proofs.Settings.{AllFit, pairs, pairs-setting, pairs-without, fit-without}
-use Rattle.theorem_slot.proofs.Good.{Good, Live, live-tells, routed-from, enabled-was, live-here}
+use Rattle.theorem_slot.proofs.Good.{Live, Unrouted, Good, live-tells, routed-from, named-from, enabled-was, live-here}
 use Rattle.theorem_slot.proofs.Step.{lost-not, checked, good-checked, mild-release, ran, checked-ran}
-use Rattle.theorem_slot.proofs.Made.{fit-active, now-tells, made-moved, made-same, byte-dcis}
+use Rattle.theorem_slot.proofs.Made.{fit-active, made-moved, made-same, byte-dcis}
 use Rattle.theorem_slot.proofs.Claimed.{some-place, fits-other, claimed-some}
 
 -- A course that sent nothing leaves the endpoints as they are.
@@ -105,11 +106,27 @@ module _ (slot : ℕ) (before : List ℕ) (s : State) (buffers : Buffers) (i : �
     unfolding releaseIn
     spaced = pass .spaced
 
-    rerouted :
-        Rerouted (s .routes) slot (queuesOf (ownedRings (Interface i) (cellsIn d))) [] (claimedCells i none (cellsIn d))
-    rerouted =
-        release-routed (s .routes) slot (cellsIn d)
-        (routed-from slot (s .routes) p (cellsIn d) (g .kept .own) (live-tells slot d p l)) (rw (g .long) (g .room)) i
+    abbrev old : List ℕ
+    old = ownedRings (Interface i) (cellsIn d)
+
+    inside : InTable (s .routes) slot
+    inside = rw (g .long) (g .room)
+
+    were-named : NamedBy (s .routes) slot (cellsIn d)
+    were-named = named-from slot (s .routes) p (cellsIn d) (g .named) (live-tells slot d p l)
+
+    out : replaced (s .routes) slot (queuesOf old) [] ≡ replace.Done
+    out = release-done (s .routes) slot (cellsIn d) were-named i
+
+    named : NamedBy (withReplaced (s .routes) slot (queuesOf old) (queuesOf none)) slot (claimedCells i none (cellsIn d))
+    named = claim-named (s .routes) slot i none (cellsIn d) (rw no-queues out) were-named inside
+
+    routed :
+        Unrouted before slot →
+        RoutedBy (withReplaced (s .routes) slot (queuesOf old) (queuesOf none)) slot (claimedCells i none (cellsIn d))
+    routed u =
+        rw no-queues
+        (release-routed (s .routes) slot (cellsIn d) (routed-from slot (s .routes) p (cellsIn d) (g .own u) (live-tells slot d p l)) inside i .routed)
 
     -- A held setting's words are at the places of the interface's endpoints.
     words-dci : isHeld i (heldOf d) ≡ true → (q : ℕ) → q < 30 → someDci (dciAt q) ((releaseIn d i) .words) ≡ isOwned (Interface i) (cellsIn d) q
@@ -188,19 +205,14 @@ module _ (slot : ℕ) (before : List ℕ) (s : State) (buffers : Buffers) (i : �
     gone-good v =
         let e = v .accepted in
         let m = release-moves d _ _ _ i k end (v .moved) in
-        let n : isLost (end .answer) ≡ false = rw e refl in
         let held : now .plain .held ≡ without i (p .held) = rw e refl in
         let same : pairs (now .plain .held) ≡ withoutSetting i (heldOf d) =
         ap pairs held ∙ pairs-without i (p .held) ∙ ap (withoutSetting i) (l .held) in
-        let old = ownedRings (Interface i) (cellsIn d) in
         made-moved slot before s now g l (withoutSetting i (heldOf d)) (claimedCells i none (cellsIn d)) (isLost (end .answer)) m refl refl
         same (rw held settings-fit) old none
         (v .left ∙ ap (λ x. withReplaced (s .routes) x (queuesOf old) []) (l .place)
         ∙ ap (withReplaced (s .routes) slot (queuesOf old)) (sym no-queues))
-        (rw no-queues (rerouted .routed))
-        (now-tells slot before s now g l (withoutSetting i (heldOf d)) (claimedCells i none (cellsIn d)) (isLost (end .answer)) m refl refl
-        same (rw held settings-fit) n)
-        (accepted-enabled e)
+        named routed (accepted-enabled e)
 
     -- Otherwise it is as it was.
     stayed-good :
@@ -223,7 +235,7 @@ module _ (slot : ℕ) (before : List ℕ) (s : State) (buffers : Buffers) (i : �
     unfolding end course
     failed-enabled code e b f x two h =
         release-failed-enabled (releaseIn d i) (buffers .ctx) (s .routes) (buffers .outcomes) 0 spaced x two h (p .enabled) code e
-        ∙ g .kept .enabled b f x two h
+        ∙ g .enabled b f x two h
 
     ended-good : Says (releaseIn d i) (s .routes) end → OneAnswer (releaseIn d i) (s .routes) (end .answer) → Good slot before now
     unfolding now ran seen end course number releaseIn
@@ -234,8 +246,7 @@ module _ (slot : ℕ) (before : List ℕ) (s : State) (buffers : Buffers) (i : �
     ended-good (inr v) (inr (inr (inl e))) =
         stayed-good v (λ b f. lost-not (end .answer) (rw e refl) (or-right-false (p .broken) _ b))
     ended-good (inr v) (inr (inr (inr (e, n)))) =
-        absurd
-        (n (ap (λ x. replaced (s .routes) x (queuesOf (ownedRings (Interface i) (cellsIn d))) []) (l .place) ∙ rerouted .done))
+        absurd (n (ap (λ x. replaced (s .routes) x (queuesOf old) []) (l .place) ∙ out))
 
     few : length (words (buffers .outcomes) 0 course) ≤ length (buffers .log)
     unfolding course releaseIn
@@ -267,4 +278,4 @@ module _ (slot : ℕ) (before : List ℕ) (s : State) (buffers : Buffers) (i : �
   unfolding called contextCut cutAt left effectOf release checked run refuse course
   release-good =
       good-checked slot before s effect buffers run (buffers .ctx) (buffers .log) _ (mild-release d _ _ _ i) g
-      (λ k. run-good k (live-here slot before s g (passed d _ _ _ _ k .0 .usable)))
+      (λ k. run-good k (live-here slot before s g (passed d _ _ _ _ k .0 .is-sound)))

@@ -20,7 +20,7 @@ use Rattle.descriptor.specs.Word.{endpointDescriptor}
 use Rattle.context_block.specs.Promises.{someDci}
 use Rattle.context.specs.Place.{Spaced}
 use Rattle.transfer.specs.declared.Replaced.the-variants as replace
-use Rattle.transfer.specs.Routes.{names, ringFor, replaced, withReplaced}
+use Rattle.transfer.specs.Routes.{replaced, withReplaced}
 use Rattle.record_endpoint.specs.Order.{PLACES, placeOf, dciAt}
 use Rattle.record_endpoint.specs.Cells.{isOwned, owns, queuesOf, noCells, withActive}
 use Rattle.record_endpoint.specs.declared.cells.Cells.{Cells}
@@ -29,8 +29,8 @@ use Rattle.record_endpoint.proofs.Laws.{queues-fit, dci-low, dci-high}
 use Rattle.record_settings.specs.Held.{Held, isHeld, alternateOf, settingWords, heldWords, eachSetting}
 use Rattle.record_settings.specs.Match.{hasPlace, same, ownsPlaces, allOwn, endpointsMatch}
 use Rattle.record_settings.proofs.Laws.{each-at, match-facts}
-use Rattle.theorem_routing.specs.Routing.{Rerouted}
-use Rattle.theorem_routing.proofs.Laws.{each-dci, no-queues, bare-routed}
+use Rattle.theorem_routing.specs.Routing.{RoutedBy, NamedBy}
+use Rattle.theorem_routing.proofs.Laws.{each-dci, no-queues, bare-done, bare-routed}
 use Rattle.course_steps.specs.End.{End}
 use Rattle.theorem_controller.specs.Controller.{SET-CONFIGURATION, enabledAfter, doneWord}
 use Rattle.theorem_controller.proofs.Followed.{followed}
@@ -45,10 +45,10 @@ use Rattle.device.specs.SetConfiguration.{settingsIn, setRecord, setConfigurati
 use Rattle.device.proofs.Laws.{Passed, passed}
 use Rattle.device.proofs.Kept.{set-moves, set-stays}
 use Rattle.theorem_slot.specs.Call.{Buffers, configures, left}
-use Rattle.theorem_slot.specs.Plain.{Plain, heldQueues, isHeldDci, Effect, endsAll, effectOf, heldAfter, anew, seen}
+use Rattle.theorem_slot.specs.Plain.{Plain, isHeldDci, Effect, endsAll, effectOf, heldAfter, anew, seen}
 use Rattle.theorem_slot.specs.Theorem.{State, cutAt, contextCut, called}
 use Rattle.theorem_slot.proofs.Settings.{AllFit, pairs}
-use Rattle.theorem_slot.proofs.Good.{Good, Live, Tells, live-tells, routed-from, enabled-was, live-here}
+use Rattle.theorem_slot.proofs.Good.{Live, Unrouted, Good, live-tells, routed-from, named-from, enabled-was, live-here}
 use Rattle.theorem_slot.proofs.Step.{lost-not, checked, good-checked, mild-set, ran, checked-ran}
 use Rattle.theorem_slot.proofs.Made.{fit-active, made-moved, made-same, byte-dcis}
 use Rattle.theorem_slot.proofs.Claimed.{some-place, owned-ring}
@@ -113,15 +113,10 @@ place-held list (x ∷ hs) c q o h w =
         (each-at _ (and-left mine _ o) q h) t)
     go (inr t) r = r t
 
--- No settings, no endpoints.
-none-tells : (p : Plain) → p .held ≡ [] → Tells p noCells
-unfolding heldQueues ringFor names noCells
-none-tells p e =
-    record {
-      ring = λ q h. rw e (sym (getD-replicate 30 q 0 0 h));
-      named = λ q h. rw (e, eq-eqb (getD {A = ℕ} (replicate 30 0) q 0) 0 (getD-replicate 30 q 0 0 h)) refl;
-      low = rw e refl;
-    }
+-- No endpoints, none to be routed.
+none-named : (routes : List ℕ) (slot : ℕ) → NamedBy routes slot noCells
+unfolding noCells
+none-named routes slot q h z = absurd (z (getD-replicate 30 q 0 0 h))
 
 module _ (slot : ℕ) (before : List ℕ) (s : State) (buffers : Buffers) (value : ℕ) (byte : value < 256) (g : Good slot before s) where
   abbrev d : Device
@@ -163,13 +158,18 @@ module _ (slot : ℕ) (before : List ℕ) (s : State) (buffers : Buffers) (value
     unfolding settingsIn
     spaced = pass .spaced
 
-    rerouted : Rerouted (s .routes) slot (queuesOf rings) [] noCells
-    rerouted =
-        bare-routed (s .routes) slot (cellsIn d)
-        (routed-from slot (s .routes) p (cellsIn d) (g .kept .own) (live-tells slot d p l)) (rw (g .long) (g .room))
+    out : replaced (s .routes) slot (queuesOf rings) [] ≡ replace.Done
+    out =
+        bare-done (s .routes) slot (cellsIn d) (named-from slot (s .routes) p (cellsIn d) (g .named) (live-tells slot d p l))
+
+    routed : Unrouted before slot → RoutedBy (withReplaced (s .routes) slot (queuesOf rings) (queuesOf (replicate PLACES 0))) slot noCells
+    routed u =
+        rw no-queues
+        (bare-routed (s .routes) slot (cellsIn d) (routed-from slot (s .routes) p (cellsIn d) (g .own u) (live-tells slot d p l))
+        (rw (g .long) (g .room)) .routed)
 
     allowed : replaced (s .routes) (d .slot .0) (queuesOf rings) [] ≡ replace.Done
-    allowed = ap (λ x. replaced (s .routes) x (queuesOf rings) []) (l .place) ∙ rerouted .done
+    allowed = ap (λ x. replaced (s .routes) x (queuesOf rings) []) (l .place) ∙ out
 
     -- The held settings end exactly if the settings of the record are moved.
     log-tells : doneWord SET-CONFIGURATION (buffers .outcomes) 0 (words (buffers .outcomes) 0 course) ≡ end .moved
@@ -221,7 +221,7 @@ module _ (slot : ℕ) (before : List ℕ) (s : State) (buffers : Buffers) (value
         made-moved slot before s now g l [] noCells (isLost (end .answer)) m refl refl (ap pairs held) (rw held tt) rings (replicate PLACES 0)
         (v .gone t .2 ∙ ap (λ x. withReplaced (s .routes) x (queuesOf rings) []) (l .place)
         ∙ ap (withReplaced (s .routes) slot (queuesOf rings)) (sym no-queues))
-        (rw no-queues (rerouted .routed)) (none-tells (now .plain) held)
+        (none-named _ slot) routed
         (λ b f. enabled a (or-left-false (p .broken) _ b) (or-left-false (p .loose) _ f) (or-right-false (p .broken) _ b))
       where
         enabled :
@@ -245,7 +245,7 @@ module _ (slot : ℕ) (before : List ℕ) (s : State) (buffers : Buffers) (value
         set-failed-enabled (settingsIn d value) (buffers .ctx) (s .routes) (buffers .outcomes) 0 spaced (dciAt q) (dci-low q h)
         (dci-high q h) (p .enabled) code e
         (λ o. was b f q h ∙ ap not (word-ring q h (sym (words-dci q h) ∙ o)))
-        ∙ g .kept .enabled b f (dciAt q) (dci-low q h) (dci-high q h))
+        ∙ g .enabled b f (dciAt q) (dci-low q h) (dci-high q h))
 
     -- None is.
     stayed-good :
@@ -299,4 +299,4 @@ module _ (slot : ℕ) (before : List ℕ) (s : State) (buffers : Buffers) (value
   unfolding called contextCut cutAt left effectOf setConfiguration checked run refuse course
   set-good =
       good-checked slot before s effect buffers run (buffers .ctx) (buffers .log) _ (mild-set d _ _ _) g
-      (λ k. run-good k (live-here slot before s g (passed d _ _ _ _ k .0 .usable)))
+      (λ k. run-good k (live-here slot before s g (passed d _ _ _ _ k .0 .is-sound)))
