@@ -90,7 +90,7 @@ pub fn decode(image: &[u64]) -> Device
     ensures { λ r. ⌜ r ≡ decode (now (image .entry)) ⌝ }
 {
     if !test::is_image(image) {
-        return device_bring_up::no_device();
+        return device::no_device();
     }
     let control_handle = if image[2] == 0 {
         Handle::Active

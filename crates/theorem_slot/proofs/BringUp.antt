@@ -7,7 +7,8 @@ use native.Mathlib.Omega.{arith}
 use Rattle.transfer.specs.Routes.{routeOf}
 use Rattle.answer.specs.declared.Answer.{Answer}
 use Rattle.course_init.specs.Reading.{BringUp}
-use Rattle.device_bring_up.specs.BringUp.{noDevice, bringUp}
+use Rattle.device.specs.Device.{noDevice}
+use Rattle.device_bring_up.specs.BringUp.{bringUp}
 use Rattle.device_bring_up.proofs.Laws.{Refusal, Refused, bring-up-full}
 use Rattle.theorem_slot.specs.Call.{Buffers, bringsUp, left}
 use Rattle.theorem_slot.specs.Theorem.{State, contextCut, called}

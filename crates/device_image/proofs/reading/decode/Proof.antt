@@ -7,7 +7,7 @@ use native.Mathlib.Omega.{arith}
 use lib.ListN.{getD}
 use borrow.Author.Tests.{eq-eqb, ne-eqb, not-true, not-false}
 use Rattle.record_endpoint.specs.Cells.{tabulated}
-use Rattle.device_bring_up.specs.BringUp.{noDevice}
+use Rattle.device.specs.Device.{noDevice}
 use Rattle.device_image.specs.Image.{isSet, handleIn, numberAt, endpointIn, read, isImage, decode}
 use Rattle.device_image.proofs.Steps.{image-within, image-byte, read-of}
 use borrow.Author.Needs.{needs}
