@@ -23,6 +23,7 @@ use Rattle.answer.specs.declared.Check.the-variants.{Pass, Refuse}
 use Rattle.answer.specs.Answer.{number, isAccepted, isBroken, isCut}
 use Rattle.command.specs.Course.{played, result, words}
 use Rattle.command.proofs.Done.{AllDone}
+use Rattle.context.specs.Place.{spacingOf}
 use Rattle.record_endpoint.specs.Cells.{noCells}
 use Rattle.device.specs.declared.record.Device.{Device}
 use Rattle.device.specs.Device.{listOf, cellsIn, heldOf, quarantinedOf, noDevice}
