@@ -19,7 +19,7 @@ enum {
     XHCI_DEVICE_ACCEPTED = 0,
     XHCI_DEVICE_CONTEXT_LENGTH = 1,     /* the context is not 33 blocks of the record's spacing */
     XHCI_DEVICE_ROUTES_LENGTH = 2,      /* the routes are not 32 * (N + 1) words */
-    XHCI_DEVICE_LOG_TOO_SHORT = 3,      /* the log has less than 64 words */
+    XHCI_DEVICE_LOG_TOO_SHORT = 3,      /* the log has less than LOG_ROOM words */
     XHCI_DEVICE_DESCRIPTOR_LIST = 4,
     XHCI_DEVICE_HUB_CHAIN = 5,
     XHCI_DEVICE_SPEED = 6,
@@ -44,38 +44,51 @@ struct xhci_device_answered {
     size_t count;   /* how many words were logged */
 };
 
-/* A record is an image of 514 words, one for each number and each element of its arrays.
+/* A record is an image of so many words, one for each number and each element of its arrays.
  * Words that no record has (a wrong count of words, a flag above 1, a byte above 255, a descriptor word
  * of more than 32 bits) are no record: 12, and nothing changes.
  */
 #define XHCI_DEVICE_RECORD_WORDS 514
 
-/* Where the words stand. Of an array, the first `.._COUNT` elements (`LIST_LEN` of the list) are in use. */
+/* Room in a record's arrays. */
+enum {
+    XHCI_DEVICE_LIST_ROOM = 256,    /* descriptor words */
+    XHCI_DEVICE_EP_ROOM = 30,       /* endpoints */
+    XHCI_DEVICE_HELD_ROOM = 32,     /* held settings */
+    XHCI_DEVICE_RING_ROOM = 61      /* quarantined rings */
+};
+
+/* How many words the log of a call has at least. */
+#define XHCI_DEVICE_LOG_ROOM 64
+
+/* Where the words stand. Of an array, the first `.._COUNT` elements (`LIST_LEN` of the list) are in use.
+ * What a record gets from now on is appended: no word moves.
+ */
 enum {
     XHCI_DEVICE_USABLE = 0,                 /* flags: 0 or 1 */
     XHCI_DEVICE_CONFIGURED = 1,             /* a configuration value was read or set */
     XHCI_DEVICE_CONTROL_REVOKED = 2,
-    XHCI_DEVICE_EP_REVOKED = 3,             /* 30 */
+    XHCI_DEVICE_EP_REVOKED = 3,             /* EP_ROOM */
     XHCI_DEVICE_SLOT = 33,                  /* bytes */
     XHCI_DEVICE_N = 34,
     XHCI_DEVICE_PORT_SPEED = 35,
     XHCI_DEVICE_CURRENT_CONFIG_VALUE = 36,
-    XHCI_DEVICE_EP_ADDRESSES = 37,          /* 30 */
-    XHCI_DEVICE_EP_INTERFACES = 67,         /* 30 */
-    XHCI_DEVICE_INTERFACES = 97,            /* 32, of the held settings */
-    XHCI_DEVICE_ALTERNATES = 129,           /* 32 */
-    XHCI_DEVICE_LIST = 161,                 /* 256 descriptor words */
+    XHCI_DEVICE_EP_ADDRESSES = 37,          /* EP_ROOM */
+    XHCI_DEVICE_EP_INTERFACES = 67,         /* EP_ROOM, their owners */
+    XHCI_DEVICE_INTERFACES = 97,            /* HELD_ROOM, of the held settings */
+    XHCI_DEVICE_ALTERNATES = 129,           /* HELD_ROOM */
+    XHCI_DEVICE_LIST = 161,                 /* LIST_ROOM descriptor words */
     XHCI_DEVICE_SPACING = 417,
     XHCI_DEVICE_LIST_LEN = 418,
     XHCI_DEVICE_EP_COUNT = 419,
     XHCI_DEVICE_HELD_COUNT = 420,
     XHCI_DEVICE_QUARANTINED_COUNT = 421,
     XHCI_DEVICE_CONTROL = 422,              /* control's ring */
-    XHCI_DEVICE_EP_RINGS = 423,             /* 30 */
-    XHCI_DEVICE_QUARANTINED = 453           /* 61 */
+    XHCI_DEVICE_EP_RINGS = 423,             /* EP_ROOM */
+    XHCI_DEVICE_QUARANTINED = 453           /* RING_ROOM */
 };
 
-/* How many words an image has: 514. */
+/* How many words an image has: XHCI_DEVICE_RECORD_WORDS. */
 size_t xhci_device_record_words(void);
 
 /* Whether words are a record that is marked usable. */

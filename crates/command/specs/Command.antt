@@ -9,6 +9,10 @@ use Rattle.command.specs.declared.Command.the-variants as command
 use Rattle.command.specs.declared.Sent.{Sent}
 use Rattle.command.specs.declared.Sent.the-variants.{Done, Failed, Cut}
 
+-- How many words the log of a call has at least.
+abbrev pub LOG-ROOM : ℕ
+LOG-ROOM = 64
+
 -- A log word, 32 bits: operation 4, first 8, second 8.
 abbrev pub logWord : ℕ → ℕ → ℕ → ℕ
 logWord operation first second = operation * 2 ^ 28 + first * 2 ^ 20 + second * 2 ^ 12

@@ -5,6 +5,9 @@ ghost use lib.ListN.{length, set};
 ghost use Rattle.command.specs.Command.{commandWord, outcomeAt};
 ghost use Rattle.command.specs.Sweep.{orCode};
 
+// How many words the log of a call has at least.
+pub const LOG_ROOM: usize = 64;
+
 pub enum Command {
     Address,
     Evaluate,

@@ -58,3 +58,7 @@ pub record Spaced (spacing len : ℕ) : Type 0 where
   pub wide : 32 ≤ spacing
   pub narrow : spacing ≤ 64
   pub room : 33 * spacing ≤ len
+
+-- The length of a context gives the spacing of its blocks; 0 for a length that is none of a context.
+unfoldable pub spacingOf : ℕ → ℕ
+spacingOf len = cond (eqb len 1056) 32 (cond (eqb len 2112) 64 0)

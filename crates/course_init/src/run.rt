@@ -6,11 +6,13 @@ use context_writer::address_context;
 use course_set_configuration::SettingsArgs;
 use course_set_configuration::run_set_configuration;
 use def::SlotId;
+use record_settings::HELD_ROOM;
 ghost use mathlib.Core.Path.{_≡_};
 ghost use mathlib.Core.Bool.{true, false};
 ghost use mathlib.Core.List.{List};
 ghost use Prim.Native.Nat.{ℕ, _<_, _≤_};
 ghost use lib.ListN.{length};
+ghost use Rattle.command.specs.Command.{LOG-ROOM};
 ghost use Rattle.descriptor_list.specs.Valid.{validList};
 ghost use Rattle.answer.specs.Answer.{isAccepted};
 ghost use Rattle.command.specs.declared.Command.the-variants as commands;
@@ -83,7 +85,7 @@ pub fn address(
     list: &[u32],
 ) -> Ended
     requires { ⌜ Spaced spacing (length (now ctx)) ⌝ }
-    requires { ⌜ 64 ≤ length (now log) ⌝ }
+    requires { ⌜ LOG-ROOM ≤ length (now log) ⌝ }
     requires { ⌜ validList (now list) ≡ true ⌝ }
     ensures { λ r. ⌜ leavesRead r (now (list .entry)) (now (ctx .exit)) (now (routes .exit)) (now (log .exit)) ≡ played (now (outcomes .entry)) 0 (bringUpAddress (bringUpOf a (now (hubs .entry)) (now (list .entry))) spacing (now (ctx .entry)) (now (routes .entry))) (now (log .entry)) ⌝ }
 {
@@ -109,7 +111,7 @@ pub fn address(
 
 // Sends Address, and reads eight bytes of the device descriptor, the packet size among them.
 fn read_header(log: &mut [u32], outcomes: &[u8], a: BringUpArgs) -> Ended
-    requires { ⌜ 64 ≤ length (now log) ⌝ }
+    requires { ⌜ LOG-ROOM ≤ length (now log) ⌝ }
     ensures { λ r. ⌜ ((hubs list ctx routes : List ℕ) (spacing : ℕ) → validList list ≡ true → played (now (outcomes .entry)) 0 (step commands.Address nothingRead ctx routes (bringUpHeader (bringUpOf a hubs list) spacing ctx routes)) (now (log .entry)) ≡ orEnded r list ctx routes (now (log .exit)) (played (now (outcomes .entry)) 2 (bringUpPacket (bringUpOf a hubs list) spacing ctx routes) (now (log .exit)))) ⌝ }
 {
     let address = command::send(log, outcomes, 0, Command::Address);
@@ -140,7 +142,7 @@ fn read_header(log: &mut [u32], outcomes: &[u8], a: BringUpArgs) -> Ended
 
 // Sends the packet size's Evaluate, and reads the value of the configuration that is set now, the device descriptor and each configuration descriptor.
 fn read_descriptors(log: &mut [u32], outcomes: &[u8], a: BringUpArgs, list: &[u32]) -> Ended
-    requires { ⌜ 64 ≤ length (now log) ⌝ }
+    requires { ⌜ LOG-ROOM ≤ length (now log) ⌝ }
     requires { ⌜ validList (now list) ≡ true ⌝ }
     ensures { λ r. ⌜ (isAccepted (r .answer) ≡ true → AllRead r (now (list .entry))) ⌝ }
     ensures { λ r. ⌜ ((hubs ctx routes : List ℕ) (spacing : ℕ) → played (now (outcomes .entry)) 2 (step commands.Evaluate nothingRead ctx routes (bringUpConfiguration (bringUpOf a hubs (now (list .entry))) spacing ctx routes)) (now (log .entry)) ≡ orEnded r (now (list .entry)) ctx routes (now (log .exit)) (afterRead r (now (outcomes .entry)) (bringUpOf a hubs (now (list .entry))) spacing ctx routes (now (log .exit)))) ⌝ }
@@ -171,7 +173,7 @@ fn read_descriptors(log: &mut [u32], outcomes: &[u8], a: BringUpArgs, list: &[u3
 
 // Reads each configuration descriptor.
 fn read_configs(log: &mut [u32], outcomes: &[u8], a: BringUpArgs, list: &[u32]) -> Ended
-    requires { ⌜ 64 ≤ length (now log) ⌝ }
+    requires { ⌜ LOG-ROOM ≤ length (now log) ⌝ }
     requires { ⌜ validList (now list) ≡ true ⌝ }
     ensures { λ r. ⌜ (isAccepted (r .answer) ≡ true → AllRead r (now (list .entry))) ⌝ }
     ensures { λ r. ⌜ ((hubs ctx routes : List ℕ) (spacing : ℕ) → played (now (outcomes .entry)) 5 (bringUpRest (bringUpOf a hubs (now (list .entry))) spacing ctx routes) (now (log .entry)) ≡ orEnded r (now (list .entry)) ctx routes (now (log .exit)) (afterRead r (now (outcomes .entry)) (bringUpOf a hubs (now (list .entry))) spacing ctx routes (now (log .exit)))) ⌝ }
@@ -202,7 +204,7 @@ fn set_first(
     spacing: usize,
     list: &[u32],
 ) -> Ended
-    requires { ⌜ Spaced spacing (length (now ctx)) × ((0 < length (now list)) × (64 ≤ length (now log)) × AllRead read (now list)) ⌝ }
+    requires { ⌜ Spaced spacing (length (now ctx)) × ((0 < length (now list)) × (LOG-ROOM ≤ length (now log)) × AllRead read (now list)) ⌝ }
     ensures { λ r. ⌜ ((hubs : List ℕ) → leavesRead r (now (list .entry)) (now (ctx .exit)) (now (routes .exit)) (now (log .exit)) ≡ played (now (outcomes .entry)) (read .count) (bringUpSet (bringUpOf a hubs (now (list .entry))) spacing (now (ctx .entry)) (now (routes .entry))) (now (log .entry))) ⌝ }
 {
     let value = descriptor::configuration_value(list[0]);
@@ -212,8 +214,8 @@ fn set_first(
         spacing,
         speed: a.speed,
         value,
-        interfaces: [0; 32],
-        alternates: [0; 32],
+        interfaces: [0; HELD_ROOM],
+        alternates: [0; HELD_ROOM],
         held: 0,
         old: course_steps::no_queues(),
     };

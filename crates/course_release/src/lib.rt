@@ -4,12 +4,16 @@ use command::Command;
 use command::Sent;
 use course_steps::Ended;
 use def::SlotId;
+use descriptor_list::LIST_ROOM;
 use record_endpoint::Queues;
 use transfer::Replaced;
 ghost use mathlib.Core.Path.{_≡_};
 ghost use mathlib.Core.List.{List};
 ghost use Prim.Native.Nat.{ℕ, _+_, _≤_};
 ghost use lib.ListN.{length, take};
+ghost use Rattle.command.specs.Command.{LOG-ROOM};
+ghost use Rattle.descriptor_list.specs.Valid.{LIST-ROOM};
+ghost use Rattle.record_endpoint.specs.Order.{PLACES};
 ghost use Rattle.command.specs.Course.{played};
 ghost use Rattle.course_steps.specs.Arrays.{leaves, Room};
 ghost use Rattle.record_settings.specs.Held.{settingWords};
@@ -27,7 +31,7 @@ pub struct ReleaseArgs {
 }
 
 fn publish(routes: &mut [u64], n: usize, a: ReleaseArgs) -> Ended
-    requires { ⌜ a .old .count ≤ 30 ⌝ }
+    requires { ⌜ a .old .count ≤ PLACES ⌝ }
     ensures { λ r. ⌜ ((words o ctx log : List ℕ) → leaves r ctx (now (routes .exit)) log ≡ played o n (releasePublish (releaseOf a words) ctx (now (routes .entry))) log) ⌝ }
 {
     let none = course_steps::no_queues();
@@ -87,11 +91,11 @@ pub fn release_interface(
     log: &mut [u32],
     outcomes: &[u8],
     a: ReleaseArgs,
-    list: [u32; 256],
+    list: [u32; LIST_ROOM],
     n: usize,
 ) -> Ended
     requires { ⌜ Room (a .spacing) (length (now ctx)) (a .old) (a .all) ⌝ }
-    requires { ⌜ (64 ≤ length (now log)) × (n ≤ 256) ⌝ }
+    requires { ⌜ (LOG-ROOM ≤ length (now log)) × (n ≤ LIST-ROOM) ⌝ }
     ensures { λ r. ⌜ leaves r (now (ctx .exit)) (now (routes .exit)) (now (log .exit)) ≡ played (now (outcomes .entry)) 0 (releaseCourse (releaseOf a (settingWords (take n list) (a .interface) (a .alternate))) (now (ctx .entry)) (now (routes .entry))) (now (log .entry)) ⌝ }
 {
     let stop = course_steps::stop_queues(log, outcomes, 0, a.old);

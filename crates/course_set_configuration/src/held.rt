@@ -3,13 +3,14 @@ use super::run::SettingsArgs;
 ghost use mathlib.Core.Path.{_≡_};
 ghost use Prim.Native.Nat.{_≤_};
 ghost use lib.ListN.{length};
+ghost use Rattle.record_settings.specs.Held.{HELD-ROOM};
 ghost use Rattle.course_steps.specs.Arrays.{Room};
 ghost use Rattle.course_set_configuration.specs.SetConfiguration.{settingsOf, dropContext, restoreContext};
 
 // What the first Configure is given: the endpoints of the held settings dropped.
 pub fn prepare_drop(ctx: &mut [u8], a: SettingsArgs, list: &[u32])
     requires { ⌜ Room (a .spacing) (length (now ctx)) (a .old) (a .old) ⌝ }
-    requires { ⌜ a .held ≤ 32 ⌝ }
+    requires { ⌜ a .held ≤ HELD-ROOM ⌝ }
     ensures { λ r. ⌜ now (ctx .exit) ≡ dropContext (settingsOf a (now (list .entry))) (now (ctx .entry)) ⌝ }
 {
     context_writer::begin_configure(ctx, 0, 0);
@@ -27,7 +28,7 @@ pub fn prepare_drop(ctx: &mut [u8], a: SettingsArgs, list: &[u32])
 // What the Configure that undoes it is given: the endpoints added again, with their rings.
 pub fn prepare_restore(ctx: &mut [u8], a: SettingsArgs, list: &[u32])
     requires { ⌜ Room (a .spacing) (length (now ctx)) (a .old) (a .old) ⌝ }
-    requires { ⌜ a .held ≤ 32 ⌝ }
+    requires { ⌜ a .held ≤ HELD-ROOM ⌝ }
     ensures { λ r. ⌜ now (ctx .exit) ≡ restoreContext (settingsOf a (now (list .entry))) (now (ctx .entry)) ⌝ }
 {
     let old_dcis = a.old.dcis;

@@ -6,11 +6,14 @@ use command::Sent;
 use course_steps::Ended;
 use def::SlotId;
 use record_endpoint::Queues;
+use record_settings::HELD_ROOM;
 use transfer::Replaced;
 ghost use mathlib.Core.Path.{_≡_};
 ghost use mathlib.Core.List.{List};
 ghost use Prim.Native.Nat.{ℕ, _+_, _*_, _≤_};
 ghost use lib.ListN.{length};
+ghost use Rattle.record_settings.specs.Held.{HELD-ROOM};
+ghost use Rattle.record_endpoint.specs.Order.{PLACES};
 ghost use Rattle.answer.specs.declared.Answer.the-variants as answer;
 ghost use Rattle.command.specs.Course.{onSent, played};
 ghost use Rattle.course_steps.specs.Arrays.{leaves, Room};
@@ -23,8 +26,8 @@ pub struct SettingsArgs {
     pub spacing: usize,
     pub speed: u8,
     pub value: u8,
-    pub interfaces: [u8; 32],
-    pub alternates: [u8; 32],
+    pub interfaces: [u8; HELD_ROOM],
+    pub alternates: [u8; HELD_ROOM],
     pub held: usize,
     pub old: Queues,
 }
@@ -40,7 +43,7 @@ pub fn run_set_configuration(
     list: &[u32],
 ) -> Ended
     requires { ⌜ Room (a .spacing) (length (now ctx)) (a .old) (a .old) ⌝ }
-    requires { ⌜ a .held ≤ 32 ⌝ }
+    requires { ⌜ a .held ≤ HELD-ROOM ⌝ }
     requires { ⌜ n + 2 * a .old .count + 3 ≤ length (now log) ⌝ }
     ensures { λ r. ⌜ leaves r (now (ctx .exit)) (now (routes .exit)) (now (log .exit)) ≡ played (now (outcomes .entry)) n (setCourse (settingsOf a (now (list .entry))) (now (ctx .entry)) (now (routes .entry))) (now (log .entry)) ⌝ }
 {
@@ -65,7 +68,7 @@ fn configure(
     list: &[u32],
 ) -> Ended
     requires { ⌜ Room (a .spacing) (length (now ctx)) (a .old) (a .old) ⌝ }
-    requires { ⌜ (a .held ≤ 32) × (n + a .old .count + 3 ≤ length (now log)) ⌝ }
+    requires { ⌜ (a .held ≤ HELD-ROOM) × (n + a .old .count + 3 ≤ length (now log)) ⌝ }
     ensures { λ r. ⌜ leaves r (now (ctx .exit)) (now (routes .exit)) (now (log .exit)) ≡ played (now (outcomes .entry)) n (setConfigure (settingsOf a (now (list .entry))) (now (ctx .entry)) (now (routes .entry))) (now (log .entry)) ⌝ }
 {
     held::prepare_drop(ctx, a, list);
@@ -115,7 +118,7 @@ fn resume(
     done: Answer,
     failed: Answer,
 ) -> Ended
-    requires { ⌜ (q .count ≤ 30) × (n + q .count ≤ length (now log)) ⌝ }
+    requires { ⌜ (q .count ≤ PLACES) × (n + q .count ≤ length (now log)) ⌝ }
     ensures { λ r. ⌜ ((ctx routes : List ℕ) → leaves r ctx routes (now (log .exit)) ≡ played (now (outcomes .entry)) n (resumed q done failed ctx routes) (now (log .entry))) ⌝ }
 {
     let back = course_steps::resume_queues(log, outcomes, n, q);
@@ -135,7 +138,7 @@ fn restore(
     code: u8,
 ) -> Ended
     requires { ⌜ Room (a .spacing) (length (now ctx)) (a .old) (a .old) ⌝ }
-    requires { ⌜ a .held ≤ 32 ⌝ }
+    requires { ⌜ a .held ≤ HELD-ROOM ⌝ }
     requires { ⌜ n + a .old .count + 1 ≤ length (now log) ⌝ }
     ensures { λ r. ⌜ ((routes : List ℕ) → leaves r (now (ctx .exit)) routes (now (log .exit)) ≡ played (now (outcomes .entry)) n (setRestore (settingsOf a (now (list .entry))) code (now (ctx .entry)) routes) (now (log .entry))) ⌝ }
 {

@@ -6,6 +6,7 @@ use lib.ListN.{length, take}
 use Rattle.command.specs.Course.{Played}
 use Rattle.context.specs.Place.{Spaced}
 use Rattle.context.specs.Steps.{highestDci}
+use Rattle.record_endpoint.specs.Order.{PLACES}
 use Rattle.record_endpoint.specs.declared.pending.Queues.{Queues}
 use Rattle.transfer.specs.Routes.{Queue, queues}
 use Rattle.course_steps.specs.End.{End}
@@ -32,7 +33,7 @@ leaves r ctx routes log =
 -- What every phase asks: a context of this spacing, and counts that fit their arrays.
 pub record Room (spacing ctx : ℕ) (old all : Queues) : Type 0 where
   pub spaced : Spaced spacing ctx
-  pub few : old .count ≤ 30
+  pub few : old .count ≤ PLACES
   pub full : length (queuesIn old) ≡ old .count
-  pub few-all : all .count ≤ 30
+  pub few-all : all .count ≤ PLACES
   pub low : highestDci (dcisIn all) < 255

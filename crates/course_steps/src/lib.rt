@@ -4,6 +4,7 @@ use command::Command;
 use command::Sent;
 use command::Swept;
 use def::SlotId;
+use record_endpoint::PLACES;
 use record_endpoint::Queues;
 use transfer::Replaced;
 ghost use mathlib.Core.Path.{_≡_};
@@ -11,6 +12,7 @@ ghost use mathlib.Core.List.{List, []};
 ghost use mathlib.Core.Bool.{true, false};
 ghost use Prim.Native.Nat.{ℕ, _+_, _*_, _<_, _≤_};
 ghost use lib.ListN.{length};
+ghost use Rattle.record_endpoint.specs.Order.{PLACES};
 ghost use Rattle.command.specs.Course.{played};
 ghost use Rattle.command.specs.Sweep.{stopAll, resumeAll, SweptAs};
 ghost use Rattle.context.specs.Place.{written, Spaced};
@@ -29,7 +31,7 @@ pub struct Ended {
 
 // Resumes the endpoints of some queues in order, until one fails.
 pub fn resume_queues(log: &mut [u32], outcomes: &[u8], n: usize, q: Queues) -> Swept
-    requires { ⌜ (q .count ≤ 30) × (n + q .count ≤ length (now log)) ⌝ }
+    requires { ⌜ (q .count ≤ PLACES) × (n + q .count ≤ length (now log)) ⌝ }
     ensures { λ r. ⌜ ((ctx : List ℕ) → SweptAs r (now (log .exit)) (played (now (outcomes .entry)) n (resumeAll ctx (dcisIn q)) (now (log .entry)))) ⌝ }
 {
     let mut i = 0;
@@ -58,7 +60,7 @@ pub fn resume_queues(log: &mut [u32], outcomes: &[u8], n: usize, q: Queues) -> S
 
 // Stops the endpoints of some queues in order; where one fails, those already stopped are resumed.
 pub fn stop_queues(log: &mut [u32], outcomes: &[u8], n: usize, q: Queues) -> Swept
-    requires { ⌜ (q .count ≤ 30) × (n + 2 * q .count ≤ length (now log)) ⌝ }
+    requires { ⌜ (q .count ≤ PLACES) × (n + 2 * q .count ≤ length (now log)) ⌝ }
     ensures { λ r. ⌜ ((ctx : List ℕ) → SweptAs r (now (log .exit)) (played (now (outcomes .entry)) n (stopAll ctx (dcisIn q)) (now (log .entry)))) ⌝ }
 {
     let mut i = 0;
@@ -102,7 +104,7 @@ pub fn publish_endpoint_routes(
     old: Queues,
     new: Queues,
 ) -> Replaced
-    requires { ⌜ (old .count ≤ 30) × (new .count ≤ 30) ⌝ }
+    requires { ⌜ (old .count ≤ PLACES) × (new .count ≤ PLACES) ⌝ }
     ensures { λ r. ⌜ (r ≡ replaced (now (routes .entry)) (slot .0) (queuesIn old) (queuesIn new)) × (now (routes .exit) ≡ withReplaced (now (routes .entry)) (slot .0) (queuesIn old) (queuesIn new)) ⌝ }
 {
     let old_dcis = old.dcis;
@@ -123,8 +125,8 @@ pub fn no_queues() -> Queues
     ensures { λ r. ⌜ (queuesIn r ≡ []) × (r .count ≡ 0) ⌝ }
 {
     Queues {
-        dcis: [0; 30],
-        rings: [0; 30],
+        dcis: [0; PLACES],
+        rings: [0; PLACES],
         count: 0,
     }
 }
@@ -142,7 +144,7 @@ pub fn prepare_configure(
     all: Queues,
 )
     requires { ⌜ Spaced spacing (length (now ctx)) ⌝ }
-    requires { ⌜ (q .count ≤ 30) × (all .count ≤ 30) × (highestDci (dcisIn all) < 255) ⌝ }
+    requires { ⌜ (q .count ≤ PLACES) × (all .count ≤ PLACES) × (highestDci (dcisIn all) < 255) ⌝ }
     ensures { λ r. ⌜ now (ctx .exit) ≡ written spacing (configureWrites speed interface alternate (now (dropped .entry)) (now (added .entry)) (queuesIn q) (dcisIn all)) (now (ctx .entry)) ⌝ }
 {
     let dcis = q.dcis;

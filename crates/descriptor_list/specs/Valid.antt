@@ -7,6 +7,10 @@ use lib.ListN.{length}
 use Rattle.descriptor.specs.Word.{kind, interfaceNumber, wordOk, CONFIGURATION, ALTERNATE}
 use Rattle.descriptor_list.specs.Lookup.{endpointRun, ofInterface}
 
+-- How many words a list may have, and a record has room for.
+abbrev pub LIST-ROOM : ℕ
+LIST-ROOM = 256
+
 -- A nonempty list begins with a configuration.
 unfoldable pub beginsWithConfiguration : List ℕ → Bool
 beginsWithConfiguration [] = true
@@ -47,7 +51,7 @@ interfaces (w ∷ l) = cond (lastAlternate w l) (suc (interfaces l)) (interfaces
 -- 01's valid list; any other gives 4.
 unfoldable pub validList : List ℕ → Bool
 validList l =
-    leb (length l) 256
+    leb (length l) LIST-ROOM
     && (beginsWithConfiguration l
     && (wordsOk l
     && (runsFit l

@@ -6,6 +6,9 @@ ghost use lib.ListN.{drop};
 ghost use Rattle.descriptor_list.specs.Lookup.{endpointRun, findEndpoints};
 ghost use Rattle.descriptor_list.specs.Valid.{wordsOk, runsFit, configurations, interfaces, validList};
 
+// How many words a list may have, and a record has room for.
+pub const LIST_ROOM: usize = 256;
+
 // Where the endpoint words of an alternate setting stand.
 pub enum Found {
     Endpoints { start: usize, count: usize },
@@ -106,7 +109,7 @@ pub fn valid_list(list: &[u32]) -> bool
     if list.len() == 0 {
         return true;
     }
-    if 256 < list.len() || descriptor::word_kind(list[0]) != descriptor::CONFIGURATION {
+    if LIST_ROOM < list.len() || descriptor::word_kind(list[0]) != descriptor::CONFIGURATION {
         return false;
     }
     if 8 < count_configurations(list) {

@@ -12,7 +12,7 @@ use Rattle.record_settings.specs.Held.{Held, SettingsAs}
 use Rattle.course_steps.specs.declared.Ended.{Ended}
 use Rattle.device.specs.declared.record.Device.{Device}
 use Rattle.device.specs.declared.record.Called.{Called}
-use Rattle.device.specs.Device.{quarantinedOf, withCells, withHeld, withConfiguration, withQuarantined}
+use Rattle.device.specs.Device.{quarantinedOf, keep, put, rebuilt, withCells, withHeld, withConfiguration, withQuarantined}
 use Rattle.device.specs.Left.{marked}
 use Rattle.device.specs.Claim.{quarantines}
 
@@ -52,28 +52,7 @@ then-configured false a d x hs m l value p = rw p
 
 -- the record with the arrays of other settings
 abbrev pub holding : Settings → Device → Device
-holding held d =
-    record {
-      usable = d .usable;
-      slot = d .slot;
-      n = d .n;
-      spacing = d .spacing;
-      «port_speed» = d .«port_speed»;
-      configured = d .configured;
-      «current_config_value» = d .«current_config_value»;
-      list = d .list;
-      «list_len» = d .«list_len»;
-      eps = d .eps;
-      «ep_interfaces» = d .«ep_interfaces»;
-      «ep_count» = d .«ep_count»;
-      interfaces = held .interfaces;
-      alternates = held .alternates;
-      «held_count» = held .count;
-      control = d .control;
-      «control_handle» = d .«control_handle»;
-      quarantined = d .quarantined;
-      «quarantined_count» = d .«quarantined_count»;
-    }
+holding held d = rebuilt keep keep keep (put held) keep d
 
 -- the record that an end leaves, by whether the settings moved
 pub settled :

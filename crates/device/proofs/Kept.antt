@@ -3,7 +3,7 @@ use Prim.Native.Nat.{ℕ, _<_}
 use mathlib.Core.Path.{_≡_, refl, ap, _∙_}
 use mathlib.Core.Logic.{_⊎_, inl, inr, ⊎-elim}
 use mathlib.Core.Bool.{Bool, true, false, cond}
-use mathlib.Core.List.{List, []}
+use mathlib.Core.List.{List, [], _++_}
 use native.Mathlib.Omega.{arith}
 use lib.ListN.{length, getD, replicate, getD-replicate}
 use Rattle.laws.proofs.Cases.{decided}
@@ -28,7 +28,7 @@ use Rattle.record_settings.proofs.Laws.{sound-with, sound-without, sound-none, 
 use Rattle.course_steps.specs.End.{End}
 use Rattle.record_checks.proofs.Laws.{apart-none, apart-offered, offered-live, apart-claimed, apart-released}
 use Rattle.device.specs.declared.record.Device.{Device}
-use Rattle.device.specs.Device.{listOf, cellsIn, heldOf, quarantinedOf, withCells, withHeld, withConfiguration, withQuarantined}
+use Rattle.device.specs.Device.{listOf, cellsIn, heldOf, quarantinedOf, withCells, withHeld, withConfiguration, unusable}
 use Rattle.device.specs.Sound.{sound}
 use Rattle.device.specs.Left.{refused, marked, ended}
 use Rattle.device.specs.Check.{recordCheck, hubCheck}
@@ -39,7 +39,7 @@ use Rattle.device.specs.SetConfiguration.{bare, setRecord, setConfigurat
 use Rattle.device.proofs.Facts.{SoundFacts, none-quarantined}
 use Rattle.device.proofs.Laws.{passed, pass-if}
 use Rattle.device.proofs.Marks.{on-pass}
-use Rattle.device.proofs.Updates.{with-cells-quarantined, with-quarantined-quarantined, unusable-quarantined}
+use Rattle.device.proofs.Updates.{with-quarantined-quarantined}
 use Rattle.device.proofs.Made.{Made, sound-clean, sound-apart, marked-made, held-made, configured-made, active-made, quarantined-made}
 
 -- What a passed check of a claim says.
@@ -164,19 +164,14 @@ pub claim-quarantined :
     (d : Device) (ctx routes log i a : ℕ) (rings : List ℕ) → recordCheck d ctx routes log (claimCheck d i a rings) ≡ Pass →
     (e : End) → e .moved ≡ false → isBroken (e .answer) ≡ true →
     quarantinedOf (claimRecord d i a rings e) ≡ queueRings (queuesOf (pendingOf d i a rings))
-unfolding claimRecord marked quarantines
+unfolding claimRecord marked quarantines unusable withCells quarantinedOf
 claim-quarantined d ctx routes log i a rings k e m b =
     let t = passed d ctx routes log (claimCheck d i a rings) k in
     let c = withActive (Interface i) (e .active) (cellsIn d) in
     let by = queueRings (queuesOf (pendingOf d i a rings)) in
-    rw (
-      m,
-      b,
-      unusable-quarantined (withQuarantined by (withCells c d)),
-      with-quarantined-quarantined by (withCells c d),
-      with-cells-quarantined c d,
-      none-quarantined d (t .0 .usable) (t .0 .is-sound),
-    )
+    rw (m, b)
+    (with-quarantined-quarantined by (withCells c d)
+    ∙ ap (λ (l : List ℕ). l ++ by) (none-quarantined d (t .0 .usable) (t .0 .is-sound)))
 
 -- An accepted set configuration keeps its value.
 pub set-value :

@@ -26,13 +26,13 @@ use Rattle.record_settings.proofs.Laws.{held-length, sound-fits, match-active}
 use Rattle.record_checks.specs.Rings.{ringsFit}
 use Rattle.record_checks.proofs.Laws.{Apart, Disjoint, control-ok, clean-in, apart-in, apart-none, placedRings, placed-few, placed-none, all-ok, all-distinct, all-few, endpoint-rings, endpoints-few, queue-rings}
 use Rattle.device.specs.declared.record.Device.{Device}
-use Rattle.device.specs.Device.{listOf, cellsIn, heldOf, quarantinedOf, withCells, withHeld, withConfiguration, withQuarantined, unusable}
+use Rattle.device.specs.Device.{listOf, cellsIn, heldOf, quarantinedOf, keep, put, lost, valued, endpointArrays, settingArrays, ringArray, withCells, withHeld, withConfiguration, withQuarantined, unusable}
 use Rattle.device.specs.Sound.{placeSound, countsFit, listsSound, allRings, ringsSound, sound}
 use Rattle.device.specs.Left.{marked}
 use Rattle.device.specs.Claim.{quarantines}
 use Rattle.device.proofs.Counts.{sound-counts}
-use Rattle.device.proofs.Facts.{SoundFacts, sound-facts, unusable-not, none-quarantined}
-use Rattle.device.proofs.Updates.{Same, same-self, same-then, liveOf, with-cells-same, with-cells-usable, with-cells-held, with-cells-cells, with-cells-live, with-cells-count, with-cells-quarantined-count, with-held-same, with-held-usable, with-held-held, with-held-cells, with-held-live, with-held-count, with-held-quarantined-count, with-configuration-same, with-configuration-usable, with-configuration-held, with-configuration-cells, with-configuration-live, with-configuration-count, with-configuration-quarantined-count, with-quarantined-same, with-quarantined-usable, with-quarantined-held, with-quarantined-cells, unusable-same, unusable-held, unusable-cells, unusable-live, unusable-count, unusable-quarantined, unusable-quarantined-count, with-quarantined-live, with-quarantined-count, with-quarantined-count-of, with-quarantined-quarantined, with-cells-quarantined, with-held-quarantined, with-configuration-quarantined}
+use Rattle.device.proofs.Facts.{SoundFacts, sound-facts, none-quarantined}
+use Rattle.device.proofs.Updates.{Same, same-self, same-then, rebuilt-same, liveOf, with-cells-cells, with-cells-live, with-held-held, with-quarantined-quarantined}
 
 -- A sound record made of d: with d's own fields, these held settings and these endpoints; usable where it is not lost.
 pub record Made (d e : Device) (hs : List Held) (c : Cells) (lost : Bool) : Type 0 where
@@ -152,12 +152,13 @@ none-sound d e hs c s b settings match live =
 made-cond :
     (d e : Device) (hs : List Held) (c : Cells) (lost : Bool) → Same d e → e .usable ≡ true → heldOf e ≡ hs → cellsIn e ≡ c →
     sound (cond lost (unusable e) e) ≡ true → Made d (cond lost (unusable e) e) hs c lost
+unfolding unusable heldOf cellsIn
 made-cond d e hs c true s u h f g =
     record {
-      same = same-then d e (unusable e) s (unusable-same e);
-      held = unusable-held e ∙ h;
-      cells = unusable-cells e ∙ f;
-      usable = unusable-not e;
+      same = same-then d e (unusable e) s (rebuilt-same lost keep keep keep e);
+      held = h;
+      cells = f;
+      usable = refl;
       is-sound = g;
     }
 made-cond d e hs c false s u h f g = record { same = s; held = h; cells = f; usable = u; is-sound = g }
@@ -192,67 +193,74 @@ module _ (d : Device) (u : d .usable ≡ true) (s : sound d ≡ true) where
   pub marked-made : (a : Answer) → Made d (marked a d) (heldOf d) (cellsIn d) (isLost a)
   marked-made a = made-marked d d (heldOf d) (cellsIn d) a (same-self d) u refl refl s
 
+  -- none is in quarantine before
+  none-count : d .«quarantined_count» ≡ 0
+  none-count = sound-facts d s .rings .free u
+
+  none-placed : quarantinedOf d ≡ placedRings (replicate 30 0)
+  none-placed = none-quarantined d u s ∙ sym placed-none
+
   cells-base : (c : Cells) → CleanCells c → Base d (withCells c d) (heldOf d) c (replicate 30 0)
+  unfolding withCells heldOf quarantinedOf
   cells-base c clean =
-      let none : d .«quarantined_count» ≡ 0 = sound-facts d s .rings .free u in
       record {
-        same = with-cells-same c d;
-        held = with-cells-held c d;
+        same = rebuilt-same keep (put (endpointArrays c)) keep keep d;
+        held = refl;
         cells = with-cells-cells c d clean;
         live = with-cells-live c d;
-        count = with-cells-count c d;
-        quarantined = with-cells-quarantined c d ∙ none-quarantined d u s ∙ sym placed-none;
-        quarantined-count = with-cells-quarantined-count c d ∙ none ∙ ap length (sym placed-none);
-        free = λ t. with-cells-quarantined-count c d ∙ none;
+        count = refl;
+        quarantined = none-placed;
+        quarantined-count = none-count ∙ ap length (sym placed-none);
+        free = λ t. none-count;
       }
 
   held-base : (hs : List Held) (c : Cells) → CleanCells c → Base d (withHeld hs (withCells c d)) hs c (replicate 30 0)
+  unfolding withHeld cellsIn liveOf quarantinedOf
   held-base hs c clean =
       let b = cells-base c clean in
       let e = withCells c d in
       record {
-        same = same-then d e (withHeld hs e) (b .same) (with-held-same hs e);
+        same = same-then d e (withHeld hs e) (b .same) (rebuilt-same keep keep (put (settingArrays hs)) keep e);
         held = with-held-held hs e;
-        cells = with-held-cells hs e ∙ b .cells;
-        live = with-held-live hs e ∙ b .live;
-        count = with-held-count hs e ∙ b .count;
-        quarantined = with-held-quarantined hs e ∙ b .quarantined;
-        quarantined-count = with-held-quarantined-count hs e ∙ b .quarantined-count;
-        free = λ t. with-held-quarantined-count hs e ∙ b .free (with-cells-usable c d ∙ u);
+        cells = b .cells;
+        live = b .live;
+        count = b .count;
+        quarantined = b .quarantined;
+        quarantined-count = b .quarantined-count;
+        free = b .free;
       }
 
   -- Other settings and endpoints.
   pub held-made : (hs : List Held) (c : Cells) (a : Answer) → CleanCells c → settingsSound (listOf d) hs ≡ true →
       endpointsMatch (listOf d) hs c ≡ true → Apart (c .rings) (d .control) →
       Made d (marked a (withHeld hs (withCells c d))) hs c (isLost a)
+  unfolding withHeld withCells
   held-made hs c a clean settings match apart =
       let b = held-base hs c clean in
-      let e = withCells c d in
-      made-marked d (withHeld hs e) hs c a (b .same) (with-held-usable hs e ∙ with-cells-usable c d ∙ u) (b .held) (b .cells)
-      (none-sound d (withHeld hs e) hs c s b settings match apart)
+      let e = withHeld hs (withCells c d) in
+      made-marked d e hs c a (b .same) u (b .held) (b .cells) (none-sound d e hs c s b settings match apart)
 
   -- And a configuration value.
   pub configured-made : (value : ℕ) (hs : List Held) (c : Cells) (a : Answer) → CleanCells c → settingsSound (listOf d) hs ≡ true →
       endpointsMatch (listOf d) hs c ≡ true → Apart (c .rings) (d .control) →
       Made d (marked a (withConfiguration value (withHeld hs (withCells c d)))) hs c (isLost a)
+  unfolding withConfiguration withHeld withCells heldOf cellsIn liveOf quarantinedOf
   configured-made value hs c a clean settings match apart =
       let b = held-base hs c clean in
       let e = withHeld hs (withCells c d) in
       let v = withConfiguration value e in
       let full : Base d v hs c (replicate 30 0) =
       record {
-        same = same-then d e v (b .same) (with-configuration-same value e);
-        held = with-configuration-held value e ∙ b .held;
-        cells = with-configuration-cells value e ∙ b .cells;
-        live = with-configuration-live value e ∙ b .live;
-        count = with-configuration-count value e ∙ b .count;
-        quarantined = with-configuration-quarantined value e ∙ b .quarantined;
-        quarantined-count = with-configuration-quarantined-count value e ∙ b .quarantined-count;
-        free = λ t. with-configuration-quarantined-count value e ∙ b .free (sym (with-configuration-usable value e) ∙ t);
+        same = same-then d e v (b .same) (rebuilt-same (valued value) keep keep keep e);
+        held = b .held;
+        cells = b .cells;
+        live = b .live;
+        count = b .count;
+        quarantined = b .quarantined;
+        quarantined-count = b .quarantined-count;
+        free = b .free;
       } in
-      made-marked d v hs c a (full .same)
-      (with-configuration-usable value e ∙ with-held-usable hs (withCells c d) ∙ with-cells-usable c d ∙ u) (full .held) (full .cells)
-      (none-sound d v hs c s full settings match apart)
+      made-marked d v hs c a (full .same) u (full .held) (full .cells) (none-sound d v hs c s full settings match apart)
 
   module _ (who : Owner) (n : ℕ) where
     revoked : Device
@@ -263,8 +271,8 @@ module _ (d : Device) (u : d .usable ≡ true) (s : sound d ≡ true) where
     revoked-base = cells-base (withActive who n (cellsIn d)) (clean-active who n (cellsIn d) (sound-clean d s))
 
     revoked-usable : revoked .usable ≡ true
-    unfolding revoked
-    revoked-usable = with-cells-usable (withActive who n (cellsIn d)) d ∙ u
+    unfolding revoked withCells
+    revoked-usable = u
 
     active-match : endpointsMatch (listOf d) (heldOf d) (withActive who n (cellsIn d)) ≡ true
     active-match = match-active (listOf d) (heldOf d) who n (cellsIn d) ∙ sound-facts d s .endpoints
@@ -290,31 +298,30 @@ module _ (d : Device) (u : d .usable ≡ true) (s : sound d ≡ true) where
       broken = withQuarantined (queueRings (queuesOf by)) revoked
 
       broken-rings : quarantinedOf broken ≡ placedRings by
-      unfolding broken revoked
+      unfolding broken revoked withCells quarantinedOf
       broken-rings =
           with-quarantined-quarantined (queueRings (queuesOf by)) revoked
-          ∙ rw (with-cells-quarantined (withActive who n (cellsIn d)) d, none-quarantined d u s) (queue-rings by)
+          ∙ ap (λ (l : List ℕ). l ++ queueRings (queuesOf by)) (none-quarantined d u s) ∙ queue-rings by
 
-      broken-count : broken .«quarantined_count» ≡ length (placedRings by)
-      unfolding broken
-      broken-count = with-quarantined-count-of (queueRings (queuesOf by)) revoked ∙ ap length broken-rings
+      broken-same : Same d broken
+      unfolding broken withQuarantined
+      broken-same =
+          same-then d revoked broken (revoked-base .same)
+          (rebuilt-same keep keep keep (put (ringArray (quarantinedOf revoked ++ queueRings (queuesOf by)))) revoked)
 
       broken-base : Base d (unusable broken) (heldOf d) (withActive who n (cellsIn d)) by
-      unfolding broken
+      unfolding broken withQuarantined unusable heldOf cellsIn liveOf quarantinedOf
       broken-base =
           let b = revoked-base in
-          let rings = queueRings (queuesOf by) in
           record {
-            same =
-                same-then d broken (unusable broken) (same-then d revoked broken (b .same) (with-quarantined-same rings revoked))
-                (unusable-same broken);
-            held = unusable-held broken ∙ with-quarantined-held rings revoked ∙ b .held;
-            cells = unusable-cells broken ∙ with-quarantined-cells rings revoked ∙ b .cells;
-            live = unusable-live broken ∙ with-quarantined-live rings revoked ∙ b .live;
-            count = unusable-count broken ∙ with-quarantined-count rings revoked ∙ b .count;
-            quarantined = unusable-quarantined broken ∙ broken-rings;
-            quarantined-count = unusable-quarantined-count broken ∙ broken-count;
-            free = λ t. not-both ((unusable broken) .usable) t (unusable-not broken);
+            same = same-then d broken (unusable broken) broken-same (rebuilt-same lost keep keep keep broken);
+            held = b .held;
+            cells = b .cells;
+            live = b .live;
+            count = b .count;
+            quarantined = broken-rings;
+            quarantined-count = ap length (sym (with-quarantined-quarantined (queueRings (queuesOf by)) revoked) ∙ broken-rings);
+            free = λ t. not-both false t refl;
           }
 
       broken-sound : sound (unusable broken) ≡ true
@@ -324,14 +331,10 @@ module _ (d : Device) (u : d .usable ≡ true) (s : sound d ≡ true) where
 
       quarantined-cond : (b k : Bool) →
           Made d (cond (b || k) (unusable (cond b broken revoked)) (cond b broken revoked)) (heldOf d) (withActive who n (cellsIn d)) (b || k)
-      unfolding broken
+      unfolding broken withQuarantined heldOf cellsIn
       quarantined-cond true k =
           let b = revoked-base in
-          let rings = queueRings (queuesOf by) in
-          made-cond d broken (heldOf d) (withActive who n (cellsIn d)) true
-          (same-then d revoked broken (b .same) (with-quarantined-same rings revoked))
-          (with-quarantined-usable rings revoked ∙ revoked-usable)
-          (with-quarantined-held rings revoked ∙ b .held) (with-quarantined-cells rings revoked ∙ b .cells) broken-sound
+          made-cond d broken (heldOf d) (withActive who n (cellsIn d)) true broken-same revoked-usable (b .held) (b .cells) broken-sound
       quarantined-cond false k =
           let b = revoked-base in
           made-cond d revoked (heldOf d) (withActive who n (cellsIn d)) k (b .same) revoked-usable (b .held) (b .cells)

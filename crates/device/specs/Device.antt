@@ -1,12 +1,19 @@
 -- What a record says, and what a call makes of it.
 use Prim.Native.Nat.{ℕ}
-use mathlib.Core.Bool.{true, false}
+use mathlib.Core.Bool.{Bool, true, false}
 use mathlib.Core.List.{List, _++_}
-use lib.ListN.{length, take}
+use lib.ListN.{length, take, replicate}
+use Rattle.descriptor_list.specs.Valid.{LIST-ROOM}
+use Rattle.record_ring.specs.Rings.{RING-ROOM}
+use Rattle.record_endpoint.specs.Order.{PLACES}
 use Rattle.record_endpoint.specs.declared.cells.Cells.{Cells}
+use Rattle.record_endpoint.specs.declared.entry.Endpoints.{Endpoints}
+use Rattle.record_endpoint.specs.declared.entry.Handle.{Handle}
+use Rattle.record_endpoint.specs.declared.entry.Handle.the-variants.{Active}
 use Rattle.record_endpoint.specs.Cells.{cellsOf, endpointsOf, ownersOf}
 use Rattle.record_endpoint.specs.Endpoint.{blank, padded}
-use Rattle.record_settings.specs.Held.{Held, heldIn, interfacesOf, alternatesOf}
+use Rattle.record_settings.specs.declared.held.Settings.{Settings}
+use Rattle.record_settings.specs.Held.{HELD-ROOM, Held, heldIn, interfacesOf, alternatesOf}
 use Rattle.device.specs.declared.record.Device.{Device}
 
 -- The descriptor list, the endpoints by place, the held settings and the quarantined rings of a record.
@@ -22,127 +29,143 @@ heldOf d = heldIn (d .«held_count») (d .interfaces) (d .alternates)
 unfoldable pub quarantinedOf : Device → List ℕ
 quarantinedOf d = take (d .«quarantined_count») (d .quarantined)
 
--- The record with other endpoints, by rising address, blanks past them.
-unfoldable pub withCells : Cells → Device → Device
-withCells c d =
-    record {
-      usable = d .usable;
-      slot = d .slot;
+-- What a bring-up says for good: no later call changes it.
+pub record Fixed : Type 0 where
+  pub slot : ℕ
+  pub n : ℕ
+  pub spacing : ℕ
+  pub speed : ℕ
+  pub list : List ℕ
+  pub listLength : ℕ
+  pub control : ℕ
+
+-- The mark, the configuration value and control's handle.
+pub record Status : Type 0 where
+  pub usable : Bool
+  pub configured : Bool
+  pub value : ℕ
+  pub handle : Handle
+
+-- What becomes of a part of a record: it stays, or is another.
+abbrev pub keep : {A : Type 0} → A → A
+keep was = was
+
+abbrev pub put : {A : Type 0} → A → A → A
+put new was = new
+
+-- The record with its parts made anew: what a bring-up said, the status, the endpoints, the settings, the quarantine.
+unfoldable pub rebuilt :
+    (Fixed → Fixed) → (Status → Status) → (Endpoints → Endpoints) → (Settings → Settings) → (List ℕ × ℕ → List ℕ × ℕ) → Device → Device
+rebuilt fixed status endpoints settings quarantine d =
+    let f =
+    fixed
+    (record {
+      slot = d .slot .0;
       n = d .n;
       spacing = d .spacing;
-      «port_speed» = d .«port_speed»;
-      configured = d .configured;
-      «current_config_value» = d .«current_config_value»;
+      speed = d .«port_speed»;
       list = d .list;
-      «list_len» = d .«list_len»;
-      eps = padded 30 blank (endpointsOf c);
-      «ep_interfaces» = padded 30 0 (ownersOf c);
-      «ep_count» = length (endpointsOf c);
-      interfaces = d .interfaces;
-      alternates = d .alternates;
-      «held_count» = d .«held_count»;
+      listLength = d .«list_len»;
       control = d .control;
-      «control_handle» = d .«control_handle»;
-      quarantined = d .quarantined;
-      «quarantined_count» = d .«quarantined_count»;
+    }) in
+    let t =
+    status
+    (record {
+      usable = d .usable;
+      configured = d .configured;
+      value = d .«current_config_value»;
+      handle = d .«control_handle»;
+    }) in
+    let e = endpoints (record { eps = d .eps; owners = d .«ep_interfaces»; count = d .«ep_count» }) in
+    let s = settings (record { interfaces = d .interfaces; alternates = d .alternates; count = d .«held_count» }) in
+    let q = quarantine (d .quarantined, d .«quarantined_count») in
+    record {
+      usable = t .usable;
+      slot = record { 0 = f .slot };
+      n = f .n;
+      spacing = f .spacing;
+      «port_speed» = f .speed;
+      configured = t .configured;
+      «current_config_value» = t .value;
+      list = f .list;
+      «list_len» = f .listLength;
+      eps = e .eps;
+      «ep_interfaces» = e .owners;
+      «ep_count» = e .count;
+      interfaces = s .interfaces;
+      alternates = s .alternates;
+      «held_count» = s .count;
+      control = f .control;
+      «control_handle» = t .handle;
+      quarantined = q .0;
+      «quarantined_count» = q .1;
     }
 
--- The record with other held settings.
-unfoldable pub withHeld : List Held → Device → Device
-withHeld hs d =
+-- The record of a refused bring-up: unusable and otherwise empty.
+unfoldable pub noDevice : Device
+noDevice =
     record {
-      usable = d .usable;
-      slot = d .slot;
-      n = d .n;
-      spacing = d .spacing;
-      «port_speed» = d .«port_speed»;
-      configured = d .configured;
-      «current_config_value» = d .«current_config_value»;
-      list = d .list;
-      «list_len» = d .«list_len»;
-      eps = d .eps;
-      «ep_interfaces» = d .«ep_interfaces»;
-      «ep_count» = d .«ep_count»;
-      interfaces = padded 32 0 (interfacesOf hs);
-      alternates = padded 32 0 (alternatesOf hs);
-      «held_count» = length hs;
-      control = d .control;
-      «control_handle» = d .«control_handle»;
-      quarantined = d .quarantined;
-      «quarantined_count» = d .«quarantined_count»;
+      usable = false;
+      slot = record { 0 = 0 };
+      n = 0;
+      spacing = 0;
+      «port_speed» = 0;
+      configured = false;
+      «current_config_value» = 0;
+      list = replicate LIST-ROOM 0;
+      «list_len» = 0;
+      eps = replicate PLACES blank;
+      «ep_interfaces» = replicate PLACES 0;
+      «ep_count» = 0;
+      interfaces = replicate HELD-ROOM 0;
+      alternates = replicate HELD-ROOM 0;
+      «held_count» = 0;
+      control = 0;
+      «control_handle» = Active;
+      quarantined = replicate RING-ROOM 0;
+      «quarantined_count» = 0;
     }
 
--- The record with a configuration value.
-unfoldable pub withConfiguration : ℕ → Device → Device
-withConfiguration value d =
-    record {
-      usable = d .usable;
-      slot = d .slot;
-      n = d .n;
-      spacing = d .spacing;
-      «port_speed» = d .«port_speed»;
-      configured = true;
-      «current_config_value» = value;
-      list = d .list;
-      «list_len» = d .«list_len»;
-      eps = d .eps;
-      «ep_interfaces» = d .«ep_interfaces»;
-      «ep_count» = d .«ep_count»;
-      interfaces = d .interfaces;
-      alternates = d .alternates;
-      «held_count» = d .«held_count»;
-      control = d .control;
-      «control_handle» = d .«control_handle»;
-      quarantined = d .quarantined;
-      «quarantined_count» = d .«quarantined_count»;
-    }
+-- A status marked unusable, and one with a configuration value.
+abbrev pub lost : Status → Status
+lost t = record { usable = false; configured = t .configured; value = t .value; handle = t .handle }
 
--- The record with rings in quarantine, after those that are there.
-unfoldable pub withQuarantined : List ℕ → Device → Device
-withQuarantined rings d =
-    record {
-      usable = d .usable;
-      slot = d .slot;
-      n = d .n;
-      spacing = d .spacing;
-      «port_speed» = d .«port_speed»;
-      configured = d .configured;
-      «current_config_value» = d .«current_config_value»;
-      list = d .list;
-      «list_len» = d .«list_len»;
-      eps = d .eps;
-      «ep_interfaces» = d .«ep_interfaces»;
-      «ep_count» = d .«ep_count»;
-      interfaces = d .interfaces;
-      alternates = d .alternates;
-      «held_count» = d .«held_count»;
-      control = d .control;
-      «control_handle» = d .«control_handle»;
-      quarantined = padded 61 0 (quarantinedOf d ++ rings);
-      «quarantined_count» = length (quarantinedOf d ++ rings);
-    }
+abbrev pub valued : ℕ → Status → Status
+valued value t = record { usable = t .usable; configured = true; value = value; handle = t .handle }
+
+-- The arrays of some endpoints, by rising address, blanks past them; of some settings; of some rings.
+unfoldable pub endpointArrays : Cells → Endpoints
+endpointArrays c =
+    record { eps = padded PLACES blank (endpointsOf c); owners = padded PLACES 0 (ownersOf c); count = length (endpointsOf c) }
+
+unfoldable pub settingArrays : List Held → Settings
+settingArrays hs =
+    record { interfaces = padded HELD-ROOM 0 (interfacesOf hs); alternates = padded HELD-ROOM 0 (alternatesOf hs); count = length hs }
+
+unfoldable pub ringArray : List ℕ → List ℕ × ℕ
+ringArray rings = (padded RING-ROOM 0 rings, length rings)
 
 -- The record marked unusable.
 unfoldable pub unusable : Device → Device
-unusable d =
-    record {
-      usable = false;
-      slot = d .slot;
-      n = d .n;
-      spacing = d .spacing;
-      «port_speed» = d .«port_speed»;
-      configured = d .configured;
-      «current_config_value» = d .«current_config_value»;
-      list = d .list;
-      «list_len» = d .«list_len»;
-      eps = d .eps;
-      «ep_interfaces» = d .«ep_interfaces»;
-      «ep_count» = d .«ep_count»;
-      interfaces = d .interfaces;
-      alternates = d .alternates;
-      «held_count» = d .«held_count»;
-      control = d .control;
-      «control_handle» = d .«control_handle»;
-      quarantined = d .quarantined;
-      «quarantined_count» = d .«quarantined_count»;
-    }
+unfolding rebuilt
+unusable d = rebuilt keep lost keep keep keep d
+
+-- The record with a configuration value.
+unfoldable pub withConfiguration : ℕ → Device → Device
+unfolding rebuilt
+withConfiguration value d = rebuilt keep (valued value) keep keep keep d
+
+-- The record with other endpoints.
+unfoldable pub withCells : Cells → Device → Device
+unfolding rebuilt endpointArrays
+withCells c d = rebuilt keep keep (put (endpointArrays c)) keep keep d
+
+-- The record with other held settings.
+unfoldable pub withHeld : List Held → Device → Device
+unfolding rebuilt settingArrays
+withHeld hs d = rebuilt keep keep keep (put (settingArrays hs)) keep d
+
+-- The record with rings in quarantine, after those that are there.
+unfoldable pub withQuarantined : List ℕ → Device → Device
+unfolding rebuilt ringArray
+withQuarantined rings d = rebuilt keep keep keep keep (put (ringArray (quarantinedOf d ++ rings))) d

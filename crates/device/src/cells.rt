@@ -3,10 +3,11 @@ use super::record::Device;
 use record_endpoint::Cells;
 ghost use mathlib.Core.Path.{_≡_};
 ghost use Prim.Native.Nat.{_≤_};
+ghost use Rattle.record_endpoint.specs.Order.{PLACES};
 ghost use Rattle.device.specs.Device.{cellsIn};
 
 pub fn cells_in(d: Device) -> Cells
-    requires { ⌜ d .«ep_count» ≤ 30 ⌝ }
+    requires { ⌜ d .«ep_count» ≤ PLACES ⌝ }
     ensures { λ r. ⌜ r ≡ cellsIn d ⌝ }
 {
     let eps = d.eps;

@@ -11,3 +11,4 @@ mod update;
 
 pub use record::Called;
 pub use record::Device;
+pub use record::no_device;

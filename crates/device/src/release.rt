@@ -6,6 +6,7 @@ use super::update;
 use answer::Check;
 use course_release::ReleaseArgs;
 use record_endpoint::Owner;
+use record_endpoint::PLACES;
 ghost use mathlib.Core.Path.{_≡_};
 ghost use Rattle.device.specs.Left.{leaves};
 ghost use Rattle.device.specs.Release.{release};
@@ -72,7 +73,7 @@ impl Device {
             self.held_count,
             interface,
         );
-        let others = record_endpoint::claimed_cells(interface, [0u64; 30], c);
+        let others = record_endpoint::claimed_cells(interface, [0u64; PLACES], c);
         update::at_end(self, c, e, Owner::Interface(interface), others, held)
     }
 }

@@ -9,6 +9,7 @@ use course_set_configuration::SettingsArgs;
 use course_set_configuration::run_set_configuration;
 use course_steps::Ended;
 use record_endpoint::Owner;
+use record_settings::HELD_ROOM;
 use record_settings::Settings;
 ghost use mathlib.Core.Path.{_≡_};
 ghost use mathlib.Core.Bool.{cond};
@@ -70,8 +71,8 @@ impl Device {
         let e = run_set_configuration(ctx, routes, log, outcomes, 0, args, &list[..self.list_len]);
         self = configured(self, e, value);
         let none = Settings {
-            interfaces: [0u8; 32],
-            alternates: [0u8; 32],
+            interfaces: [0u8; HELD_ROOM],
+            alternates: [0u8; HELD_ROOM],
             count: 0,
         };
         update::at_end(self, c, e, Owner::Any, record_endpoint::no_cells(), none)

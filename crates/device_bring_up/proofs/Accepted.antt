@@ -11,6 +11,7 @@ use Rattle.laws.proofs.Distinct.{elem, distinct}
 use Rattle.descriptor_list.proofs.Laws.{valid-length}
 use Rattle.record_ring.specs.Rings.{ringsOk}
 use Rattle.answer.specs.Answer.{number}
+use Rattle.context.specs.Place.{spacingOf}
 use Rattle.record_endpoint.specs.Cells.{cellsFrom, cellsOf, noCells}
 use Rattle.record_endpoint.specs.Endpoint.{addresses, ringsOf, addressesFit, padded}
 use Rattle.record_settings.specs.Held.{heldIn, interfacesOf, eachSetting, allFound, settingsSound}
@@ -22,7 +23,7 @@ use Rattle.device.specs.Sound.{placeSound, countsFit, allRings, ringsSound, sou
 use Rattle.device.proofs.Made.{sound-if}
 use Rattle.device.proofs.Updates.{liveOf}
 use Rattle.course_init.specs.Reading.{BringUp, Brought}
-use Rattle.device_bring_up.specs.BringUp.{spacingOf, broughtRecord}
+use Rattle.device_bring_up.specs.BringUp.{broughtRecord}
 use Rattle.device_bring_up.proofs.Checks.{Passed}
 
 either-true : (b : Bool) → (not b || true) ≡ true

@@ -18,11 +18,11 @@ use Rattle.answer.specs.declared.Answer.{Answer}
 use Rattle.answer.specs.declared.Answer.the-variants as answer
 use Rattle.answer.specs.declared.Check.{Check}
 use Rattle.answer.specs.declared.Check.the-variants.{Pass, Refuse}
-use Rattle.context.specs.Place.{Spaced}
+use Rattle.context.specs.Place.{Spaced, spacingOf}
 use Rattle.record_checks.specs.Lengths.{lengthsCheck}
 use Rattle.device.proofs.Laws.{andThen, then-if, pass-if}
 use Rattle.course_init.specs.Reading.{BringUp}
-use Rattle.device_bring_up.specs.BringUp.{spacingOf, slotCheck, deviceCheck, queueCheck, bringUpCheck}
+use Rattle.device_bring_up.specs.BringUp.{slotCheck, deviceCheck, queueCheck, bringUpCheck}
 
 -- a length is a context's where it is 33 blocks of the spacing that the code takes
 known-length : (ctx : ℕ) (b : Bool) → eqb ctx 1056 ≡ b → eqb ctx (33 * cond b 32 64) ≡ (b || eqb ctx 2112)

@@ -23,15 +23,16 @@ use Rattle.answer.specs.declared.Check.the-variants.{Pass, Refuse}
 use Rattle.answer.specs.Answer.{number, isAccepted, isBroken, isCut}
 use Rattle.command.specs.Course.{played, result, words}
 use Rattle.command.proofs.Done.{AllDone}
+use Rattle.context.specs.Place.{spacingOf}
 use Rattle.record_endpoint.specs.Cells.{noCells}
 use Rattle.device.specs.declared.record.Device.{Device}
-use Rattle.device.specs.Device.{listOf, cellsIn, heldOf, quarantinedOf}
+use Rattle.device.specs.Device.{listOf, cellsIn, heldOf, quarantinedOf, noDevice}
 use Rattle.device.specs.Left.{Left, refused}
 use Rattle.device.specs.Sound.{sound}
 use Rattle.device.specs.Calls.{onCheck}
 use Rattle.course_init.specs.Reading.{BringUp, Brought}
 use Rattle.course_init.proofs.Laws.{EndFacts, address-facts, address-done, address-words}
-use Rattle.device_bring_up.specs.BringUp.{spacingOf, slotCheck, deviceCheck, queueCheck, bringUpCheck, bringUpCourse, broughtRecord, noDevice, broughtLeft, bringUp}
+use Rattle.device_bring_up.specs.BringUp.{slotCheck, deviceCheck, queueCheck, bringUpCheck, bringUpCourse, broughtRecord, broughtLeft, bringUp}
 use Rattle.device.proofs.Laws.{pass-if}
 use Rattle.device_bring_up.proofs.Checks.{Passed, passed}
 use Rattle.device_bring_up.proofs.Accepted.{record-held, record-cells, record-quarantined, record-list, record-usable, usable-accepted, record-sound}

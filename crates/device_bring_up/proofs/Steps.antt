@@ -19,13 +19,14 @@ use Rattle.answer.specs.declared.Answer.the-variants as answer
 use Rattle.answer.specs.declared.Check.{Check}
 use Rattle.answer.specs.declared.Check.the-variants.{Pass, Refuse}
 use Rattle.command.specs.Course.{Played, played}
-use Rattle.context.specs.Place.{Spaced}
+use Rattle.context.specs.Place.{Spaced, spacingOf}
 use Rattle.course_init.specs.Reading.{BringUp, Brought}
 use Rattle.course_init.specs.Init.{bringUpAddress}
 use Rattle.device.specs.declared.record.Device.{Device}
+use Rattle.device.specs.Device.{noDevice}
 use Rattle.device.specs.Left.{Left, leaves, refused}
 use Rattle.device.specs.Calls.{onCheck}
-use Rattle.device_bring_up.specs.BringUp.{spacingOf, deviceCheck, queueCheck, bringUpCheck, bringUpCourse, noDevice, broughtLeft, bringUp}
+use Rattle.device_bring_up.specs.BringUp.{deviceCheck, queueCheck, bringUpCheck, bringUpCourse, broughtLeft, bringUp}
 use Rattle.device_bring_up.proofs.Checks.{Passed, passed}
 
 -- one test decides what is answered, what 17 says, and what is left of the table

@@ -11,7 +11,6 @@ ghost use Rattle.device.specs.Left.{leaves};
 ghost use Rattle.course_init.specs.Reading.{bringUpOf};
 ghost use Rattle.device_bring_up.specs.BringUp.{bringUp};
 pub use course_init::BringUpArgs;
-pub use record::no_device;
 
 // The bring-up of a slot: checks, the last of which registers control's route; then the course, and the record that its end makes.
 pub fn bring_up(
@@ -29,7 +28,7 @@ pub fn bring_up(
     let check = check::enter(routes, a, spacing, ctx.len(), log.len(), hubs, list);
     if let Check::Refuse(x) = check {
         return Called {
-            device: record::no_device(),
+            device: device::no_device(),
             answer: x,
             count: 0,
         };

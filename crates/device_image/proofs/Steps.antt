@@ -1,7 +1,7 @@
 -- One turn of each loop, and what is known before and after.
 use Prim.Native.Nat.{ℕ, zero, suc, _+_, _-_, _≤_, _<_}
 use mathlib.Core.Path.{_≡_, refl, sym, ap, _∙_}
-use mathlib.Core.Bool.{true, false, not, _&&_}
+use mathlib.Core.Bool.{true, false, _&&_}
 use lib.Dec.{eqb, ltb}
 use mir.Val.{Val}
 use denote.Shadow.{shadow}
@@ -22,7 +22,12 @@ use Rattle.record_endpoint.specs.declared.entry.Endpoints.{Endpoints}
 use Rattle.record_endpoint.proofs.entry.Endpoint.{the-field}
 use Rattle.record_endpoint.specs.Endpoint.{blank}
 use Rattle.device.specs.declared.record.Device.{Device}
-use Rattle.device_image.specs.Image.{handleWord, addressWord, ringWord, isSet, handleIn, numberAt, endpointIn, read, below, isImage, decode}
+use Rattle.descriptor_list.specs.Valid.{LIST-ROOM}
+use Rattle.record_ring.specs.Rings.{RING-ROOM}
+use Rattle.record_endpoint.specs.Order.{PLACES}
+use Rattle.record_settings.specs.Held.{HELD-ROOM}
+use Rattle.device_image.specs.Layout.{USABLE, CONTROL-REVOKED, EP-REVOKED, SLOT, EP-ADDRESSES, EP-INTERFACES, INTERFACES, ALTERNATES, LIST, SPACING, EP-RINGS, QUARANTINED, WORDS}
+use Rattle.device_image.specs.Image.{handleWord, addressWord, ringWord, handleIn, numberAt, endpointsIn, numbered, read, below, isImage, decode}
 use Rattle.device_image.specs.Fits.{Below}
 use Rattle.device_image.proofs.Parts.{below-in}
 
@@ -157,38 +162,38 @@ each-address (e ∷ eps) (u ∷ us) zero p = p .0 .1 .1 .0 .1
 each-address (e ∷ eps) (u ∷ us) (suc i) p = each-address eps us i (p .1)
 
 pub endpoints-known :
-    (eps : List Endpoint) (vs : List Val) → shadow (array-field the-field 30 .row .own (map (the-field .into) eps) vs) →
-    (length eps ≡ 30) × Below 256 (map addressWord eps)
+    (eps : List Endpoint) (vs : List Val) → shadow (array-field the-field PLACES .row .own (map (the-field .into) eps) vs) →
+    (length eps ≡ PLACES) × Below 256 (map addressWord eps)
 endpoints-known eps vs p =
     (sym (length-map (the-field .into) eps) ∙ p .1 .0 .1, λ i h. each-address eps (p .0) i (p .1 .1))
 
 -- One endpoint more written.
 pub endpoints-next :
-    (eps : List Endpoint) (owners l : List ℕ) (i : ℕ) {h : ℕ} → length eps ≡ 30 → length owners ≡ 30 → i < 30 →
+    (eps : List Endpoint) (owners l : List ℕ) (i : ℕ) {h : ℕ} → length eps ≡ PLACES → length owners ≡ PLACES → i < PLACES →
     h ≡ handleWord (getD eps i blank) →
-    rest 423 (map ringWord eps) i (rest 67 owners i (rest 37 (map addressWord eps) i (rest 3 (map handleWord eps) i l)))
-    ≡ rest 423 (map ringWord eps) (i + 1)
-    (rest 67 owners (i + 1)
-    (rest 37 (map addressWord eps) (i + 1)
-    (rest 3 (map handleWord eps) (i + 1)
-    (set (set (set (set l (3 + i) h) (37 + i) (addressWord (getD eps i blank))) (67 + i) (getD owners i 0)) (423 + i)
+    rest EP-RINGS (map ringWord eps) i (rest EP-INTERFACES owners i (rest EP-ADDRESSES (map addressWord eps) i (rest EP-REVOKED (map handleWord eps) i l)))
+    ≡ rest EP-RINGS (map ringWord eps) (i + 1)
+    (rest EP-INTERFACES owners (i + 1)
+    (rest EP-ADDRESSES (map addressWord eps) (i + 1)
+    (rest EP-REVOKED (map handleWord eps) (i + 1)
+    (set (set (set (set l (EP-REVOKED + i) h) (EP-ADDRESSES + i) (addressWord (getD eps i blank))) (EP-INTERFACES + i) (getD owners i 0)) (EP-RINGS + i)
     (ringWord (getD eps i blank))))))
 endpoints-next eps owners l i e o g q =
-    let a : length (map handleWord eps) ≡ 30 = length-mapped handleWord eps e in
-    let b : length (map addressWord eps) ≡ 30 = length-mapped addressWord eps e in
-    let c : length (map ringWord eps) ≡ 30 = length-mapped ringWord eps e in
+    let a : length (map handleWord eps) ≡ PLACES = length-mapped handleWord eps e in
+    let b : length (map addressWord eps) ≡ PLACES = length-mapped addressWord eps e in
+    let c : length (map ringWord eps) ≡ PLACES = length-mapped ringWord eps e in
     rw (q, mapped handleWord eps i blank e g, mapped addressWord eps i blank e g, mapped ringWord eps i blank e g)
-    (four-next 3 37 (map handleWord eps) (map addressWord eps) i l 67 423 owners (map ringWord eps)
+    (four-next EP-REVOKED EP-ADDRESSES (map handleWord eps) (map addressWord eps) i l EP-INTERFACES EP-RINGS owners (map ringWord eps)
     (omega arith) (omega arith) (omega arith) (omega arith) (omega arith) (omega arith) (omega arith))
 
 pub endpoints-all :
-    (eps : List Endpoint) (owners l : List ℕ) (i : ℕ) → length eps ≡ 30 → length owners ≡ 30 → 30 ≤ i →
-    rest 423 (map ringWord eps) i (rest 67 owners i (rest 37 (map addressWord eps) i (rest 3 (map handleWord eps) i l)))
+    (eps : List Endpoint) (owners l : List ℕ) (i : ℕ) → length eps ≡ PLACES → length owners ≡ PLACES → PLACES ≤ i →
+    rest EP-RINGS (map ringWord eps) i (rest EP-INTERFACES owners i (rest EP-ADDRESSES (map addressWord eps) i (rest EP-REVOKED (map handleWord eps) i l)))
     ≡ l
 endpoints-all eps owners l i e o g =
-    let a : length (map handleWord eps) ≡ 30 = length-mapped handleWord eps e in
-    let b : length (map addressWord eps) ≡ 30 = length-mapped addressWord eps e in
-    let c : length (map ringWord eps) ≡ 30 = length-mapped ringWord eps e in
+    let a : length (map handleWord eps) ≡ PLACES = length-mapped handleWord eps e in
+    let b : length (map addressWord eps) ≡ PLACES = length-mapped addressWord eps e in
+    let c : length (map ringWord eps) ≡ PLACES = length-mapped ringWord eps e in
     rest-all _ _ _ _ (omega arith) ∙ rest-all _ _ _ _ (omega arith) ∙ rest-all _ _ _ _ (omega arith)
     ∙ rest-all _ _ _ _ (omega arith)
 
@@ -211,60 +216,36 @@ below-none bound k i l h = let e : k - i ≡ 0 = omega arith in rw e
 
 -- What an image is.
 module _ (l : List ℕ) (e : isImage l ≡ true) where
-  bounds : (below 2 33 0 l && (below 256 128 33 l && below 4294967296 256 161 l)) ≡ true
+  bounds : (below 2 (SLOT - USABLE) USABLE l && (below 256 (LIST - SLOT) SLOT l && below 4294967296 (SPACING - LIST) LIST l)) ≡ true
   unfolding isImage
-  bounds = and-right (eqb (length l) 514) _ e
+  bounds = and-right (eqb (length l) WORDS) _ e
 
-  numbers : (below 256 128 33 l && below 4294967296 256 161 l) ≡ true
-  numbers = and-right (below 2 33 0 l) _ bounds
+  numbers : (below 256 (LIST - SLOT) SLOT l && below 4294967296 (SPACING - LIST) LIST l) ≡ true
+  numbers = and-right (below 2 (SLOT - USABLE) USABLE l) _ bounds
 
-  pub image-length : length l ≡ 514
+  pub image-length : length l ≡ WORDS
   unfolding isImage
-  image-length = eqb-true (length l) 514 (and-left (eqb (length l) 514) _ e)
+  image-length = eqb-true (length l) WORDS (and-left (eqb (length l) WORDS) _ e)
 
-  pub image-within : (i : ℕ) → ltb i 514 ≡ true → i < length l
-  image-within i h = rw image-length (ltb-true i 514 h)
+  pub image-within : (i : ℕ) → ltb i WORDS ≡ true → i < length l
+  image-within i h = rw image-length (ltb-true i WORDS h)
 
-  pub image-flag : (i : ℕ) → i < 33 → getD l i 0 < 2
-  image-flag i h = below-in 2 33 0 l (and-left (below 2 33 0 l) _ bounds) i (omega arith) (omega arith)
+  pub image-flag : (i : ℕ) → i < SLOT → getD l i 0 < 2
+  image-flag i h = below-in 2 (SLOT - USABLE) USABLE l (and-left (below 2 (SLOT - USABLE) USABLE l) _ bounds) i (omega arith) (omega arith)
 
-  pub image-byte : (i : ℕ) → 33 ≤ i → i < 161 → getD l i 0 < 256
-  image-byte i g h = below-in 256 128 33 l (and-left (below 256 128 33 l) _ numbers) i g (omega arith)
+  pub image-byte : (i : ℕ) → SLOT ≤ i → i < LIST → getD l i 0 < 256
+  image-byte i g h = below-in 256 (LIST - SLOT) SLOT l (and-left (below 256 (LIST - SLOT) SLOT l) _ numbers) i g (omega arith)
 
-  pub image-word : (i : ℕ) → 161 ≤ i → i < 417 → getD l i 0 < 4294967296
-  image-word i g h = below-in 4294967296 256 161 l (and-right (below 256 128 33 l) _ numbers) i g (omega arith)
+  pub image-word : (i : ℕ) → LIST ≤ i → i < SPACING → getD l i 0 < 4294967296
+  image-word i g h = below-in 4294967296 (SPACING - LIST) LIST l (and-right (below 256 (LIST - SLOT) SLOT l) _ numbers) i g (omega arith)
 
 -- A record of what was read.
 pub read-of :
     (l : List ℕ) {list interfaces alternates quarantined : List ℕ} {e : Endpoints} {handle : Handle} →
-    list ≡ tabulated (numberAt l) 256 161 →
-    (e .eps ≡ tabulated (endpointIn l) 30 0) × (e .owners ≡ tabulated (numberAt l) 30 67) × (e .count ≡ getD l 419 0) →
-    interfaces ≡ tabulated (numberAt l) 32 97 → alternates ≡ tabulated (numberAt l) 32 129 → handle ≡ handleIn (getD l 2 0) →
-    quarantined ≡ tabulated (numberAt l) 61 453 →
-    isImage l ≡ true →
-    _≡_ {A = Device}
-    (record {
-      usable = not (eqb (getD l 0 0) 0);
-      slot = record { 0 = getD l 33 0 };
-      n = getD l 34 0;
-      spacing = getD l 417 0;
-      «port_speed» = getD l 35 0;
-      configured = not (eqb (getD l 1 0) 0);
-      «current_config_value» = getD l 36 0;
-      list = list;
-      «list_len» = getD l 418 0;
-      eps = e .eps;
-      «ep_interfaces» = e .owners;
-      «ep_count» = e .count;
-      interfaces = interfaces;
-      alternates = alternates;
-      «held_count» = getD l 420 0;
-      control = getD l 422 0;
-      «control_handle» = handle;
-      quarantined = quarantined;
-      «quarantined_count» = getD l 421 0;
-    })
-    (decode l)
-unfolding decode read isSet
-read-of l list eps interfaces alternates handle quarantined image =
-    rw (image, list, eps .0, eps .1, eps .2, interfaces, alternates, handle, quarantined)
+    list ≡ tabulated (numberAt l) LIST-ROOM LIST → e ≡ endpointsIn l → interfaces ≡ tabulated (numberAt l) HELD-ROOM INTERFACES →
+    alternates ≡ tabulated (numberAt l) HELD-ROOM ALTERNATES → handle ≡ handleIn (getD l CONTROL-REVOKED 0) →
+    quarantined ≡ tabulated (numberAt l) RING-ROOM QUARANTINED → isImage l ≡ true →
+    numbered l list e interfaces alternates handle quarantined ≡ decode l
+unfolding decode read
+read-of l list e interfaces alternates handle quarantined image =
+    rw (image, list, e, interfaces, alternates, handle, quarantined)

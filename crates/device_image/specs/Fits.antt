@@ -3,6 +3,10 @@ use Prim.Native.Nat.{ℕ, _<_}
 use mathlib.Core.Path.{_≡_}
 use mathlib.Core.List.{List, map}
 use lib.ListN.{length, getD}
+use Rattle.descriptor_list.specs.Valid.{LIST-ROOM}
+use Rattle.record_ring.specs.Rings.{RING-ROOM}
+use Rattle.record_endpoint.specs.Order.{PLACES}
+use Rattle.record_settings.specs.Held.{HELD-ROOM}
 use Rattle.device.specs.declared.record.Device.{Device}
 use Rattle.device_image.specs.Image.{addressWord}
 
@@ -15,9 +19,9 @@ pub record Fits (d : Device) : Type 0 where
   pub n : d .n < 256
   pub speed : d .«port_speed» < 256
   pub value : d .«current_config_value» < 256
-  pub list : (length (d .list) ≡ 256) × Below 4294967296 (d .list)
-  pub eps : (length (d .eps) ≡ 30) × Below 256 (map addressWord (d .eps))
-  pub owners : (length (d .«ep_interfaces») ≡ 30) × Below 256 (d .«ep_interfaces»)
-  pub interfaces : (length (d .interfaces) ≡ 32) × Below 256 (d .interfaces)
-  pub alternates : (length (d .alternates) ≡ 32) × Below 256 (d .alternates)
-  pub quarantined : length (d .quarantined) ≡ 61
+  pub list : (length (d .list) ≡ LIST-ROOM) × Below 4294967296 (d .list)
+  pub eps : (length (d .eps) ≡ PLACES) × Below 256 (map addressWord (d .eps))
+  pub owners : (length (d .«ep_interfaces») ≡ PLACES) × Below 256 (d .«ep_interfaces»)
+  pub interfaces : (length (d .interfaces) ≡ HELD-ROOM) × Below 256 (d .interfaces)
+  pub alternates : (length (d .alternates) ≡ HELD-ROOM) × Below 256 (d .alternates)
+  pub quarantined : length (d .quarantined) ≡ RING-ROOM

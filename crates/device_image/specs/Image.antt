@@ -1,18 +1,22 @@
--- The record as 514 words of 64 bits: a word for each number and each element of an array.
--- They stand by width (33 flags, 128 bytes, 256 words of 32 bits, 97 of 64), so that three runs tell what is an image and what is not.
-use Prim.Native.Nat.{ℕ, zero, suc, _+_}
+-- The record as words of 64 bits: a word for each number and each element of an array.
+-- They stand by width (flags, bytes, words of 32 bits, words of 64), so that three runs tell what is an image and what is not.
+use Prim.Native.Nat.{ℕ, zero, suc, _+_, _-_}
 use mathlib.Core.Bool.{Bool, true, false, not, cond, _&&_}
 use mathlib.Core.List.{List, [], _∷_, map, flatten}
 use lib.Dec.{eqb, ltb}
 use lib.ListN.{length, getD}
+use Rattle.descriptor_list.specs.Valid.{LIST-ROOM}
+use Rattle.record_ring.specs.Rings.{RING-ROOM}
+use Rattle.record_endpoint.specs.Order.{PLACES}
 use Rattle.record_endpoint.specs.Cells.{tabulated}
 use Rattle.record_endpoint.specs.declared.entry.Handle.{Handle}
 use Rattle.record_endpoint.specs.declared.entry.Handle.the-variants.{Active, Revoked}
 use Rattle.record_endpoint.specs.declared.entry.Endpoint.{Endpoint}
+use Rattle.record_endpoint.specs.declared.entry.Endpoints.{Endpoints}
+use Rattle.record_settings.specs.Held.{HELD-ROOM}
 use Rattle.device.specs.declared.record.Device.{Device}
-
-abbrev pub WORDS : ℕ
-WORDS = 514
+use Rattle.device.specs.Device.{put, rebuilt, noDevice}
+use Rattle.device_image.specs.Layout.{USABLE, CONFIGURED, CONTROL-REVOKED, EP-REVOKED, SLOT, N, PORT-SPEED, CURRENT-CONFIG-VALUE, EP-ADDRESSES, EP-INTERFACES, INTERFACES, ALTERNATES, LIST, SPACING, LIST-LEN, EP-COUNT, HELD-COUNT, QUARANTINED-COUNT, CONTROL, EP-RINGS, QUARANTINED, WORDS}
 
 unfoldable pub flag : Bool → ℕ
 flag true = 1
@@ -31,7 +35,8 @@ addressWord e = e .address
 unfoldable pub ringWord : Endpoint → ℕ
 ringWord e = e .ring
 
--- The words of a record, part by part. The parts begin at 0, 3, 33, 37, 67, 97, 129, 161, 417, 423, 453.
+-- The words of a record, part by part. The parts begin at USABLE, EP-REVOKED, SLOT, EP-ADDRESSES, EP-INTERFACES, INTERFACES, ALTERNATES,
+-- LIST, SPACING, EP-RINGS and QUARANTINED.
 unfoldable pub parts : Device → List (List ℕ)
 parts d =
     (flag (d .usable) ∷ flag (d .configured) ∷ revoked (d .«control_handle») ∷ [])
@@ -62,32 +67,50 @@ numberAt l i = getD l i 0
 
 unfoldable pub endpointIn : List ℕ → ℕ → Endpoint
 endpointIn l i =
-    record { address = getD l (37 + i) 0; ring = getD l (423 + i) 0; handle = handleIn (getD l (3 + i) 0) }
+    record {
+      address = getD l (EP-ADDRESSES + i) 0;
+      ring = getD l (EP-RINGS + i) 0;
+      handle = handleIn (getD l (EP-REVOKED + i) 0);
+    }
+
+unfoldable pub endpointsIn : List ℕ → Endpoints
+endpointsIn l =
+    record {
+      eps = tabulated (endpointIn l) PLACES 0;
+      owners = tabulated (numberAt l) PLACES EP-INTERFACES;
+      count = getD l EP-COUNT 0;
+    }
+
+-- The record of a list, endpoints, the interfaces and the alternates of settings, a handle and rings, with its numbers as words say.
+abbrev pub numbered : List ℕ → List ℕ → Endpoints → List ℕ → List ℕ → Handle → List ℕ → Device
+numbered l list endpoints interfaces alternates handle rings =
+    rebuilt
+    (put
+    (record {
+      slot = getD l SLOT 0;
+      n = getD l N 0;
+      spacing = getD l SPACING 0;
+      speed = getD l PORT-SPEED 0;
+      list = list;
+      listLength = getD l LIST-LEN 0;
+      control = getD l CONTROL 0;
+    }))
+    (put
+    (record {
+      usable = isSet (getD l USABLE 0);
+      configured = isSet (getD l CONFIGURED 0);
+      value = getD l CURRENT-CONFIG-VALUE 0;
+      handle = handle;
+    }))
+    (put endpoints) (put (record { interfaces = interfaces; alternates = alternates; count = getD l HELD-COUNT 0 }))
+    (put (rings, getD l QUARANTINED-COUNT 0)) noDevice
 
 -- The record that words say, 0 past their end.
 unfoldable pub read : List ℕ → Device
+unfolding rebuilt endpointsIn
 read l =
-    record {
-      usable = isSet (getD l 0 0);
-      slot = record { 0 = getD l 33 0 };
-      n = getD l 34 0;
-      spacing = getD l 417 0;
-      «port_speed» = getD l 35 0;
-      configured = isSet (getD l 1 0);
-      «current_config_value» = getD l 36 0;
-      list = tabulated (numberAt l) 256 161;
-      «list_len» = getD l 418 0;
-      eps = tabulated (endpointIn l) 30 0;
-      «ep_interfaces» = tabulated (numberAt l) 30 67;
-      «ep_count» = getD l 419 0;
-      interfaces = tabulated (numberAt l) 32 97;
-      alternates = tabulated (numberAt l) 32 129;
-      «held_count» = getD l 420 0;
-      control = getD l 422 0;
-      «control_handle» = handleIn (getD l 2 0);
-      quarantined = tabulated (numberAt l) 61 453;
-      «quarantined_count» = getD l 421 0;
-    }
+    numbered l (tabulated (numberAt l) LIST-ROOM LIST) (endpointsIn l) (tabulated (numberAt l) HELD-ROOM INTERFACES)
+    (tabulated (numberAt l) HELD-ROOM ALTERNATES) (handleIn (getD l CONTROL-REVOKED 0)) (tabulated (numberAt l) RING-ROOM QUARANTINED)
 
 -- A record over a buffer: its words, or what was there where the length is another.
 unfoldable pub stored : Device → List ℕ → List ℕ
@@ -100,7 +123,9 @@ below bound (suc k) i l = ltb (getD l i 0) bound && below bound k (i + 1) l
 
 -- Whether a buffer holds an image: what `encode` makes of the record that `decode` reads.
 unfoldable pub isImage : List ℕ → Bool
-isImage l = eqb (length l) WORDS && (below 2 33 0 l && (below 256 128 33 l && below 4294967296 256 161 l))
+isImage l =
+    eqb (length l) WORDS
+    && (below 2 (SLOT - USABLE) USABLE l && (below 256 (LIST - SLOT) SLOT l && below 4294967296 (SPACING - LIST) LIST l))
 
 -- Words that are no image say zeros.
 unfoldable pub decode : List ℕ → Device

@@ -1,25 +1,33 @@
 // The record that an image says.
+use super::layout;
 use super::test;
 use def::SlotId;
+use descriptor_list::LIST_ROOM;
 use device::Device;
 use record_endpoint::Endpoint;
 use record_endpoint::Endpoints;
 use record_endpoint::Handle;
+use record_endpoint::PLACES;
+use record_ring::RING_ROOM;
+use record_settings::HELD_ROOM;
 ghost use mathlib.Core.Path.{_≡_};
 ghost use mathlib.Core.Bool.{true};
 ghost use Prim.Native.Nat.{_+_, _≤_};
-ghost use lib.ListN.{getD};
+ghost use Rattle.descriptor_list.specs.Valid.{LIST-ROOM};
+ghost use Rattle.record_ring.specs.Rings.{RING-ROOM};
 ghost use Rattle.record_endpoint.specs.Cells.{tabulated};
-ghost use Rattle.device_image.specs.Image.{numberAt, endpointIn, isImage, decode};
+ghost use Rattle.record_settings.specs.Held.{HELD-ROOM};
+ghost use Rattle.device_image.specs.Layout.{SLOT, LIST, QUARANTINED};
+ghost use Rattle.device_image.specs.Image.{numberAt, endpointsIn, isImage, decode};
 
-fn list_in(image: &[u64]) -> [u32; 256]
+fn list_in(image: &[u64]) -> [u32; LIST_ROOM]
     requires { ⌜ isImage (now image) ≡ true ⌝ }
-    ensures { λ r. ⌜ r ≡ tabulated (numberAt (now (image .entry))) 256 161 ⌝ }
+    ensures { λ r. ⌜ r ≡ tabulated (numberAt (now (image .entry))) LIST-ROOM LIST ⌝ }
 {
-    let mut list = [0u32; 256];
+    let mut list = [0u32; LIST_ROOM];
     let mut i = 0;
-    while i < 256 {
-        list[i] = image[161 + i] as u32;
+    while i < LIST_ROOM {
+        list[i] = image[layout::LIST + i] as u32;
         i += 1;
     }
     list
@@ -28,58 +36,58 @@ fn list_in(image: &[u64]) -> [u32; 256]
 // The endpoints, their owners and how many there are.
 fn endpoints_in(image: &[u64]) -> Endpoints
     requires { ⌜ isImage (now image) ≡ true ⌝ }
-    ensures { λ r. ⌜ (r .eps ≡ tabulated (endpointIn (now (image .entry))) 30 0) × (r .owners ≡ tabulated (numberAt (now (image .entry))) 30 67) × (r .count ≡ getD (now (image .entry)) 419 0) ⌝ }
+    ensures { λ r. ⌜ r ≡ endpointsIn (now (image .entry)) ⌝ }
 {
     let mut eps = [Endpoint {
         address: 0,
         ring: 0,
         handle: Handle::Active,
-    }; 30];
-    let mut owners = [0u8; 30];
+    }; PLACES];
+    let mut owners = [0u8; PLACES];
     let mut i = 0;
-    while i < 30 {
-        let handle = if image[3 + i] == 0 {
+    while i < PLACES {
+        let handle = if image[layout::EP_REVOKED + i] == 0 {
             Handle::Active
         } else {
             Handle::Revoked
         };
         eps[i] = Endpoint {
-            address: image[37 + i] as u8,
-            ring: image[423 + i],
+            address: image[layout::EP_ADDRESSES + i] as u8,
+            ring: image[layout::EP_RINGS + i],
             handle: handle,
         };
-        owners[i] = image[67 + i] as u8;
+        owners[i] = image[layout::EP_INTERFACES + i] as u8;
         i += 1;
     }
     Endpoints {
         eps: eps,
         owners: owners,
-        count: image[419] as usize,
+        count: image[layout::EP_COUNT] as usize,
     }
 }
 
 // The interfaces and the alternates of held settings.
-fn settings_in(image: &[u64], from: usize) -> [u8; 32]
-    requires { ⌜ (isImage (now image) ≡ true) × (33 ≤ from) × (from + 32 ≤ 161) ⌝ }
-    ensures { λ r. ⌜ r ≡ tabulated (numberAt (now (image .entry))) 32 from ⌝ }
+fn settings_in(image: &[u64], from: usize) -> [u8; HELD_ROOM]
+    requires { ⌜ (isImage (now image) ≡ true) × (SLOT ≤ from) × (from + HELD-ROOM ≤ LIST) ⌝ }
+    ensures { λ r. ⌜ r ≡ tabulated (numberAt (now (image .entry))) HELD-ROOM from ⌝ }
 {
-    let mut numbers = [0u8; 32];
+    let mut numbers = [0u8; HELD_ROOM];
     let mut i = 0;
-    while i < 32 {
+    while i < HELD_ROOM {
         numbers[i] = image[from + i] as u8;
         i += 1;
     }
     numbers
 }
 
-fn quarantined_in(image: &[u64]) -> [u64; 61]
+fn quarantined_in(image: &[u64]) -> [u64; RING_ROOM]
     requires { ⌜ isImage (now image) ≡ true ⌝ }
-    ensures { λ r. ⌜ r ≡ tabulated (numberAt (now (image .entry))) 61 453 ⌝ }
+    ensures { λ r. ⌜ r ≡ tabulated (numberAt (now (image .entry))) RING-ROOM QUARANTINED ⌝ }
 {
-    let mut rings = [0u64; 61];
+    let mut rings = [0u64; RING_ROOM];
     let mut i = 0;
-    while i < 61 {
-        rings[i] = image[453 + i];
+    while i < RING_ROOM {
+        rings[i] = image[layout::QUARANTINED + i];
         i += 1;
     }
     rings
@@ -90,9 +98,9 @@ pub fn decode(image: &[u64]) -> Device
     ensures { λ r. ⌜ r ≡ decode (now (image .entry)) ⌝ }
 {
     if !test::is_image(image) {
-        return device_bring_up::no_device();
+        return device::no_device();
     }
-    let control_handle = if image[2] == 0 {
+    let control_handle = if image[layout::CONTROL_REVOKED] == 0 {
         Handle::Active
     } else {
         Handle::Revoked
@@ -101,24 +109,24 @@ pub fn decode(image: &[u64]) -> Device
     let eps = e.eps;
     let owners = e.owners;
     Device {
-        usable: image[0] != 0,
-        slot: SlotId(image[33] as u8),
-        n: image[34] as u8,
-        spacing: image[417] as usize,
-        port_speed: image[35] as u8,
-        configured: image[1] != 0,
-        current_config_value: image[36] as u8,
+        usable: image[layout::USABLE] != 0,
+        slot: SlotId(image[layout::SLOT] as u8),
+        n: image[layout::N] as u8,
+        spacing: image[layout::SPACING] as usize,
+        port_speed: image[layout::PORT_SPEED] as u8,
+        configured: image[layout::CONFIGURED] != 0,
+        current_config_value: image[layout::CURRENT_CONFIG_VALUE] as u8,
         list: list_in(image),
-        list_len: image[418] as usize,
+        list_len: image[layout::LIST_LEN] as usize,
         eps: eps,
         ep_interfaces: owners,
         ep_count: e.count,
-        interfaces: settings_in(image, 97),
-        alternates: settings_in(image, 129),
-        held_count: image[420] as usize,
-        control: image[422],
+        interfaces: settings_in(image, layout::INTERFACES),
+        alternates: settings_in(image, layout::ALTERNATES),
+        held_count: image[layout::HELD_COUNT] as usize,
+        control: image[layout::CONTROL],
         control_handle: control_handle,
         quarantined: quarantined_in(image),
-        quarantined_count: image[421] as usize,
+        quarantined_count: image[layout::QUARANTINED_COUNT] as usize,
     }
 }

@@ -1,4 +1,5 @@
 // Whether words are an image.
+use super::layout;
 ghost use mathlib.Core.Path.{_≡_};
 ghost use Prim.Native.Nat.{_-_, _≤_};
 ghost use lib.ListN.{length};
@@ -22,14 +23,14 @@ fn all_below(image: &[u64], bound: u64, from: usize, to: usize) -> bool
 pub fn is_image(image: &[u64]) -> bool
     ensures { λ r. ⌜ r ≡ isImage (now (image .entry)) ⌝ }
 {
-    if image.len() != 514 {
+    if image.len() != layout::WORDS {
         return false;
     }
-    if !all_below(image, 2, 0, 33) {
+    if !all_below(image, 2, layout::USABLE, layout::SLOT) {
         return false;
     }
-    if !all_below(image, 256, 33, 161) {
+    if !all_below(image, 256, layout::SLOT, layout::LIST) {
         return false;
     }
-    all_below(image, 4294967296, 161, 417)
+    all_below(image, 4294967296, layout::LIST, layout::SPACING)
 }

@@ -1,53 +1,59 @@
 // The words of a record.
+use super::layout;
+use descriptor_list::LIST_ROOM;
 use device::Device;
 use record_endpoint::Endpoint;
 use record_endpoint::Handle;
+use record_endpoint::PLACES;
+use record_ring::RING_ROOM;
+use record_settings::HELD_ROOM;
 ghost use mathlib.Core.Path.{_≡_};
 ghost use mathlib.Core.List.{map};
 ghost use lib.ListN.{length};
 ghost use lib.Seq.{sets};
-ghost use Rattle.device_image.specs.Image.{WORDS, handleWord, addressWord, ringWord, stored};
+ghost use Rattle.device_image.specs.Layout.{EP-REVOKED, EP-ADDRESSES, EP-INTERFACES, INTERFACES, ALTERNATES, EP-RINGS, QUARANTINED, WORDS};
+ghost use Rattle.device_image.specs.Image.{handleWord, addressWord, ringWord, stored};
 ghost use Rattle.device_image.specs.Fits.{Fits};
 
-fn put_endpoints(image: &mut [u64], eps: [Endpoint; 30], owners: [u8; 30])
-    requires { ⌜ length (now image) ≡ 514 ⌝ }
-    ensures { λ r. ⌜ now (image .exit) ≡ sets (sets (sets (sets (now (image .entry)) 3 (map handleWord eps)) 37 (map addressWord eps)) 67 owners) 423 (map ringWord eps) ⌝ }
+fn put_endpoints(image: &mut [u64], eps: [Endpoint; PLACES], owners: [u8; PLACES])
+    requires { ⌜ length (now image) ≡ WORDS ⌝ }
+    ensures { λ r. ⌜ now (image .exit) ≡ sets (sets (sets (sets (now (image .entry)) EP-REVOKED (map handleWord eps)) EP-ADDRESSES (map addressWord eps)) EP-INTERFACES owners) EP-RINGS (map ringWord eps) ⌝ }
 {
     let mut i = 0;
-    while i < 30 {
+    while i < PLACES {
         let e = eps[i];
         let handle = e.handle;
         let revoked: u64 = match handle {
             Handle::Active => 0,
             Handle::Revoked => 1,
         };
-        image[3 + i] = revoked;
-        image[37 + i] = e.address as u64;
-        image[67 + i] = owners[i] as u64;
-        image[423 + i] = e.ring;
+        image[layout::EP_REVOKED + i] = revoked;
+        image[layout::EP_ADDRESSES + i] = e.address as u64;
+        image[layout::EP_INTERFACES + i] = owners[i] as u64;
+        image[layout::EP_RINGS + i] = e.ring;
         i += 1;
     }
 }
 
-fn put_settings(image: &mut [u64], interfaces: [u8; 32], alternates: [u8; 32])
-    requires { ⌜ length (now image) ≡ 514 ⌝ }
-    ensures { λ r. ⌜ now (image .exit) ≡ sets (sets (now (image .entry)) 97 interfaces) 129 alternates ⌝ }
+fn put_settings(image: &mut [u64], interfaces: [u8; HELD_ROOM], alternates: [u8; HELD_ROOM])
+    requires { ⌜ length (now image) ≡ WORDS ⌝ }
+    ensures { λ r. ⌜ now (image .exit) ≡ sets (sets (now (image .entry)) INTERFACES interfaces) ALTERNATES alternates ⌝ }
 {
     let mut i = 0;
-    while i < 32 {
-        image[97 + i] = interfaces[i] as u64;
-        image[129 + i] = alternates[i] as u64;
+    while i < HELD_ROOM {
+        image[layout::INTERFACES + i] = interfaces[i] as u64;
+        image[layout::ALTERNATES + i] = alternates[i] as u64;
         i += 1;
     }
 }
 
-fn put_quarantined(image: &mut [u64], rings: [u64; 61])
-    requires { ⌜ length (now image) ≡ 514 ⌝ }
-    ensures { λ r. ⌜ now (image .exit) ≡ sets (now (image .entry)) 453 rings ⌝ }
+fn put_quarantined(image: &mut [u64], rings: [u64; RING_ROOM])
+    requires { ⌜ length (now image) ≡ WORDS ⌝ }
+    ensures { λ r. ⌜ now (image .exit) ≡ sets (now (image .entry)) QUARANTINED rings ⌝ }
 {
     let mut i = 0;
-    while i < 61 {
-        image[453 + i] = rings[i];
+    while i < RING_ROOM {
+        image[layout::QUARANTINED + i] = rings[i];
         i += 1;
     }
 }
@@ -56,12 +62,12 @@ fn put_quarantined(image: &mut [u64], rings: [u64; 61])
 pub fn encode(d: Device, image: &mut [u64])
     ensures { λ r. ⌜ (now (image .exit) ≡ stored d (now (image .entry))) × (length (now (image .entry)) ≡ WORDS → Fits d) ⌝ }
 {
-    if image.len() != 514 {
+    if image.len() != layout::WORDS {
         return;
     }
     let mut i = 0;
-    while i < 256 {
-        image[161 + i] = d.list[i] as u64;
+    while i < LIST_ROOM {
+        image[layout::LIST + i] = d.list[i] as u64;
         i += 1;
     }
     let eps = d.eps;
@@ -77,17 +83,17 @@ pub fn encode(d: Device, image: &mut [u64])
         Handle::Active => 0,
         Handle::Revoked => 1,
     };
-    image[0] = d.usable as u64;
-    image[1] = d.configured as u64;
-    image[2] = revoked;
-    image[33] = d.slot.0 as u64;
-    image[34] = d.n as u64;
-    image[35] = d.port_speed as u64;
-    image[36] = d.current_config_value as u64;
-    image[417] = d.spacing as u64;
-    image[418] = d.list_len as u64;
-    image[419] = d.ep_count as u64;
-    image[420] = d.held_count as u64;
-    image[421] = d.quarantined_count as u64;
-    image[422] = d.control;
+    image[layout::USABLE] = d.usable as u64;
+    image[layout::CONFIGURED] = d.configured as u64;
+    image[layout::CONTROL_REVOKED] = revoked;
+    image[layout::SLOT] = d.slot.0 as u64;
+    image[layout::N] = d.n as u64;
+    image[layout::PORT_SPEED] = d.port_speed as u64;
+    image[layout::CURRENT_CONFIG_VALUE] = d.current_config_value as u64;
+    image[layout::SPACING] = d.spacing as u64;
+    image[layout::LIST_LEN] = d.list_len as u64;
+    image[layout::EP_COUNT] = d.ep_count as u64;
+    image[layout::HELD_COUNT] = d.held_count as u64;
+    image[layout::QUARANTINED_COUNT] = d.quarantined_count as u64;
+    image[layout::CONTROL] = d.control;
 }

@@ -4,10 +4,11 @@ use lib.Dec.{eqb, leb}
 use Rattle.answer.specs.declared.Answer.the-variants as answer
 use Rattle.answer.specs.declared.Check.{Check}
 use Rattle.answer.specs.Check.{unless}
+use Rattle.command.specs.Command.{LOG-ROOM}
 
 -- 1, 2, 3, and then the call's own.
 abbrev pub lengthsCheck : ℕ → ℕ → ℕ → ℕ → ℕ → Check → Check
 lengthsCheck spacing n ctx routes log next =
     unless (eqb ctx (33 * spacing)) answer.ContextLength
     (unless (eqb routes (32 * (n + 1))) answer.RoutesLength
-    (unless (leb 64 log) answer.LogTooShort next))
+    (unless (leb LOG-ROOM log) answer.LogTooShort next))

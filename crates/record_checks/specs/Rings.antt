@@ -5,11 +5,11 @@ use mathlib.Core.List.{List}
 use lib.Dec.{eqb, leb}
 use lib.ListN.{length}
 use Rattle.laws.proofs.Distinct.{distinct}
-use Rattle.record_ring.specs.Rings.{ringsOk}
+use Rattle.record_ring.specs.Rings.{RING-ROOM, ringsOk}
 
--- Distinct nonzero multiples of 16, at most 61.
+-- Distinct nonzero multiples of 16, no more than there is room for.
 abbrev pub ringsFit : List ℕ → Bool
-ringsFit rings = leb (length rings) 61 && (ringsOk rings && distinct rings)
+ringsFit rings = leb (length rings) RING-ROOM && (ringsOk rings && distinct rings)
 
 -- They fit, and while the record is usable none is quarantined.
 abbrev pub soundRings : Bool → ℕ → List ℕ → Bool

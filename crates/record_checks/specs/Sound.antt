@@ -4,10 +4,12 @@ use mathlib.Core.Bool.{Bool, _&&_, _||_}
 use mathlib.Core.List.{List}
 use lib.Dec.{eqb, leb}
 use Rattle.def.specs.Speed.{speedKnown}
-use Rattle.descriptor_list.specs.Valid.{validList}
+use Rattle.descriptor_list.specs.Valid.{LIST-ROOM, validList}
+use Rattle.record_ring.specs.Rings.{RING-ROOM}
 use Rattle.record_endpoint.specs.declared.cells.Cells.{Cells}
+use Rattle.record_endpoint.specs.Order.{PLACES}
 use Rattle.record_endpoint.specs.Endpoint.{addressesFit}
-use Rattle.record_settings.specs.Held.{Held, settingsSound}
+use Rattle.record_settings.specs.Held.{HELD-ROOM, Held, settingsSound}
 use Rattle.record_settings.specs.Match.{endpointsMatch}
 
 -- A slot from 1 to N, N at most 255, spacing 32 or 64, speed 1 to 5.
@@ -18,7 +20,7 @@ soundPlace slot n spacing speed =
 -- The words of the list, endpoints, held settings and quarantined rings that the arrays of a record have room for.
 abbrev pub soundCounts : ℕ → ℕ → ℕ → ℕ → Bool
 soundCounts words endpoints held quarantined =
-    leb words 256 && (leb endpoints 30 && (leb held 32 && leb quarantined 61))
+    leb words LIST-ROOM && (leb endpoints PLACES && (leb held HELD-ROOM && leb quarantined RING-ROOM))
 
 -- A valid list, settings that it has, endpoint addresses that have places, endpoints that are those of the settings.
 abbrev pub soundLists : List ℕ → List Held → List ℕ → Cells → Bool

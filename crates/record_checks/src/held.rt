@@ -2,22 +2,25 @@
 use answer::Answer;
 use answer::Check;
 use descriptor_list::Found;
+use descriptor_list::LIST_ROOM;
+use record_settings::HELD_ROOM;
 ghost use mathlib.Core.Path.{_≡_};
 ghost use mathlib.Core.List.{List};
 ghost use Prim.Native.Nat.{ℕ, _≤_};
 ghost use lib.ListN.{take};
-ghost use Rattle.record_settings.specs.Held.{heldIn};
+ghost use Rattle.descriptor_list.specs.Valid.{LIST-ROOM};
+ghost use Rattle.record_settings.specs.Held.{HELD-ROOM, heldIn};
 ghost use Rattle.record_checks.specs.Offer.{heldCheck};
 
 // 8, of an interface to be released.
 pub fn held_check(
-    list: [u32; 256],
+    list: [u32; LIST_ROOM],
     n: usize,
-    interfaces: [u8; 32],
+    interfaces: [u8; HELD_ROOM],
     held: usize,
     interface: u8,
 ) -> Check
-    requires { ⌜ (n ≤ 256) × (held ≤ 32) ⌝ }
+    requires { ⌜ (n ≤ LIST-ROOM) × (held ≤ HELD-ROOM) ⌝ }
     ensures { λ r. ⌜ ((alternates : List ℕ) → r ≡ heldCheck (take n list) (heldIn held interfaces alternates) interface) ⌝ }
 {
     if record_settings::is_held(interfaces, held, interface) {

@@ -1,6 +1,7 @@
 // The lengths of what is lent to a call.
 use answer::Answer;
 use answer::Check;
+use command::LOG_ROOM;
 ghost use mathlib.Core.Path.{_≡_};
 ghost use Prim.Native.Nat.{_≤_};
 ghost use Rattle.answer.specs.declared.Check.the-variants.{Pass};
@@ -18,7 +19,7 @@ pub fn lengths_check(spacing: usize, n: u8, ctx: usize, routes: usize, log: usiz
     if routes != 32 * (slots + 1) {
         return Check::Refuse(Answer::RoutesLength);
     }
-    if log < 64 {
+    if log < LOG_ROOM {
         return Check::Refuse(Answer::LogTooShort);
     }
     Check::Pass

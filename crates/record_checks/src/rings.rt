@@ -1,26 +1,30 @@
 // The rings of a record together.
 use record_endpoint::Endpoint;
+use record_endpoint::PLACES;
+use record_ring::RING_ROOM;
 ghost use mathlib.Core.Path.{_≡_};
 ghost use mathlib.Core.List.{_∷_, _++_};
 ghost use Prim.Native.Nat.{_≤_};
 ghost use lib.ListN.{length, take};
+ghost use Rattle.record_ring.specs.Rings.{RING-ROOM};
+ghost use Rattle.record_endpoint.specs.Order.{PLACES};
 ghost use Rattle.record_endpoint.specs.Endpoint.{ringsOf, padded};
 ghost use Rattle.record_checks.specs.Rings.{soundRings};
 
 // Whether the rings of n endpoints, control's and m quarantined ones may stand together.
 pub fn rings_sound(
     usable: bool,
-    eps: [Endpoint; 30],
+    eps: [Endpoint; PLACES],
     n: usize,
     control: u64,
-    quarantined: [u64; 61],
+    quarantined: [u64; RING_ROOM],
     m: usize,
 ) -> bool
-    requires { ⌜ (n ≤ 30) × (m ≤ 61) ⌝ }
+    requires { ⌜ (n ≤ PLACES) × (m ≤ RING-ROOM) ⌝ }
     ensures { λ r. ⌜ r ≡ soundRings usable m (ringsOf (take n eps) ++ (control ∷ take m quarantined)) ⌝ }
 {
     let count = n + 1 + m;
-    if 61 < count {
+    if RING_ROOM < count {
         return false;
     }
     if usable && m != 0 {
@@ -39,11 +43,11 @@ pub fn rings_sound(
 }
 
 // The first n of some rings as all that are quarantined.
-pub fn quarantined_rings(rings: [u64; 30], n: usize) -> [u64; 61]
-    requires { ⌜ n ≤ 30 ⌝ }
-    ensures { λ r. ⌜ (r ≡ padded 61 0 (take n rings)) × (length (take n rings) ≡ n) ⌝ }
+pub fn quarantined_rings(rings: [u64; PLACES], n: usize) -> [u64; RING_ROOM]
+    requires { ⌜ n ≤ PLACES ⌝ }
+    ensures { λ r. ⌜ (r ≡ padded RING-ROOM 0 (take n rings)) × (length (take n rings) ≡ n) ⌝ }
 {
-    let mut quarantined = [0u64; 61];
+    let mut quarantined = [0u64; RING_ROOM];
     let mut i = 0;
     while i < n {
         quarantined[i] = rings[i];

@@ -1,11 +1,17 @@
 // Whether the fields and arrays of a record are sound; an array holds a list in its first n words.
+use descriptor_list::LIST_ROOM;
 use record_endpoint::Endpoint;
+use record_endpoint::PLACES;
+use record_ring::RING_ROOM;
+use record_settings::HELD_ROOM;
 ghost use mathlib.Core.Path.{_≡_};
 ghost use Prim.Native.Nat.{_≤_};
 ghost use lib.ListN.{take};
+ghost use Rattle.record_endpoint.specs.Order.{PLACES};
+ghost use Rattle.descriptor_list.specs.Valid.{LIST-ROOM};
 ghost use Rattle.record_endpoint.specs.Cells.{cellsOf};
 ghost use Rattle.record_endpoint.specs.Endpoint.{addresses};
-ghost use Rattle.record_settings.specs.Held.{heldIn};
+ghost use Rattle.record_settings.specs.Held.{HELD-ROOM, heldIn};
 ghost use Rattle.record_checks.specs.Sound.{soundPlace, soundCounts, soundLists};
 
 pub fn place_sound(slot: u8, n: u8, spacing: usize, speed: u8) -> bool
@@ -26,30 +32,30 @@ pub fn place_sound(slot: u8, n: u8, spacing: usize, speed: u8) -> bool
 pub fn counts_fit(words: usize, endpoints: usize, held: usize, quarantined: usize) -> bool
     ensures { λ r. ⌜ r ≡ soundCounts words endpoints held quarantined ⌝ }
 {
-    if 256 < words {
+    if LIST_ROOM < words {
         return false;
     }
-    if 30 < endpoints {
+    if PLACES < endpoints {
         return false;
     }
-    if 32 < held {
+    if HELD_ROOM < held {
         return false;
     }
-    quarantined <= 61
+    quarantined <= RING_ROOM
 }
 
 // The list, and beside it the held settings and the endpoints.
 pub fn lists_sound(
-    list: [u32; 256],
+    list: [u32; LIST_ROOM],
     n: usize,
-    interfaces: [u8; 32],
-    alternates: [u8; 32],
+    interfaces: [u8; HELD_ROOM],
+    alternates: [u8; HELD_ROOM],
     held: usize,
-    eps: [Endpoint; 30],
-    owners: [u8; 30],
+    eps: [Endpoint; PLACES],
+    owners: [u8; PLACES],
     count: usize,
 ) -> bool
-    requires { ⌜ (n ≤ 256) × (held ≤ 32) × (count ≤ 30) ⌝ }
+    requires { ⌜ (n ≤ LIST-ROOM) × (held ≤ HELD-ROOM) × (count ≤ PLACES) ⌝ }
     ensures { λ r. ⌜ r ≡ soundLists (take n list) (heldIn held interfaces alternates) (addresses (take count eps)) (cellsOf count eps owners) ⌝ }
 {
     let words = &list[..n];

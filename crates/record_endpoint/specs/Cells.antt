@@ -146,11 +146,11 @@ pub record QueuesAs (q : Queues) (by : List ℕ) : Type 0 where
   pub dcis : take (q .count) (q .dcis) ≡ queueDcis (queuesOf by)
   pub rings : take (q .count) (q .rings) ≡ queueRings (queuesOf by)
   pub count : q .count ≡ length (queuesOf by)
-  pub room : q .count ≤ 30
+  pub room : q .count ≤ PLACES
 
 -- What the code's arrays hold: the endpoints of some cells, with their owners.
 pub record EndpointsAs (r : Endpoints) (c : Cells) : Type 0 where
-  pub eps : r .eps ≡ padded 30 blank (endpointsOf c)
-  pub owners : r .owners ≡ padded 30 0 (ownersOf c)
+  pub eps : r .eps ≡ padded PLACES blank (endpointsOf c)
+  pub owners : r .owners ≡ padded PLACES 0 (ownersOf c)
   pub count : r .count ≡ length (endpointsOf c)
-  pub room : r .count ≤ 30
+  pub room : r .count ≤ PLACES

@@ -2,17 +2,19 @@
 use super::entry::Endpoint;
 use super::entry::Handle;
 use super::order;
+use super::order::PLACES;
 ghost use mathlib.Core.Path.{_≡_};
 ghost use mathlib.Core.Bool.{not, _&&_};
 ghost use Prim.Native.Nat.{_≤_};
 ghost use lib.Dec.{eqb};
+ghost use Rattle.record_endpoint.specs.Order.{PLACES};
 ghost use Rattle.record_endpoint.specs.Cells.{Whole, noCells, withCell, cellsOf, owns, ownedRings, withActive};
 
 // Ring 0: no endpoint at that place.
 pub struct Cells {
-    pub rings: [u64; 30],
-    pub owners: [u8; 30],
-    pub active: [bool; 30],
+    pub rings: [u64; PLACES],
+    pub owners: [u8; PLACES],
+    pub active: [bool; PLACES],
 }
 
 // The endpoints of every interface, or of one.
@@ -25,9 +27,9 @@ pub fn no_cells() -> Cells
     ensures { λ r. ⌜ r ≡ noCells ⌝ }
 {
     Cells {
-        rings: [0; 30],
-        owners: [0; 30],
-        active: [false; 30],
+        rings: [0; PLACES],
+        owners: [0; PLACES],
+        active: [false; PLACES],
     }
 }
 
@@ -36,7 +38,7 @@ pub fn with_cell(mut c: Cells, place: usize, ring: u64, owner: u8, on: bool) -> 
     requires { ⌜ Whole c ⌝ }
     ensures { λ r. ⌜ r ≡ withCell c place ring owner on ⌝ }
 {
-    if place < 30 {
+    if place < PLACES {
         c.rings[place] = ring;
         c.owners[place] = owner;
         c.active[place] = on;
@@ -45,8 +47,8 @@ pub fn with_cell(mut c: Cells, place: usize, ring: u64, owner: u8, on: bool) -> 
 }
 
 // The cells of the first n endpoints of the arrays.
-pub fn cells_of(eps: [Endpoint; 30], owners: [u8; 30], n: usize) -> Cells
-    requires { ⌜ n ≤ 30 ⌝ }
+pub fn cells_of(eps: [Endpoint; PLACES], owners: [u8; PLACES], n: usize) -> Cells
+    requires { ⌜ n ≤ PLACES ⌝ }
     ensures { λ r. ⌜ r ≡ cellsOf n eps owners ⌝ }
 {
     let mut c = no_cells();
@@ -79,12 +81,12 @@ pub fn is_owned(who: Owner, ring: u64, owner: u8) -> bool
 }
 
 // The rings of an owner's endpoints by place, 0 elsewhere.
-pub fn owned_rings(who: Owner, c: Cells) -> [u64; 30]
+pub fn owned_rings(who: Owner, c: Cells) -> [u64; PLACES]
     ensures { λ r. ⌜ r ≡ ownedRings who c ⌝ }
 {
     let mut rings = c.rings;
     let mut p = 0;
-    while p < 30 {
+    while p < PLACES {
         let place = p;
         let owned = is_owned(who, rings[p], c.owners[p]);
         p += 1;
@@ -101,7 +103,7 @@ pub fn with_active(who: Owner, n: usize, mut c: Cells) -> Cells
 {
     let mut seen = 0;
     let mut p = 0;
-    while p < 30 {
+    while p < PLACES {
         let place = p;
         let owned = is_owned(who, c.rings[p], c.owners[p]);
         p += 1;

@@ -1,9 +1,11 @@
 // The endpoint and owner arrays of a record, beside their count.
 use super::cells::Cells;
 use super::order;
+use super::order::PLACES;
 ghost use mathlib.Core.Path.{_≡_};
 ghost use Prim.Native.Nat.{_≤_};
 ghost use lib.ListN.{take};
+ghost use Rattle.record_endpoint.specs.Order.{PLACES};
 ghost use Rattle.record_endpoint.specs.Endpoint.{addresses, addressesFit};
 ghost use Rattle.record_endpoint.specs.Cells.{EndpointsAs};
 
@@ -20,8 +22,8 @@ pub struct Endpoint {
 }
 
 pub struct Endpoints {
-    pub eps: [Endpoint; 30],
-    pub owners: [u8; 30],
+    pub eps: [Endpoint; PLACES],
+    pub owners: [u8; PLACES],
     pub count: usize,
 }
 
@@ -33,11 +35,11 @@ pub fn endpoints_of(c: Cells) -> Endpoints
         address: 0,
         ring: 0,
         handle: Handle::Active,
-    }; 30];
-    let mut owners = [0u8; 30];
+    }; PLACES];
+    let mut owners = [0u8; PLACES];
     let mut n = 0;
     let mut p = 0;
-    while p < 30 {
+    while p < PLACES {
         let ring = c.rings[p];
         let handle = if c.active[p] {
             Handle::Active
@@ -66,17 +68,17 @@ pub fn endpoints_of(c: Cells) -> Endpoints
 }
 
 // Whether each of the first n endpoints has an address that an endpoint can have, and no two the same.
-pub fn addresses_fit(eps: [Endpoint; 30], n: usize) -> bool
-    requires { ⌜ n ≤ 30 ⌝ }
+pub fn addresses_fit(eps: [Endpoint; PLACES], n: usize) -> bool
+    requires { ⌜ n ≤ PLACES ⌝ }
     ensures { λ r. ⌜ r ≡ addressesFit (addresses (take n eps)) ⌝ }
 {
-    let mut taken = [false; 30];
+    let mut taken = [false; PLACES];
     let mut i = 0;
     while i < n {
         let e = eps[i];
         let place = order::place_of(e.address);
         i += 1;
-        if place == 30 {
+        if place == PLACES {
             return false;
         }
         if taken[place] {

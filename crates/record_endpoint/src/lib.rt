@@ -15,6 +15,7 @@ pub use entry::Endpoints;
 pub use entry::Handle;
 pub use entry::addresses_fit;
 pub use entry::endpoints_of;
+pub use order::PLACES;
 pub use order::place_of;
 pub use pending::Queues;
 pub use pending::claimed_cells;

@@ -3,25 +3,26 @@ use super::cells;
 use super::cells::Cells;
 use super::cells::Owner;
 use super::order;
+use super::order::PLACES;
 ghost use mathlib.Core.Path.{_≡_};
 ghost use Rattle.record_endpoint.specs.Cells.{pendingRings, claimedCells, QueuesAs};
 
 // Endpoints and their rings side by side, by rising address.
 pub struct Queues {
-    pub dcis: [u8; 30],
-    pub rings: [u64; 30],
+    pub dcis: [u8; PLACES],
+    pub rings: [u64; PLACES],
     pub count: usize,
 }
 
 // Rings by place as queues.
-pub fn queues_of(by: [u64; 30]) -> Queues
+pub fn queues_of(by: [u64; PLACES]) -> Queues
     ensures { λ r. ⌜ QueuesAs r by ⌝ }
 {
-    let mut dcis = [0u8; 30];
-    let mut rings = [0u64; 30];
+    let mut dcis = [0u8; PLACES];
+    let mut rings = [0u64; PLACES];
     let mut n = 0;
     let mut p = 0;
-    while p < 30 {
+    while p < PLACES {
         let ring = by[p];
         // Twice the number, and 1 more for IN.
         let dci = (2 * (p % 15 + 1) + p / 15) as u8;
@@ -40,17 +41,17 @@ pub fn queues_of(by: [u64; 30]) -> Queues
 }
 
 // The rings offered for endpoint words, by place: of a repeated address the last word's, 0 where there is none.
-pub fn pending_rings(words: &[u32], rings: &[u64]) -> [u64; 30]
+pub fn pending_rings(words: &[u32], rings: &[u64]) -> [u64; PLACES]
     ensures { λ r. ⌜ r ≡ pendingRings (now (words .entry)) (now (rings .entry)) ⌝ }
 {
-    let mut by = [0u64; 30];
+    let mut by = [0u64; PLACES];
     let mut i = 0;
     while i < words.len() {
         let e = descriptor::endpoint_descriptor(words[i]);
         let place = order::place_of(e.address);
         let ring = if i < rings.len() { rings[i] } else { 0 };
         i += 1;
-        if place < 30 {
+        if place < PLACES {
             by[place] = ring;
         }
     }
@@ -59,11 +60,11 @@ pub fn pending_rings(words: &[u32], rings: &[u64]) -> [u64; 30]
 
 // The cells after a claim of an interface: a pending ring is its own, active; without one an endpoint of its own is gone. With no
 // ring pending, after its release.
-pub fn claimed_cells(interface: u8, pending: [u64; 30], mut c: Cells) -> Cells
+pub fn claimed_cells(interface: u8, pending: [u64; PLACES], mut c: Cells) -> Cells
     ensures { λ r. ⌜ r ≡ claimedCells interface pending c ⌝ }
 {
     let mut p = 0;
-    while p < 30 {
+    while p < PLACES {
         let place = p;
         let ring = pending[p];
         let owned = cells::is_owned(Owner::Interface(interface), c.rings[p], c.owners[p]);

@@ -6,6 +6,10 @@ use lib.Dec.{eqb}
 use lib.ListN.{length}
 use Rattle.laws.proofs.Distinct.{elem, distinct}
 
+-- How many rings a record may have: live, control's and quarantined.
+abbrev pub RING-ROOM : ℕ
+RING-ROOM = 61
+
 -- A nonzero multiple of 16.
 unfoldable pub ringOk : ℕ → Bool
 ringOk r = not (eqb r 0) && eqb (r % 16) 0

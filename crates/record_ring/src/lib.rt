@@ -5,6 +5,9 @@ ghost use lib.ListN.{drop};
 ghost use Rattle.laws.proofs.Distinct.{elem, distinct};
 ghost use Rattle.record_ring.specs.Rings.{ringOk, ringsOk, offerOk};
 
+// How many rings a record may have: live, control's and quarantined.
+pub const RING_ROOM: usize = 61;
+
 pub fn ring_ok(ring: u64) -> bool
     ensures { λ r. ⌜ r ≡ ringOk ring ⌝ }
 {

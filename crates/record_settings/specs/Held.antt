@@ -12,6 +12,10 @@ use Rattle.descriptor_list.specs.Lookup.{findEndpoints}
 use Rattle.record_endpoint.specs.Endpoint.{padded}
 use Rattle.record_settings.specs.declared.held.Settings.{Settings}
 
+-- How many settings a record has room for: one of each interface.
+abbrev pub HELD-ROOM : ℕ
+HELD-ROOM = 32
+
 -- An interface and the alternate that it holds.
 pub record Held : Type 0 where
   pub interface : ℕ
@@ -79,7 +83,7 @@ settingsSound list hs = distinct (interfacesOf hs) && allFound list hs
 
 -- What the code's arrays hold: some settings, zeros past the count.
 pub record SettingsAs (r : Settings) (hs : List Held) : Type 0 where
-  pub interfaces : r .interfaces ≡ padded 32 0 (interfacesOf hs)
-  pub alternates : r .alternates ≡ padded 32 0 (alternatesOf hs)
+  pub interfaces : r .interfaces ≡ padded HELD-ROOM 0 (interfacesOf hs)
+  pub alternates : r .alternates ≡ padded HELD-ROOM 0 (alternatesOf hs)
   pub count : r .count ≡ length hs
-  pub room : r .count ≤ 32
+  pub room : r .count ≤ HELD-ROOM

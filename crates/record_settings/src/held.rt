@@ -4,17 +4,20 @@ ghost use mathlib.Core.Path.{_≡_};
 ghost use mathlib.Core.List.{List};
 ghost use Prim.Native.Nat.{ℕ, _≤_};
 ghost use lib.ListN.{length};
-ghost use Rattle.record_settings.specs.Held.{heldIn, isHeld, alternateOf, withoutSetting, withSetting, settingWords, settingsSound, SettingsAs};
+ghost use Rattle.record_settings.specs.Held.{HELD-ROOM, heldIn, isHeld, alternateOf, withoutSetting, withSetting, settingWords, settingsSound, SettingsAs};
+
+// How many settings a record has room for: one of each interface.
+pub const HELD_ROOM: usize = 32;
 
 pub struct Settings {
-    pub interfaces: [u8; 32],
-    pub alternates: [u8; 32],
+    pub interfaces: [u8; HELD_ROOM],
+    pub alternates: [u8; HELD_ROOM],
     pub count: usize,
 }
 
 // Whether an interface is held, whatever its alternate.
-pub fn is_held(interfaces: [u8; 32], n: usize, interface: u8) -> bool
-    requires { ⌜ n ≤ 32 ⌝ }
+pub fn is_held(interfaces: [u8; HELD_ROOM], n: usize, interface: u8) -> bool
+    requires { ⌜ n ≤ HELD-ROOM ⌝ }
     ensures { λ r. ⌜ ((alternates : List ℕ) → r ≡ isHeld interface (heldIn n interfaces alternates)) ⌝ }
 {
     let mut i = 0;
@@ -29,8 +32,13 @@ pub fn is_held(interfaces: [u8; 32], n: usize, interface: u8) -> bool
 }
 
 // The alternate that an interface holds, 0 where it holds none.
-pub fn alternate_of(interfaces: [u8; 32], alternates: [u8; 32], n: usize, interface: u8) -> u8
-    requires { ⌜ n ≤ 32 ⌝ }
+pub fn alternate_of(
+    interfaces: [u8; HELD_ROOM],
+    alternates: [u8; HELD_ROOM],
+    n: usize,
+    interface: u8,
+) -> u8
+    requires { ⌜ n ≤ HELD-ROOM ⌝ }
     ensures { λ r. ⌜ r ≡ alternateOf interface (heldIn n interfaces alternates) ⌝ }
 {
     let mut i = 0;
@@ -60,8 +68,13 @@ pub fn setting_words<'a>(list: &'a [u32], interface: u8, alternate: u8) -> &'a [
 }
 
 // Whether the held interfaces are distinct and lookup finds their alternates.
-pub fn settings_sound(list: &[u32], interfaces: [u8; 32], alternates: [u8; 32], n: usize) -> bool
-    requires { ⌜ n ≤ 32 ⌝ }
+pub fn settings_sound(
+    list: &[u32],
+    interfaces: [u8; HELD_ROOM],
+    alternates: [u8; HELD_ROOM],
+    n: usize,
+) -> bool
+    requires { ⌜ n ≤ HELD-ROOM ⌝ }
     ensures { λ r. ⌜ r ≡ settingsSound (now (list .entry)) (heldIn n interfaces alternates) ⌝ }
 {
     let mut i = 0;
@@ -82,16 +95,16 @@ pub fn settings_sound(list: &[u32], interfaces: [u8; 32], alternates: [u8; 32], 
 
 // The settings without an interface's.
 pub fn without_setting(
-    interfaces: [u8; 32],
-    alternates: [u8; 32],
+    interfaces: [u8; HELD_ROOM],
+    alternates: [u8; HELD_ROOM],
     n: usize,
     interface: u8,
 ) -> Settings
-    requires { ⌜ n ≤ 32 ⌝ }
+    requires { ⌜ n ≤ HELD-ROOM ⌝ }
     ensures { λ r. ⌜ SettingsAs r (withoutSetting interface (heldIn n interfaces alternates)) ⌝ }
 {
-    let mut others = [0u8; 32];
-    let mut theirs = [0u8; 32];
+    let mut others = [0u8; HELD_ROOM];
+    let mut theirs = [0u8; HELD_ROOM];
     let mut count = 0;
     let mut i = 0;
     while i < n {
@@ -113,13 +126,13 @@ pub fn without_setting(
 
 // The settings with an interface's as the last one, in place of the one that it held.
 pub fn with_setting(
-    interfaces: [u8; 32],
-    alternates: [u8; 32],
+    interfaces: [u8; HELD_ROOM],
+    alternates: [u8; HELD_ROOM],
     n: usize,
     interface: u8,
     alternate: u8,
 ) -> Settings
-    requires { ⌜ (n ≤ 32) × (length (withSetting interface alternate (heldIn n interfaces alternates)) ≤ 32) ⌝ }
+    requires { ⌜ (n ≤ HELD-ROOM) × (length (withSetting interface alternate (heldIn n interfaces alternates)) ≤ HELD-ROOM) ⌝ }
     ensures { λ r. ⌜ SettingsAs r (withSetting interface alternate (heldIn n interfaces alternates)) ⌝ }
 {
     let mut s = without_setting(interfaces, alternates, n, interface);

@@ -2,6 +2,7 @@
 mod held;
 mod matching;
 
+pub use held::HELD_ROOM;
 pub use held::Settings;
 pub use held::alternate_of;
 pub use held::is_held;

@@ -34,19 +34,19 @@ fn bring_up(
 }
 
 fn run(ctx: &mut [u8]) {
-    let mut image = [0u64; 514];
-    let mut routes = [0u64; 160];
+    let mut image = [0u64; xhci_device::WORDS];
+    let mut routes = [0u64; replay_sample::ROUTES_ROOM];
     replay_sample::words(&mut routes);
-    let mut log = [0xa500_0000u32; 64];
-    let mut outcomes = [0u8; 64];
+    let mut log = [0xa500_0000u32; replay_sample::LOG_ROOM];
+    let mut outcomes = [0u8; replay_sample::OUTCOMES_ROOM];
     replay_sample::bytes(&mut outcomes);
-    let n = replay_sample::count(64);
-    let mut hubs = [0u64; 16];
+    let n = replay_sample::count(replay_sample::OUTCOMES_ROOM);
+    let mut hubs = [0u64; replay_sample::HUBS_ROOM];
     replay_sample::words(&mut hubs);
-    let hubs_len = replay_sample::count(16);
-    let mut list = [0u32; 256];
+    let hubs_len = replay_sample::count(replay_sample::HUBS_ROOM);
+    let mut list = [0u32; replay_sample::LIST_ROOM];
     replay_sample::list(&mut list);
-    let list_len = replay_sample::count(256);
+    let list_len = replay_sample::count(replay_sample::LIST_ROOM);
     let a = bring_up(
         &mut image,
         ctx,
@@ -63,8 +63,8 @@ fn main() {
     let mut left = replay_sample::next();
     while left > 0 {
         left -= 1;
-        let mut ctx = [0x5au8; 2112];
-        let n = replay_sample::count(2112);
+        let mut ctx = [0x5au8; replay_sample::CONTEXT_ROOM];
+        let n = replay_sample::count(replay_sample::CONTEXT_ROOM);
         run(&mut ctx[0..n]);
     }
 }

@@ -7,6 +7,7 @@ use lib.ListN.{length, getD}
 use Rattle.answer.specs.declared.Answer.the-variants as answer
 use Rattle.answer.specs.declared.Check.{Check}
 use Rattle.answer.specs.declared.Check.the-variants.{Pass}
+use Rattle.command.specs.Command.{LOG-ROOM}
 use Rattle.context_block.specs.Blocks.{wordDci}
 use Rattle.context_block.specs.Promises.{someDci}
 use Rattle.transfer.specs.Routes.{routeOf}
@@ -36,17 +37,17 @@ Routed d routes = RoutedBy routes (d .slot .0) (cellsIn d)
 abbrev pub AllDone : List ℕ → ℕ → Type 0
 AllDone outcomes n = (k : ℕ) → k < n → (k < length outcomes) × (getD outcomes k 0 ≡ 0)
 
--- A call whose checks pass, on a record and a table that agree; 64 outcomes are enough for each.
+-- A call whose checks pass, on a record and a table that agree; as many outcomes as a log has words are enough for each.
 pub record Ready (d : Device) (ctx routes log outcomes : List ℕ) (check : Check) : Type 0 where
   pub passes : recordCheck d (length ctx) (length routes) (length log) check ≡ Pass
   pub routed : Routed d routes
-  pub done : AllDone outcomes 64
+  pub done : AllDone outcomes LOG-ROOM
 
 -- A context, a log and outcomes that are enough for a later call.
 pub record Enough (d : Device) (ctx log outcomes : List ℕ) : Type 0 where
   pub context : length ctx ≡ 33 * d .spacing
-  pub room : 64 ≤ length log
-  pub done : AllDone outcomes 64
+  pub room : LOG-ROOM ≤ length log
+  pub done : AllDone outcomes LOG-ROOM
 
 -- Accepted, and the record and the table that come back may go into the next call: the slot, N, the spacing, the speed, the list and
 -- control's ring are the same.
@@ -74,7 +75,7 @@ BringUpAccepted =
     bringUpCheck a (length ctx) routes (length log) ≡ Pass →
     a .header ≡ 8 →
     ((d : ℕ) → 2 ≤ d → d < 32 → routeOf routes (a .slot) d ≡ 0) →
-    AllDone outcomes 64 →
+    AllDone outcomes LOG-ROOM →
     BroughtUp a (bringUp a ctx routes log outcomes)
 
 -- A claim: each endpoint word's Dci is routed to the ring offered for it; of several words of a Dci, the last counts.

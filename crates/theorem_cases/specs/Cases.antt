@@ -23,7 +23,7 @@ use Rattle.context_field.specs.Field.{wordAt, putWord, readField, withBits, wri
 use Rattle.transfer.specs.Routes.{queues, ringFor, routeIndex, routeOf, withRoute, registered, withRegistered, names, oldMatch, isFree, newFree, replaced, cleared, published, moved, withReplaced}
 use Rattle.record_ring.specs.Rings.{ringOk, ringsOk, disjoint, offerOk}
 use Rattle.context_block.specs.Blocks.{changed, ringSettings, errorCount, periodicSettings, burstOf, basicSettings, endpointSettings, wordDci, dropFlags}
-use Rattle.context.specs.Place.{inBlock, onPart, writeAt, written, blockAt, readAt}
+use Rattle.context.specs.Place.{inBlock, onPart, writeAt, written, blockAt, readAt, spacingOf}
 use Rattle.context.specs.Steps.{addWrites, addAll, highestDci, wordDcis, contextEntries, configureWrites}
 use Rattle.command.specs.Command.{commandWord, outcomeAt}
 use Rattle.command.specs.Course.{onSent, then, words, result, played}
@@ -42,14 +42,14 @@ use Rattle.device.specs.Calls.{onCheck, hubContext, hubCourse, hubLeft, hubUpda
 use Rattle.record_checks.specs.Think.{isThought, thinkValue}
 use Rattle.device.specs.Check.{recordCheck, hubCheck}
 use Rattle.device.specs.Claim.{claimCheck, pendingOf, claimIn, quarantines, claimRecord, claim}
-use Rattle.device.specs.Device.{listOf, cellsIn, heldOf, quarantinedOf, withCells, withHeld, withConfiguration, withQuarantined, unusable}
+use Rattle.device.specs.Device.{listOf, cellsIn, heldOf, quarantinedOf, withCells, withHeld, noDevice, withConfiguration, withQuarantined, unusable}
 use Rattle.device.specs.Left.{Left, refused, marked, ended}
 use Rattle.device.specs.Release.{releaseCheck, releaseIn, releaseRecord, release}
 use Rattle.device.specs.SetConfiguration.{settingsIn, bare, setRecord, setConfiguration}
 use Rattle.device.specs.Sound.{placeSound, countsFit, listsSound, allRings, ringsSound, sound}
 use Rattle.course_init.specs.Reading.{firstConfigurations, nothingRead, readUpTo}
 use Rattle.course_init.specs.Init.{step, bringUpSettings, bringUpSet, bringUpConfigs, bringUpDevice, bringUpHeader, bringUpConfiguration, bringUpPacket, bringUpAddress}
-use Rattle.device_bring_up.specs.BringUp.{spacingOf, bringUpCheck, bringUpCourse, broughtRecord, noDevice, broughtLeft, bringUp, slotCheck, deviceCheck, queueCheck}
+use Rattle.device_bring_up.specs.BringUp.{bringUpCheck, bringUpCourse, broughtRecord, broughtLeft, bringUp, slotCheck, deviceCheck, queueCheck}
 use Rattle.theorem_controller.specs.Controller.{isDone, controlled, enabledAfter, doneWord}
 use Rattle.theorem_controller.specs.Controller as controller
 use Rattle.theorem_slot.specs.Call.{left}

@@ -7,7 +7,8 @@ use mathlib.Core.Logic.{inl}
 use Rattle.transfer.specs.Routes.{routeOf}
 use Rattle.answer.specs.declared.Answer.{Answer}
 use Rattle.course_init.specs.Reading.{BringUp}
-use Rattle.device_bring_up.specs.BringUp.{noDevice, bringUp}
+use Rattle.device.specs.Device.{noDevice}
+use Rattle.device_bring_up.specs.BringUp.{bringUp}
 use Rattle.device_bring_up.proofs.Laws.{Refusal, Refused, bring-up-full}
 use Rattle.device.specs.Sound.{placeSound, sound}
 use Rattle.theorem_slot.specs.Call.{Buffers, bringsUp, left}

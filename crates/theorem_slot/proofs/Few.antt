@@ -5,6 +5,7 @@ use mathlib.Core.Logic.{_⊎_, inl, inr}
 use native.Mathlib.Omega.{arith}
 use lib.ListN.{length}
 use Rattle.command.specs.Course.{words, played}
+use Rattle.context.specs.Place.{spacingOf}
 use Rattle.descriptor_list.proofs.Laws.{valid-configurations}
 use Rattle.record_endpoint.specs.declared.cells.Owner.the-variants.{Interface}
 use Rattle.record_endpoint.specs.Cells.{ownedRings}
@@ -21,7 +22,7 @@ use Rattle.device.specs.Release.{releaseIn, release}
 use Rattle.device.specs.SetConfiguration.{settingsIn, setConfiguration}
 use Rattle.device.proofs.Marks.{on-check}
 use Rattle.course_init.specs.Reading.{BringUp}
-use Rattle.device_bring_up.specs.BringUp.{spacingOf, broughtLeft}
+use Rattle.device_bring_up.specs.BringUp.{broughtLeft}
 use Rattle.device_bring_up.proofs.Laws.{Refused, Ran, bring-up-cases, bring-up-words}
 use Rattle.theorem_slot.specs.Call.{Buffers, Asked, bringsUp, claims, releases, configures, updatesHub, left}
 use Rattle.theorem_slot.specs.Theorem.{FewWords}

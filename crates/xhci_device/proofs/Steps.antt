@@ -23,6 +23,7 @@ use Rattle.device.specs.Calls.{onCheck, hubLeft, hubUpdate}
 use Rattle.device.specs.Claim.{quarantines, claimRecord, claim}
 use Rattle.device.specs.Release.{releaseRecord, release}
 use Rattle.device.specs.SetConfiguration.{bare, setRecord, setConfiguration}
+use Rattle.device_image.specs.Layout.{WORDS}
 use Rattle.device_image.specs.Image.{encode, stored, isSet, read, isImage, decode}
 use Rattle.device_image.specs.Fits.{Fits}
 use Rattle.device_image.proofs.Laws.{image-length, encode-decode, fits-decode}
@@ -137,15 +138,15 @@ module _ (d : Device) (image ctx routes log : List ℕ) (left : Left) (e : d ≡
 
   write :
       (eqb (d .slot .0) 0 ≡ false) → (b : Bool) → isImage image ≡ b →
-      (length image ≡ 514 → Fits (left .device)) → CrossedAs (beside left (stored (left .device) image)) b left image ctx routes log
+      (length image ≡ WORDS → Fits (left .device)) → CrossedAs (beside left (stored (left .device) image)) b left image ctx routes log
   unfolding crossed stored
   write z true i f =
       let size = image-length image i in
-      record { equal = rw (eq-eqb (length image) 514 size) refl; fits = λ t. f size }
+      record { equal = rw (eq-eqb (length image) WORDS size) refl; fits = λ t. f size }
   write z false i f = not-both (eqb (d .slot .0) 0) (eq-eqb (d .slot .0) 0 (ap (λ (c : Device). c .slot .0) e ∙ zeros-slot image i)) z
 
   after :
-      (b : Bool) → eqb (d .slot .0) 0 ≡ b → (b ≡ false → length image ≡ 514 → Fits (left .device)) →
+      (b : Bool) → eqb (d .slot .0) 0 ≡ b → (b ≡ false → length image ≡ WORDS → Fits (left .device)) →
       CrossedAs (beside left (cond b image (stored (left .device) image))) (isImage image) left image ctx routes log
   after true z f = refusal (eqb-true (d .slot .0) 0 z) (isImage image) refl
   after false z f = write z (isImage image) refl (f refl)
@@ -154,12 +155,12 @@ module _ (d : Device) (image ctx routes log : List ℕ) (left : Left) (e : d ≡
       (called : Called) (r : Answered) (image′ ctx′ routes′ log′ : List ℕ) → leaves called ctx′ routes′ log′ ≡ left →
       r ≡ answeredOf (called .answer) (called .count) →
       image′ ≡ cond (eqb (called .device .slot .0) 0) image (stored (called .device) image) →
-      (eqb (called .device .slot .0) 0 ≡ false → length image ≡ 514 → Fits (called .device)) →
+      (eqb (called .device .slot .0) 0 ≡ false → length image ≡ WORDS → Fits (called .device)) →
       CrossedAs (crosses r image′ ctx′ routes′ log′) (isImage image) left image ctx routes log
   cross called r image′ ctx′ routes′ log′ q a i f =
       let same : called .device ≡ left .device = ap (λ (l : Left). l .device) q in
       let slot : called .device .slot .0 ≡ d .slot .0 = ap (λ (c : Device). c .slot .0) same ∙ ap (λ s. s .0) (k .slot) in
-      let g : eqb (d .slot .0) 0 ≡ false → length image ≡ 514 → Fits (left .device) =
+      let g : eqb (d .slot .0) 0 ≡ false → length image ≡ WORDS → Fits (left .device) =
       λ z h. subst Fits same (f (ap (λ (s : ℕ). eqb s 0) slot ∙ z) h) in
       let new : image′ ≡ cond (eqb (d .slot .0) 0) image (stored (left .device) image) =
       i ∙ ap (λ (c : Device). cond (eqb (called .device .slot .0) 0) image (stored c image)) same
@@ -172,20 +173,20 @@ module _ (d : Device) (image ctx routes log : List ℕ) (left : Left) (e : d ≡
 -- A bring-up, which asks for the words of an image only.
 module _ (left : Left) (image ctx routes log : List ℕ) where
   pub made-none :
-      (r : Answered) → (length image ≡ 514 → ⊥) → r ≡ answeredOf Unusable 0 →
-      CrossedAs (crosses r image ctx routes log) (eqb (length image) 514) left image ctx routes log
+      (r : Answered) → (length image ≡ WORDS → ⊥) → r ≡ answeredOf Unusable 0 →
+      CrossedAs (crosses r image ctx routes log) (eqb (length image) WORDS) left image ctx routes log
   unfolding crossed
   made-none r e q =
-      let none : eqb (length image) 514 ≡ false = ne-eqb (length image) 514 e in
-      record { equal = rw (none, q) refl; fits = λ t. not-both (eqb (length image) 514) t none }
+      let none : eqb (length image) WORDS ≡ false = ne-eqb (length image) WORDS e in
+      record { equal = rw (none, q) refl; fits = λ t. not-both (eqb (length image) WORDS) t none }
 
   pub made :
-      (called : Called) (r : Answered) (image′ ctx′ routes′ log′ : List ℕ) → length image ≡ 514 →
+      (called : Called) (r : Answered) (image′ ctx′ routes′ log′ : List ℕ) → length image ≡ WORDS →
       leaves called ctx′ routes′ log′ ≡ left → r ≡ answeredOf (called .answer) (called .count) →
-      (image′ ≡ stored (called .device) image) × (length image ≡ 514 → Fits (called .device)) →
-      CrossedAs (crosses r image′ ctx′ routes′ log′) (eqb (length image) 514) left image ctx routes log
+      (image′ ≡ stored (called .device) image) × (length image ≡ WORDS → Fits (called .device)) →
+      CrossedAs (crosses r image′ ctx′ routes′ log′) (eqb (length image) WORDS) left image ctx routes log
   unfolding crossed stored
   made called r image′ ctx′ routes′ log′ e q a i =
-      let ok : eqb (length image) 514 ≡ true = eq-eqb (length image) 514 e in
+      let ok : eqb (length image) WORDS ≡ true = eq-eqb (length image) WORDS e in
       let new : image′ ≡ encode (called .device) = i .0 ∙ ap (λ (b : Bool). cond b (encode (called .device)) image) ok in
       record { equal = rw (ok, ← q, a, new) refl; fits = λ t. subst (λ (l : Left). Fits (l .device)) q (i .1 e) }

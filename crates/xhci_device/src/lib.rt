@@ -9,6 +9,7 @@ mod set_configuration;
 mod sound;
 
 pub use claim::xhci_device_claim;
+pub use device_image::WORDS;
 pub use hub_update::xhci_device_hub_update;
 pub use new_record::xhci_device_bring_up;
 pub use release::xhci_device_release;

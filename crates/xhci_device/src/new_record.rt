@@ -8,7 +8,8 @@ ghost use lib.Dec.{eqb};
 ghost use lib.ListN.{length};
 ghost use Rattle.course_init.specs.Reading.{bringUpOf};
 ghost use Rattle.device_bring_up.specs.BringUp.{bringUp};
-ghost use Rattle.device_image.specs.Image.{WORDS, isSet};
+ghost use Rattle.device_image.specs.Layout.{WORDS};
+ghost use Rattle.device_image.specs.Image.{isSet};
 ghost use Rattle.xhci_device.specs.Crossed.{crosses, CrossedAs};
 
 // The image may hold anything; it gets the new record.
@@ -24,7 +25,7 @@ fn bring_up_into(
 ) -> Answered
     ensures { λ r. ⌜ CrossedAs (crosses r (now (image .exit)) (now (ctx .exit)) (now (routes .exit)) (now (log .exit))) (eqb (length (now (image .entry))) WORDS) (bringUp (bringUpOf a (now (hubs .entry)) (now (list .entry))) (now (ctx .entry)) (now (routes .entry)) (now (log .entry)) (now (outcomes .entry))) (now (image .entry)) (now (ctx .entry)) (now (routes .entry)) (now (log .entry)) ⌝ }
 {
-    if image.len() != 514 {
+    if image.len() != device_image::WORDS {
         return returned::answer_of(Answer::Unusable, 0);
     }
     let called = device_bring_up::bring_up(ctx, routes, log, outcomes, a, hubs, list);

@@ -1,14 +1,15 @@
 // What a caller asks of a record.
 ghost use mathlib.Core.Path.{_≡_};
 ghost use mathlib.Core.Bool.{_&&_};
-ghost use Rattle.device_image.specs.Image.{WORDS, decode, isImage};
+ghost use Rattle.device_image.specs.Layout.{WORDS};
+ghost use Rattle.device_image.specs.Image.{decode, isImage};
 
 // How many words an image has.
 #[no_mangle]
 pub extern "C" fn xhci_device_record_words() -> usize
     ensures { λ r. ⌜ r ≡ WORDS ⌝ }
 {
-    514
+    device_image::WORDS
 }
 
 #[no_mangle]

@@ -5,7 +5,8 @@ ghost use mathlib.Core.Path.{_≡_};
 ghost use mathlib.Core.Bool.{false, cond};
 ghost use lib.Dec.{eqb};
 ghost use lib.ListN.{length};
-ghost use Rattle.device_image.specs.Image.{WORDS, stored};
+ghost use Rattle.device_image.specs.Layout.{WORDS};
+ghost use Rattle.device_image.specs.Image.{stored};
 ghost use Rattle.device_image.specs.Fits.{Fits};
 ghost use Rattle.xhci_device.specs.Crossed.{answeredOf};
 

@@ -1,8 +1,9 @@
 //! Records of scenarios as words of the library's image (host/include/xhci_device.h), and back.
 
 use scenario::{ENDPOINT_ROOM, Endpoint, HELD_ROOM, LIST_ROOM, QUARANTINE_ROOM, Record};
+use xhci_device::layout;
 
-type Words = [u64; xhci_device::Record::WORDS];
+type Words = [u64; layout::WORDS];
 
 /// The image of a record, sound or not. None where an array has no room for it.
 pub fn image(record: &Record) -> Option<xhci_device::Record> {
@@ -13,43 +14,43 @@ pub fn image(record: &Record) -> Option<xhci_device::Record> {
     if !fits {
         return None;
     }
-    let mut words = [0; xhci_device::Record::WORDS];
+    let mut words = [0; layout::WORDS];
     put_numbers(&mut words, record);
     put_arrays(&mut words, record);
     Some(xhci_device::Record::from_words(words))
 }
 
 fn put_numbers(words: &mut Words, record: &Record) {
-    words[0] = record.usable.into();
-    words[1] = record.config.is_some().into();
-    words[2] = record.control_revoked.into();
-    words[33] = record.slot.into();
-    words[34] = record.n.into();
-    words[35] = record.speed.into();
-    words[36] = record.config.unwrap_or(0).into();
-    words[417] = record.spacing as u64;
-    words[418] = record.list.len() as u64;
-    words[419] = record.endpoints.len() as u64;
-    words[420] = record.held.len() as u64;
-    words[421] = record.quarantined.len() as u64;
-    words[422] = record.control;
+    words[layout::USABLE] = record.usable.into();
+    words[layout::CONFIGURED] = record.config.is_some().into();
+    words[layout::CONTROL_REVOKED] = record.control_revoked.into();
+    words[layout::SLOT] = record.slot.into();
+    words[layout::N] = record.n.into();
+    words[layout::PORT_SPEED] = record.speed.into();
+    words[layout::CURRENT_CONFIG_VALUE] = record.config.unwrap_or(0).into();
+    words[layout::SPACING] = record.spacing as u64;
+    words[layout::LIST_LEN] = record.list.len() as u64;
+    words[layout::EP_COUNT] = record.endpoints.len() as u64;
+    words[layout::HELD_COUNT] = record.held.len() as u64;
+    words[layout::QUARANTINED_COUNT] = record.quarantined.len() as u64;
+    words[layout::CONTROL] = record.control;
 }
 
 fn put_arrays(words: &mut Words, record: &Record) {
     for (i, e) in record.endpoints.iter().enumerate() {
-        words[3 + i] = (!e.active).into();
-        words[37 + i] = e.address.into();
-        words[67 + i] = e.owner.into();
-        words[423 + i] = e.ring;
+        words[layout::EP_REVOKED + i] = (!e.active).into();
+        words[layout::EP_ADDRESSES + i] = e.address.into();
+        words[layout::EP_INTERFACES + i] = e.owner.into();
+        words[layout::EP_RINGS + i] = e.ring;
     }
     for (i, (interface, alternate)) in record.held.iter().enumerate() {
-        words[97 + i] = u64::from(*interface);
-        words[129 + i] = u64::from(*alternate);
+        words[layout::INTERFACES + i] = u64::from(*interface);
+        words[layout::ALTERNATES + i] = u64::from(*alternate);
     }
     for (i, word) in record.list.iter().enumerate() {
-        words[161 + i] = u64::from(*word);
+        words[layout::LIST + i] = u64::from(*word);
     }
-    words[453..453 + record.quarantined.len()].copy_from_slice(&record.quarantined);
+    words[layout::QUARANTINED..][..record.quarantined.len()].copy_from_slice(&record.quarantined);
 }
 
 pub fn record(image: &xhci_device::Record) -> Record {

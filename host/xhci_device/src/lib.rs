@@ -7,6 +7,7 @@
 
 mod answer;
 mod call;
+pub mod layout;
 mod library;
 mod record;
 

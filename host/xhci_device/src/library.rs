@@ -4,8 +4,6 @@
 
 use crate::{Answer, BringUp, Memory};
 
-pub const WORDS: usize = 514;
-
 #[repr(C)]
 struct Answered {
     answer: u32,
@@ -243,6 +241,6 @@ mod tests {
     #[test]
     fn the_archive_has_this_image() {
         // SAFETY: takes nothing.
-        assert_eq!(unsafe { super::xhci_device_record_words() }, super::WORDS);
+        assert_eq!(unsafe { super::xhci_device_record_words() }, crate::layout::WORDS);
     }
 }

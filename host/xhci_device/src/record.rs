@@ -1,6 +1,11 @@
 //! The record of a slot, which each call reads and leaves anew.
 
-use crate::library::{self, WORDS};
+use crate::layout::{
+    ALTERNATES, CONFIGURED, CONTROL, CONTROL_REVOKED, CURRENT_CONFIG_VALUE, EP_ADDRESSES, EP_COUNT, EP_INTERFACES,
+    EP_REVOKED, EP_RINGS, EP_ROOM, HELD_COUNT, HELD_ROOM, INTERFACES, LIST, LIST_LEN, LIST_ROOM, N, PORT_SPEED,
+    QUARANTINED, QUARANTINED_COUNT, RING_ROOM, SLOT, SPACING, WORDS,
+};
+use crate::library;
 use crate::{Answer, BringUp, Dci, Memory, SlotId};
 
 /// A record: the image that the library reads and writes. A bring-up makes it.
@@ -35,28 +40,6 @@ pub struct Setting {
 /// The value of a configuration that was read or set.
 #[derive(Clone, Copy, Debug, PartialEq, Eq)]
 pub struct Configuration(pub u8);
-
-// Where the words stand (host/include/xhci_device.h).
-const CONFIGURED: usize = 1;
-const CONTROL_REVOKED: usize = 2;
-const EP_REVOKED: usize = 3;
-const SLOT: usize = 33;
-const N: usize = 34;
-const PORT_SPEED: usize = 35;
-const CURRENT_CONFIG_VALUE: usize = 36;
-const EP_ADDRESSES: usize = 37;
-const EP_INTERFACES: usize = 67;
-const INTERFACES: usize = 97;
-const ALTERNATES: usize = 129;
-const LIST: usize = 161;
-const SPACING: usize = 417;
-const LIST_LEN: usize = 418;
-const EP_COUNT: usize = 419;
-const HELD_COUNT: usize = 420;
-const QUARANTINED_COUNT: usize = 421;
-const CONTROL: usize = 422;
-const EP_RINGS: usize = 423;
-const QUARANTINED: usize = 453;
 
 /// The calls.
 impl Record {
@@ -138,11 +121,11 @@ impl Record {
 
     /// The descriptor words.
     pub fn list(&self) -> impl ExactSizeIterator<Item = u32> + '_ {
-        (0..self.count(LIST_LEN, 256)).map(|i| self.words[LIST + i] as u32)
+        (0..self.count(LIST_LEN, LIST_ROOM)).map(|i| self.words[LIST + i] as u32)
     }
 
     pub fn endpoints(&self) -> impl ExactSizeIterator<Item = Endpoint> + '_ {
-        (0..self.count(EP_COUNT, 30)).map(|i| Endpoint {
+        (0..self.count(EP_COUNT, EP_ROOM)).map(|i| Endpoint {
             address: self.words[EP_ADDRESSES + i] as u8,
             interface: self.words[EP_INTERFACES + i] as u8,
             ring: self.words[EP_RINGS + i],
@@ -152,7 +135,7 @@ impl Record {
 
     /// The held settings.
     pub fn held(&self) -> impl ExactSizeIterator<Item = Setting> + '_ {
-        (0..self.count(HELD_COUNT, 32)).map(|i| Setting {
+        (0..self.count(HELD_COUNT, HELD_ROOM)).map(|i| Setting {
             interface: self.words[INTERFACES + i] as u8,
             alternate: self.words[ALTERNATES + i] as u8,
         })
@@ -160,14 +143,12 @@ impl Record {
 
     /// The rings that broken calls left behind, in the order of arrival.
     pub fn quarantined(&self) -> impl ExactSizeIterator<Item = u64> + '_ {
-        (0..self.count(QUARANTINED_COUNT, 61)).map(|i| self.words[QUARANTINED + i])
+        (0..self.count(QUARANTINED_COUNT, RING_ROOM)).map(|i| self.words[QUARANTINED + i])
     }
 }
 
 #[cfg(feature = "words")]
 impl Record {
-    pub const WORDS: usize = WORDS;
-
     /// A record of any words. A call refuses words that are no sound record with 12 and changes nothing.
     pub fn from_words(words: [u64; WORDS]) -> Record {
         Record { words }

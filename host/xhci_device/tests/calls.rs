@@ -88,10 +88,14 @@ fn a_refused_bring_up_leaves_an_empty_record() {
 #[cfg(feature = "words")]
 #[test]
 fn words_that_are_no_record_are_refused() {
+    use xhci_device::layout::*;
     let mut room = Room::new();
     let (sound, _, _) = Record::bring_up(room.memory(&[0; 16]), &device());
-    let wrong = [(0, 2), (32, 2), (33, 256), (160, 256), (161, 1 << 32), (416, 1 << 32), (418, 257), (419, 31)];
-    for (at, word) in wrong.into_iter().chain([(420, 33), (421, 62), (421, u64::MAX), (419, u64::MAX)]) {
+    // The first and the last flag, byte and descriptor word; then the counts.
+    let wide = [(USABLE, 2), (SLOT - 1, 2), (SLOT, 256), (LIST - 1, 256), (LIST, 1 << 32), (SPACING - 1, 1 << 32)];
+    let rooms = [(LIST_LEN, LIST_ROOM), (EP_COUNT, EP_ROOM), (HELD_COUNT, HELD_ROOM), (QUARANTINED_COUNT, RING_ROOM)];
+    let many = rooms.map(|(at, room)| (at, room as u64 + 1));
+    for (at, word) in wide.into_iter().chain(many).chain([(QUARANTINED_COUNT, u64::MAX), (EP_COUNT, u64::MAX)]) {
         let mut words = *sound.words();
         words[at] = word;
         let mut record = Record::from_words(words);
@@ -100,6 +104,6 @@ fn words_that_are_no_record_are_refused() {
         assert_eq!(record.set_configuration(room.memory(&[0; 16]), 1), (Answer::Unusable, 0), "word {at}");
         assert_eq!((record.words(), room.ctx, room.routes), (&words, ctx, routes), "word {at}");
         let read = (record.list().count(), record.endpoints().count(), record.held().count());
-        assert!(read <= (256, 30, 32) && record.quarantined().count() <= 61);
+        assert!(read <= (LIST_ROOM, EP_ROOM, HELD_ROOM) && record.quarantined().count() <= RING_ROOM);
     }
 }

@@ -1,4 +1,5 @@
-use Rattle.device_bring_up.specs.BringUp.{broughtRecord, noDevice, broughtLeft}
+use Rattle.device.specs.Device.{noDevice}
+use Rattle.device_bring_up.specs.BringUp.{broughtRecord, broughtLeft}
 use lib.Seq.{length-take-le}
 use borrow.Author.Needs.{needs}
 use Rattle.device_bring_up.proofs.record.brought.Statement.{statement}

@@ -7,7 +7,8 @@ use native.Mathlib.Omega.{arith}
 use lib.ListN.{getD}
 use borrow.Author.Tests.{eq-eqb, ne-eqb, not-true, not-false}
 use Rattle.record_endpoint.specs.Cells.{tabulated}
-use Rattle.device_bring_up.specs.BringUp.{noDevice}
+use Rattle.device.specs.Device.{rebuilt, noDevice}
+use Rattle.device_image.specs.Layout.{USABLE, CONFIGURED, CONTROL-REVOKED, SLOT, N, PORT-SPEED, CURRENT-CONFIG-VALUE, SPACING, LIST-LEN, HELD-COUNT, QUARANTINED-COUNT, CONTROL}
 use Rattle.device_image.specs.Image.{isSet, handleIn, numberAt, endpointIn, read, isImage, decode}
 use Rattle.device_image.proofs.Steps.{image-within, image-byte, read-of}
 use borrow.Author.Needs.{needs}
@@ -25,7 +26,7 @@ none l e = zeros ∙ ap (λ (b : Bool). read (cond b l [])) (sym e)
 image : (c : tie.Else1) → isImage (c .before .before .before .args .image .now) ≡ true
 image c = sym (c .before .is-image .ensures) ∙ not-false (c .before .is-image .result) (c .if1 .left)
 
-handle-made : (c : tie.Joined2) → c .if2 .control-handle ≡ handleIn (getD (c .before .before .before .before .before .args .image .now) 2 0)
+handle-made : (c : tie.Joined2) → c .if2 .control-handle ≡ handleIn (getD (c .before .before .before .before .before .args .image .now) CONTROL-REVOKED 0)
 unfolding handleIn
 handle-made c =
     ⊎-elim (λ w. rw (eq-eqb _ _ (w .0 .taken)) (w .1)) (λ w. rw (ne-eqb _ _ (w .0 .left)) (w .1)) (c .if2 .came)
@@ -43,49 +44,49 @@ returns c =
     ∙ none _ (sym (test .is-image .ensures) ∙ not-true (test .is-image .result) (c .before .if1 .taken))
 
 shared-slice-read-if2 : tie.Need-shared-slice-read-if2
-shared-slice-read-if2 c = image-within _ (image (c .before)) 2 refl
+shared-slice-read-if2 c = image-within _ (image (c .before)) CONTROL-REVOKED refl
 
 endpoints-in-requires : tie.Need-endpoints-in-requires
 endpoints-in-requires c κs = image (c .before .before)
 
 shared-slice-read-t9 : tie.Need-shared-slice-read-t9
-shared-slice-read-t9 c = image-within _ (image (c .before .before .before .before .before .before)) 0 refl
+shared-slice-read-t9 c = image-within _ (image (c .before .before .before .before .before .before)) USABLE refl
 
 shared-slice-read-t13 : tie.Need-shared-slice-read-t13
-shared-slice-read-t13 c = image-within _ (image (c .before .before .before .before .before .before .before)) 33 refl
+shared-slice-read-t13 c = image-within _ (image (c .before .before .before .before .before .before .before)) SLOT refl
 
 cast-t14 : tie.Need-cast-t14
-cast-t14 c = omega (arith, image-byte _ (image (c .before .before .before .before .before .before .before)) 33 (omega arith) (omega arith))
+cast-t14 c = omega (arith, image-byte _ (image (c .before .before .before .before .before .before .before)) SLOT (omega arith) (omega arith))
 
 shared-slice-read-t17 : tie.Need-shared-slice-read-t17
-shared-slice-read-t17 c = image-within _ (image (c .before .before .before .before .before .before .before .before)) 34 refl
+shared-slice-read-t17 c = image-within _ (image (c .before .before .before .before .before .before .before .before)) N refl
 
 cast-t18 : tie.Need-cast-t18
-cast-t18 c = omega (arith, image-byte _ (image (c .before .before .before .before .before .before .before .before)) 34 (omega arith) (omega arith))
+cast-t18 c = omega (arith, image-byte _ (image (c .before .before .before .before .before .before .before .before)) N (omega arith) (omega arith))
 
 shared-slice-read-t20 : tie.Need-shared-slice-read-t20
-shared-slice-read-t20 c = image-within _ (image (c .before .before .before .before .before .before .before .before .before)) 417 refl
+shared-slice-read-t20 c = image-within _ (image (c .before .before .before .before .before .before .before .before .before)) SPACING refl
 
 shared-slice-read-t23 : tie.Need-shared-slice-read-t23
-shared-slice-read-t23 c = image-within _ (image (c .before .before .before .before .before .before .before .before .before .before)) 35 refl
+shared-slice-read-t23 c = image-within _ (image (c .before .before .before .before .before .before .before .before .before .before)) PORT-SPEED refl
 
 cast-t24 : tie.Need-cast-t24
-cast-t24 c = omega (arith, image-byte _ (image (c .before .before .before .before .before .before .before .before .before .before)) 35 (omega arith) (omega arith))
+cast-t24 c = omega (arith, image-byte _ (image (c .before .before .before .before .before .before .before .before .before .before)) PORT-SPEED (omega arith) (omega arith))
 
 shared-slice-read-t26 : tie.Need-shared-slice-read-t26
-shared-slice-read-t26 c = image-within _ (image (c .before .before .before .before .before .before .before .before .before .before .before)) 1 refl
+shared-slice-read-t26 c = image-within _ (image (c .before .before .before .before .before .before .before .before .before .before .before)) CONFIGURED refl
 
 shared-slice-read-t28 : tie.Need-shared-slice-read-t28
-shared-slice-read-t28 c = image-within _ (image (c .before .before .before .before .before .before .before .before .before .before .before .before)) 36 refl
+shared-slice-read-t28 c = image-within _ (image (c .before .before .before .before .before .before .before .before .before .before .before .before)) CURRENT-CONFIG-VALUE refl
 
 cast-t29 : tie.Need-cast-t29
-cast-t29 c = omega (arith, image-byte _ (image (c .before .before .before .before .before .before .before .before .before .before .before .before)) 36 (omega arith) (omega arith))
+cast-t29 c = omega (arith, image-byte _ (image (c .before .before .before .before .before .before .before .before .before .before .before .before)) CURRENT-CONFIG-VALUE (omega arith) (omega arith))
 
 list-in-requires : tie.Need-list-in-requires
 list-in-requires c κs = image (c .before .before .before .before .before .before .before .before .before .before .before .before)
 
 shared-slice-read-t32 : tie.Need-shared-slice-read-t32
-shared-slice-read-t32 c = image-within _ (image (c .before .before .before .before .before .before .before .before .before .before .before .before .before .before)) 418 refl
+shared-slice-read-t32 c = image-within _ (image (c .before .before .before .before .before .before .before .before .before .before .before .before .before .before)) LIST-LEN refl
 
 settings-in-requires : tie.Need-settings-in-requires
 settings-in-requires c κs = (image (c .before .before .before .before .before .before .before .before .before .before .before .before .before .before), omega arith, omega arith)
@@ -94,18 +95,19 @@ settings-in-requires-2 : tie.Need-settings-in-requires-2
 settings-in-requires-2 c κs = (image (c .before .before .before .before .before .before .before .before .before .before .before .before .before .before .before), omega arith, omega arith)
 
 shared-slice-read-t37 : tie.Need-shared-slice-read-t37
-shared-slice-read-t37 c = image-within _ (image (c .before .before .before .before .before .before .before .before .before .before .before .before .before .before .before .before .before)) 420 refl
+shared-slice-read-t37 c = image-within _ (image (c .before .before .before .before .before .before .before .before .before .before .before .before .before .before .before .before .before)) HELD-COUNT refl
 
 shared-slice-read-t40 : tie.Need-shared-slice-read-t40
-shared-slice-read-t40 c = image-within _ (image (c .before .before .before .before .before .before .before .before .before .before .before .before .before .before .before .before .before .before)) 422 refl
+shared-slice-read-t40 c = image-within _ (image (c .before .before .before .before .before .before .before .before .before .before .before .before .before .before .before .before .before .before)) CONTROL refl
 
 quarantined-in-requires : tie.Need-quarantined-in-requires
 quarantined-in-requires c κs = image (c .before .before .before .before .before .before .before .before .before .before .before .before .before .before .before .before .before .before)
 
 shared-slice-read-t43 : tie.Need-shared-slice-read-t43
-shared-slice-read-t43 c = image-within _ (image (c .before .before .before .before .before .before .before .before .before .before .before .before .before .before .before .before .before .before .before .before)) 421 refl
+shared-slice-read-t43 c = image-within _ (image (c .before .before .before .before .before .before .before .before .before .before .before .before .before .before .before .before .before .before .before .before)) QUARANTINED-COUNT refl
 
 returns-2 : tie.Need-returns-2
+unfolding rebuilt isSet
 returns-2 c =
     let c4 = c .before .before .before .before in
     let alternates = c4 in let list = alternates .before .before .before in let endpoints =

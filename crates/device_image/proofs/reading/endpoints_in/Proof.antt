@@ -7,17 +7,19 @@ use native.Mathlib.Omega.{arith}
 use lib.ListN.{length, getD}
 use borrow.Author.Tests.{eq-eqb, ne-eqb}
 use native.Mathlib.Nat.{zero-add}
-use Rattle.device_image.specs.Image.{handleIn, numberAt, endpointIn, isImage}
+use Rattle.record_endpoint.specs.Order.{PLACES}
+use Rattle.device_image.specs.Layout.{EP-REVOKED, EP-ADDRESSES, EP-INTERFACES, WORDS}
+use Rattle.device_image.specs.Image.{handleIn, numberAt, endpointIn, endpointsIn, isImage}
 use Rattle.device_image.proofs.Steps.{image-length, image-byte, Read, read-none, read-next, read-done}
 use Rattle.device_image.proofs.reading.endpoints_in.Statement.{statement}
 use Rattle.device_image.proofs.reading.endpoints_in.Tie as tie
 
 abbrev Inv-loop : tie.InvT-loop
 Inv-loop image eps₀ owners₀ i₀ eps owners i =
-    (isImage image ≡ true) × (length image ≡ 514) × (i ≤ 30) × Read 30 (endpointIn image) 0 i eps × Read 30 (numberAt image) 67 i owners
+    (isImage image ≡ true) × (length image ≡ WORDS) × (i ≤ PLACES) × Read PLACES (endpointIn image) 0 i eps × Read PLACES (numberAt image) EP-INTERFACES i owners
 
 abbrev μ-loop : tie.MeasureT-loop
-μ-loop image eps₀ owners₀ i₀ eps owners i = 30 - i
+μ-loop image eps₀ owners₀ i₀ eps owners i = PLACES - i
 
 loop-holds : tie.Need-loop-holds Inv-loop μ-loop
 loop-holds c = (search needs, image-length _ (c .pre), search needs, read-none _ _ _ _ refl, read-none _ _ _ _ refl)
@@ -32,7 +34,7 @@ shared-slice-read-if1 : tie.Need-shared-slice-read-if1 Inv-loop μ-loop
 shared-slice-read-if1 c = search needs
 
 handle-made :
-    (c : tie.Joined1 Inv-loop μ-loop) → c .if1 .handle ≡ handleIn (getD (c .before .before .before .before .args .image .now) (3 + c .before .before .before .loop .i) 0)
+    (c : tie.Joined1 Inv-loop μ-loop) → c .if1 .handle ≡ handleIn (getD (c .before .before .before .before .args .image .now) (EP-REVOKED + c .before .before .before .loop .i) 0)
 unfolding handleIn
 handle-made c =
     ⊎-elim (λ w. rw (eq-eqb _ _ (w .0 .taken)) (w .1)) (λ w. rw (ne-eqb _ _ (w .0 .left)) (w .1)) (c .if1 .came)
@@ -49,7 +51,7 @@ shared-slice-read-owners c = search needs
 cast-owners : tie.Need-cast-owners Inv-loop μ-loop
 cast-owners c =
     let turn = c .before .before .before .before .loop in
-    omega (arith, image-byte _ (turn .inv .0) (37 + turn .i) (omega arith) (omega (arith, c .before .before .before .loop-test .taken)))
+    omega (arith, image-byte _ (turn .inv .0) (EP-ADDRESSES + turn .i) (omega arith) (omega (arith, c .before .before .before .loop-test .taken)))
 
 add-t16 : tie.Need-add-t16 Inv-loop μ-loop
 add-t16 c = search needs
@@ -78,7 +80,7 @@ shared-slice-read-owners-2 c = search needs
 cast-owners-2 : tie.Need-cast-owners-2 Inv-loop μ-loop
 cast-owners-2 c =
     let turn = c .before .before .before .before .before .before .loop in
-    omega (arith, image-byte _ (turn .inv .0) (67 + turn .i) (omega arith) (omega (arith, c .before .before .before .before .before .loop-test .taken)))
+    omega (arith, image-byte _ (turn .inv .0) (EP-INTERFACES + turn .i) (omega arith) (omega (arith, c .before .before .before .before .before .loop-test .taken)))
 
 array-write-owners : tie.Need-array-write-owners Inv-loop μ-loop
 array-write-owners c = search needs
@@ -105,10 +107,11 @@ shared-slice-read-t30 : tie.Need-shared-slice-read-t30 Inv-loop μ-loop
 shared-slice-read-t30 c = search needs
 
 returns : tie.Need-returns Inv-loop μ-loop
+unfolding endpointsIn
 returns c =
     let turn = c .before .before .loop .inv in
     let test = c .before .loop-test .left in
-    (read-done (turn .3) test (turn .2), read-done (turn .4) test (turn .2), refl)
+    rw (read-done (turn .3) test (turn .2), read-done (turn .4) test (turn .2))
 
 pub endpoints-in-spec : {M : Type 1} → statement M
 endpoints-in-spec =

@@ -4,6 +4,8 @@ use mathlib.Core.Path.{_≡_, refl}
 use mathlib.Core.Bool.{true}
 use native.Mathlib.Omega.{arith}
 use lib.ListN.{length}
+use Rattle.descriptor_list.specs.Valid.{LIST-ROOM}
+use Rattle.device_image.specs.Layout.{LIST, WORDS}
 use Rattle.device_image.specs.Image.{numberAt, isImage}
 use Rattle.device_image.proofs.Steps.{image-length, image-word, Read, read-none, read-next, read-done}
 use Rattle.device_image.proofs.reading.list_in.Statement.{statement}
@@ -11,10 +13,10 @@ use Rattle.device_image.proofs.reading.list_in.Tie as tie
 
 abbrev Inv-loop : tie.InvT-loop
 Inv-loop image list₀ i₀ list i =
-    (isImage image ≡ true) × (length image ≡ 514) × (i ≤ 256) × Read 256 (numberAt image) 161 i list
+    (isImage image ≡ true) × (length image ≡ WORDS) × (i ≤ LIST-ROOM) × Read LIST-ROOM (numberAt image) LIST i list
 
 abbrev μ-loop : tie.MeasureT-loop
-μ-loop image list₀ i₀ list i = 256 - i
+μ-loop image list₀ i₀ list i = LIST-ROOM - i
 
 loop-holds : tie.Need-loop-holds Inv-loop μ-loop
 loop-holds c = (search needs, image-length _ (c .pre), search needs, read-none _ _ _ _ refl)
@@ -31,7 +33,7 @@ shared-slice-read-list c = search needs
 cast-list : tie.Need-cast-list Inv-loop μ-loop
 cast-list c =
     let turn = c .before .before .loop in
-    omega (arith, image-word _ (turn .inv .0) (161 + turn .i) (omega arith) (omega (arith, c .before .loop-test .taken)))
+    omega (arith, image-word _ (turn .inv .0) (LIST + turn .i) (omega arith) (omega (arith, c .before .loop-test .taken)))
 
 mul-list-2 : tie.Need-mul-list-2 Inv-loop μ-loop
 mul-list-2 c = search needs

@@ -2,6 +2,8 @@ use borrow.Author.Needs.{needs}
 use Prim.Native.Nat.{_≤_, _-_}
 use mathlib.Core.Path.{_≡_, refl}
 use lib.ListN.{length}
+use Rattle.record_ring.specs.Rings.{RING-ROOM}
+use Rattle.device_image.specs.Layout.{QUARANTINED, WORDS}
 use Rattle.device_image.specs.Image.{numberAt}
 use Rattle.device_image.proofs.Steps.{image-length, Read, read-none, read-next, read-done}
 use Rattle.device_image.proofs.reading.quarantined_in.Statement.{statement}
@@ -9,10 +11,10 @@ use Rattle.device_image.proofs.reading.quarantined_in.Tie as tie
 
 abbrev Inv-loop : tie.InvT-loop
 Inv-loop image rings₀ i₀ rings i =
-    (length image ≡ 514) × (i ≤ 61) × Read 61 (numberAt image) 453 i rings
+    (length image ≡ WORDS) × (i ≤ RING-ROOM) × Read RING-ROOM (numberAt image) QUARANTINED i rings
 
 abbrev μ-loop : tie.MeasureT-loop
-μ-loop image rings₀ i₀ rings i = 61 - i
+μ-loop image rings₀ i₀ rings i = RING-ROOM - i
 
 loop-holds : tie.Need-loop-holds Inv-loop μ-loop
 loop-holds c = (image-length _ (c .pre), search needs, read-none _ _ _ _ refl)

@@ -4,6 +4,8 @@ use mathlib.Core.Path.{_≡_, refl}
 use mathlib.Core.Bool.{true}
 use native.Mathlib.Omega.{arith}
 use lib.ListN.{length}
+use Rattle.record_settings.specs.Held.{HELD-ROOM}
+use Rattle.device_image.specs.Layout.{SLOT, LIST, WORDS}
 use Rattle.device_image.specs.Image.{numberAt, isImage}
 use Rattle.device_image.proofs.Steps.{image-length, image-byte, Read, read-none, read-next, read-done}
 use Rattle.device_image.proofs.reading.settings_in.Statement.{statement}
@@ -11,10 +13,10 @@ use Rattle.device_image.proofs.reading.settings_in.Tie as tie
 
 abbrev Inv-loop : tie.InvT-loop
 Inv-loop image from numbers₀ i₀ numbers i =
-    (isImage image ≡ true) × (33 ≤ from) × (from + 32 ≤ 161) × (length image ≡ 514) × (i ≤ 32) × Read 32 (numberAt image) from i numbers
+    (isImage image ≡ true) × (SLOT ≤ from) × (from + HELD-ROOM ≤ LIST) × (length image ≡ WORDS) × (i ≤ HELD-ROOM) × Read HELD-ROOM (numberAt image) from i numbers
 
 abbrev μ-loop : tie.MeasureT-loop
-μ-loop image from numbers₀ i₀ numbers i = 32 - i
+μ-loop image from numbers₀ i₀ numbers i = HELD-ROOM - i
 
 loop-holds : tie.Need-loop-holds Inv-loop μ-loop
 loop-holds c = (search needs, search needs, search needs, image-length _ (c .pre .0), search needs, read-none _ _ _ _ refl)

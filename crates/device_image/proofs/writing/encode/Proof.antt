@@ -9,6 +9,8 @@ use mir.Syntax.{Width, w8, w32}
 use mir.Val.{Fits as Fits', bits}
 use borrow.Author.Needs.{needs}
 use borrow.Author.Tests.{ne-eqb}
+use Rattle.descriptor_list.specs.Valid.{LIST-ROOM}
+use Rattle.device_image.specs.Layout.{LIST, WORDS}
 use Rattle.device_image.specs.Image.{revoked, stored}
 use Rattle.device_image.specs.Fits.{Fits, Below}
 use Rattle.device_image.proofs.Laws.{encoded}
@@ -18,14 +20,14 @@ use Rattle.device_image.proofs.writing.encode.Tie as tie
 
 abbrev Inv-loop : tie.InvT-loop
 Inv-loop image₀ d i₀ image i =
-    (length image₀ ≡ 514)
-    × (length image ≡ 514)
-    × (length (d .list) ≡ 256)
-    × (i ≤ 256)
-    × (sets image₀ 161 (d .list) ≡ rest 161 (d .list) i image)
+    (length image₀ ≡ WORDS)
+    × (length image ≡ WORDS)
+    × (length (d .list) ≡ LIST-ROOM)
+    × (i ≤ LIST-ROOM)
+    × (sets image₀ LIST (d .list) ≡ rest LIST (d .list) i image)
 
 abbrev μ-loop : tie.MeasureT-loop
-μ-loop image₀ d i₀ image i = 256 - i
+μ-loop image₀ d i₀ image i = LIST-ROOM - i
 
 below-of : (l : List ℕ) (w : Width) → ((i : ℕ) → Fits' w (getD l i 0)) → Below (2 ^ bits w) l
 below-of l w f i h = f i .fits
@@ -56,7 +58,7 @@ fits c =
     }
 
 -- The length after the last call.
-room : (c : tie.After-slice-known4 Inv-loop μ-loop) → length (c .before .before .put-quarantined .last .0) ≡ 514
+room : (c : tie.After-slice-known4 Inv-loop μ-loop) → length (c .before .before .put-quarantined .last .0) ≡ WORDS
 room c =
     let last = c .before .before in let settings = last .before .before .before .before in let endpoints =
     settings .before .before .before .before in omega (

@@ -7,6 +7,8 @@ use Rattle.record_endpoint.specs.Endpoint.{blank}
 use mathlib.Core.List.{map}
 use lib.Seq.{sets}
 use native.Mathlib.Omega.{arith}
+use Rattle.record_endpoint.specs.Order.{PLACES}
+use Rattle.device_image.specs.Layout.{EP-REVOKED, EP-ADDRESSES, EP-INTERFACES, EP-RINGS, WORDS}
 use Rattle.device_image.specs.Image.{revoked, handleWord, addressWord, ringWord}
 use Rattle.device_image.proofs.Steps.{rest, rest-none, endpoints-next, endpoints-all}
 use Rattle.device_image.proofs.writing.put_endpoints.Statement.{statement}
@@ -14,13 +16,13 @@ use Rattle.device_image.proofs.writing.put_endpoints.Tie as tie
 
 abbrev Inv-loop : tie.InvT-loop
 Inv-loop image₀ eps owners i₀ image i =
-    (length image₀ ≡ 514) × (length image ≡ 514) × (length eps ≡ 30) × (length owners ≡ 30) × (i ≤ 30)
-    × (sets (sets (sets (sets image₀ 3 (map handleWord eps)) 37 (map addressWord eps)) 67 owners) 423 (map ringWord eps)
-    ≡ rest 423 (map ringWord eps) i
-    (rest 67 owners i (rest 37 (map addressWord eps) i (rest 3 (map handleWord eps) i image))))
+    (length image₀ ≡ WORDS) × (length image ≡ WORDS) × (length eps ≡ PLACES) × (length owners ≡ PLACES) × (i ≤ PLACES)
+    × (sets (sets (sets (sets image₀ EP-REVOKED (map handleWord eps)) EP-ADDRESSES (map addressWord eps)) EP-INTERFACES owners) EP-RINGS (map ringWord eps)
+    ≡ rest EP-RINGS (map ringWord eps) i
+    (rest EP-INTERFACES owners i (rest EP-ADDRESSES (map addressWord eps) i (rest EP-REVOKED (map handleWord eps) i image))))
 
 abbrev μ-loop : tie.MeasureT-loop
-μ-loop image₀ eps owners i₀ image i = 30 - i
+μ-loop image₀ eps owners i₀ image i = PLACES - i
 
 loop-holds : tie.Need-loop-holds Inv-loop μ-loop
 loop-holds c = (

@@ -4,16 +4,18 @@ use mathlib.Core.Path.{_≡_, sym, _∙_}
 use lib.ListN.{length}
 use lib.Seq.{sets}
 use native.Mathlib.Omega.{arith}
+use Rattle.record_ring.specs.Rings.{RING-ROOM}
+use Rattle.device_image.specs.Layout.{QUARANTINED, WORDS}
 use Rattle.device_image.proofs.Steps.{rest, rest-none, rest-next, rest-all}
 use Rattle.device_image.proofs.writing.put_quarantined.Statement.{statement}
 use Rattle.device_image.proofs.writing.put_quarantined.Tie as tie
 
 abbrev Inv-loop : tie.InvT-loop
 Inv-loop image₀ rings i₀ image i =
-    (length image₀ ≡ 514) × (length image ≡ 514) × (length rings ≡ 61) × (i ≤ 61) × (sets image₀ 453 rings ≡ rest 453 rings i image)
+    (length image₀ ≡ WORDS) × (length image ≡ WORDS) × (length rings ≡ RING-ROOM) × (i ≤ RING-ROOM) × (sets image₀ QUARANTINED rings ≡ rest QUARANTINED rings i image)
 
 abbrev μ-loop : tie.MeasureT-loop
-μ-loop image₀ rings i₀ image i = 61 - i
+μ-loop image₀ rings i₀ image i = RING-ROOM - i
 
 loop-holds : tie.Need-loop-holds Inv-loop μ-loop
 loop-holds c = (search needs, search needs, search needs, search needs, rest-none _ _ _)

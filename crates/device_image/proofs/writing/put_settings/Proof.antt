@@ -4,17 +4,19 @@ use mathlib.Core.Path.{_≡_, sym, _∙_}
 use lib.ListN.{length, length-set}
 use lib.Seq.{sets}
 use native.Mathlib.Omega.{arith}
+use Rattle.record_settings.specs.Held.{HELD-ROOM}
+use Rattle.device_image.specs.Layout.{INTERFACES, ALTERNATES, WORDS}
 use Rattle.device_image.proofs.Steps.{rest, rest-none, pair-next, rest-all}
 use Rattle.device_image.proofs.writing.put_settings.Statement.{statement}
 use Rattle.device_image.proofs.writing.put_settings.Tie as tie
 
 abbrev Inv-loop : tie.InvT-loop
 Inv-loop image₀ interfaces alternates i₀ image i =
-    (length image₀ ≡ 514) × (length image ≡ 514) × (length interfaces ≡ 32) × (length alternates ≡ 32) × (i ≤ 32)
-    × (sets (sets image₀ 97 interfaces) 129 alternates ≡ rest 129 alternates i (rest 97 interfaces i image))
+    (length image₀ ≡ WORDS) × (length image ≡ WORDS) × (length interfaces ≡ HELD-ROOM) × (length alternates ≡ HELD-ROOM) × (i ≤ HELD-ROOM)
+    × (sets (sets image₀ INTERFACES interfaces) ALTERNATES alternates ≡ rest ALTERNATES alternates i (rest INTERFACES interfaces i image))
 
 abbrev μ-loop : tie.MeasureT-loop
-μ-loop image₀ interfaces alternates i₀ image i = 32 - i
+μ-loop image₀ interfaces alternates i₀ image i = HELD-ROOM - i
 
 loop-holds : tie.Need-loop-holds Inv-loop μ-loop
 loop-holds c = (search needs, search needs, search needs, search needs, search needs, rw (← rest-none, ← rest-none))
