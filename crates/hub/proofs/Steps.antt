@@ -1,33 +1,25 @@
 -- What each exit of a walk says of its definition, and the table of nibble weights.
 use Prim.Native.Nat.{ℕ, zero, suc, _+_, _*_, _-_, _<_, _≤_, _^_}
-use mathlib.Core.Path.{_≡_, refl, sym, _∙_}
-use mathlib.Core.Bool.{Bool, true, false, not, cond, _&&_, and-true, and-false}
+use mathlib.Core.Path.{_≡_, refl, _∙_}
+use mathlib.Core.Bool.{Bool, true, false, not, cond, _&&_, and-false}
 use mathlib.Core.List.{List, [], _∷_}
 use native.Mathlib.Omega.{arith}
 use native.Mathlib.Decide.{decLt}
 use native.Mathlib.Nat.{mul-le-mul, pow-le-pow-right}
-use borrow.Author.Tests.{lt-ltb, eqb-true, eq-eqb, ne-eqb, not-true, not-false}
-use lib.Dec.{eqb, ltb, eqb·suc-zero}
+use borrow.Author.Tests.{lt-ltb, le-leb, lt-leb, eqb-true, eq-eqb, ne-eqb, not-true, not-false}
+use lib.Dec.{eqb, ltb}
 use lib.ListN.{length, getD, List·getD-eq-default}
 use Rattle.laws.proofs.Computed.{all-below}
-use Rattle.def.specs.Speed.{HIGH, speedKnown}
+use Rattle.def.specs.Speed.{HIGH}
 use Rattle.hub.specs.declared.hub_word.HubInfo.{HubInfo}
-use Rattle.hub.specs.declared.translator.Translator.{Translator}
 use Rattle.hub.specs.HubWord.{hubInfo, hubAt}
-use Rattle.hub.specs.Chain.{hubFits, chainFrom}
-use Rattle.hub.specs.Route.{ports, clamp, routeOf}
-use Rattle.hub.specs.Translator.{nearestHigh}
-use Rattle.hub.proofs.Laws.{length-ports}
+use Rattle.hub.specs.Chain.{hubFits, chainFrom, chainOk}
+use Rattle.hub.specs.Route.{ports, clamp, routeOf, routeString}
+use Rattle.hub.specs.Translator.{noTranslator, nearestHigh}
+use Rattle.hub.proofs.Laws.{depth-below, length-ports, ports-below}
 
 less-one : (d : ℕ) → suc d - 1 ≡ d
 less-one d = omega arith
-
-chain-step : (hubs : List ℕ) (at d : ℕ) → chainFrom hubs at d ≡
-    ((ltb at (length hubs) && hubFits (hubAt hubs at) d)
-    && cond (eqb d 0) true ((hubAt hubs at) .«has_parent» && chainFrom hubs ((hubAt hubs at) .parent) (d - 1)))
-unfolding chainFrom
-chain-step hubs at zero = sym (and-true _)
-chain-step hubs at (suc d) = rw (eqb·suc-zero d, less-one d)
 
 -- past the end of the list there is no hub
 absent : (hubs : List ℕ) (at d : ℕ) → length hubs ≤ at → hubFits (hubAt hubs at) d ≡ false
@@ -41,69 +33,88 @@ in-list hubs at d = go (decLt at (length hubs))
     go (yes l) = rw (lt-ltb at (length hubs) l)
     go (no n) = rw (absent hubs at d (omega arith), and-false (ltb at (length hubs)))
 
-module _ (hubs : List ℕ) (at d : ℕ) (h : HubInfo) (is : h ≡ hubAt hubs at) where
-  chain-in : chainFrom hubs at d ≡ (hubFits h d && cond (eqb d 0) true (h .«has_parent» && chainFrom hubs (h .parent) (d - 1)))
-  chain-in = chain-step hubs at d ∙ rw (in-list hubs at d, ← is)
+chain-step : (hubs : List ℕ) (at d : ℕ) → 0 < d → chainFrom hubs at d
+    ≡ (hubFits (hubAt hubs at) d && ((hubAt hubs at) .«has_parent» && chainFrom hubs ((hubAt hubs at) .parent) (d - 1)))
+unfolding chainFrom
+chain-step hubs at zero z = absurd (omega arith)
+chain-step hubs at (suc d) z = rw (in-list hubs at (suc d), less-one d)
 
-  pub chain-absent : not (h .present) ≡ true → false ≡ chainFrom hubs at d
-  unfolding hubFits
-  chain-absent n = rw (chain-in, not-true (h .present) n)
+-- A walk of a chain: its beginning, and then at the hub at an index.
+module _ (hubs : List ℕ) (hasParent : Bool) (at : ℕ) (l : length hubs ≤ 256) (p : not hasParent ≡ false) (h : HubInfo) (is : h ≡ hubAt hubs at) where
+  pub chain-deep : 5 < h .«depth_plus_one» → chainOk hubs hasParent at ≡ false
+  unfolding chainOk
+  chain-deep d = rw (le-leb (length hubs) 256 l, not-false hasParent p, ← is, lt-leb (h .«depth_plus_one») 5 d)
 
-  module _ (p : not (h .present) ≡ false) (known : Bool) (k : known ≡ speedKnown (h .speed)) where
-    pub chain-speed : not known ≡ true → false ≡ chainFrom hubs at d
-    unfolding hubFits
-    chain-speed n = rw (chain-in, not-false (h .present) p, ← k, not-true known n)
+  pub chain-starts : h .«depth_plus_one» ≤ 5 → chainOk hubs hasParent at ≡ chainFrom hubs at (h .«depth_plus_one»)
+  unfolding chainOk
+  chain-starts d = rw (le-leb (length hubs) 256 l, not-false hasParent p, ← is, le-leb (h .«depth_plus_one») 5 d)
 
-    module _ (s : not known ≡ false) where
-      pub chain-unused : (h .unused ≡ 0 → ⊥) → false ≡ chainFrom hubs at d
-      unfolding hubFits
-      chain-unused n = rw (chain-in, not-false (h .present) p, ← k, not-false known s, ne-eqb (h .unused) 0 n)
+module _ (hubs : List ℕ) (at d : ℕ) (h : HubInfo) (is : h ≡ hubAt hubs at) (r : Bool) where
+  pub chain-root : r ≡ hubFits h 0 → d ≤ 0 → chainFrom hubs at d ≡ r
+  unfolding chainFrom
+  chain-root f z = let e : d ≡ 0 = omega arith in rw (f, e, is) (in-list hubs at 0)
 
-      module _ (u : h .unused ≡ 0) where
-        pub chain-unlike : (h .«depth_plus_one» ≡ d → ⊥) → false ≡ chainFrom hubs at d
-        unfolding hubFits
-        chain-unlike n =
-            rw (chain-in, not-false (h .present) p, ← k, not-false known s, eq-eqb (h .unused) 0 u, ne-eqb (h .«depth_plus_one») d n)
+  module _ (f : r ≡ hubFits h d) (z : 0 < d) where
+    chain-here : chainFrom hubs at d ≡ (r && (h .«has_parent» && chainFrom hubs (h .parent) (d - 1)))
+    chain-here = chain-step hubs at d z ∙ rw (← is, ← f)
 
-        module _ (e : h .«depth_plus_one» ≡ d) where
-          fits : hubFits h d ≡ true
-          unfolding hubFits
-          fits = rw (not-false (h .present) p, ← k, not-false known s, eq-eqb (h .unused) 0 u, eq-eqb (h .«depth_plus_one») d e)
+    pub chain-unfit : not r ≡ true → chainFrom hubs at d ≡ false
+    chain-unfit n = rw (chain-here, not-true r n)
 
-          pub chain-root : d ≡ 0 → true ≡ chainFrom hubs at d
-          chain-root z = rw (chain-in, fits, eq-eqb d 0 z)
+    module _ (y : not r ≡ false) where
+      pub chain-alone : not (h .«has_parent») ≡ true → chainFrom hubs at d ≡ false
+      chain-alone n = rw (chain-here, not-false r y, not-true (h .«has_parent») n)
 
-          pub chain-alone : (d ≡ 0 → ⊥) → not (h .«has_parent») ≡ true → false ≡ chainFrom hubs at d
-          chain-alone z n = rw (chain-in, fits, ne-eqb d 0 z, not-true (h .«has_parent») n)
+      pub chain-up : not (h .«has_parent») ≡ false → chainFrom hubs at d ≡ chainFrom hubs (h .parent) (d - 1)
+      chain-up p = rw (chain-here, not-false r y, not-false (h .«has_parent») p)
 
-          pub chain-up : (r : Bool) → (d ≡ 0 → ⊥) → not (h .«has_parent») ≡ false → r ≡ chainFrom hubs (h .parent) (d - 1) →
-              r ≡ chainFrom hubs at d
-          chain-up r z y c = c ∙ rw (chain-in, fits, ne-eqb d 0 z, not-false (h .«has_parent») y)
-
-pub route-up : (hubs : List ℕ) (at port d : ℕ) (h : HubInfo) (n r : ℕ) → (d ≡ 0 → ⊥) → h ≡ hubAt hubs at
-    → n ≡ clamp port * 16 ^ (d - 1) → r ≡ routeOf (ports hubs (h .parent) (h .«port_id») (d - 1))
-    → n + r ≡ routeOf (ports hubs at port d)
+route-step : (hubs : List ℕ) (at port d : ℕ) → 0 < d → routeOf (ports hubs at port d)
+    ≡ clamp port * 16 ^ (d - 1) + routeOf (ports hubs ((hubAt hubs at) .parent) ((hubAt hubs at) .«port_id») (d - 1))
 unfolding ports routeOf
-route-up hubs at port zero h n r z is e u = absurd (z refl)
-route-up hubs at port (suc d) h n r z is e u =
-    rw (e, u, is, less-one d, length-ports hubs ((hubAt hubs at) .parent) ((hubAt hubs at) .«port_id») d)
+route-step hubs at port zero z = absurd (omega arith)
+route-step hubs at port (suc d) z = rw (less-one d, length-ports hubs ((hubAt hubs at) .parent) ((hubAt hubs at) .«port_id») d)
 
-high-step : (hubs : List ℕ) (at port d : ℕ) → (d ≡ 0 → ⊥) → nearestHigh hubs at port d ≡
-    cond (eqb ((hubAt hubs at) .speed) HIGH)
+-- A walk of a route string, from a port of the hub at an index: the route so far and what is left are the whole.
+module _ (hubs : List ℕ) (at port d : ℕ) (h : HubInfo) (is : h ≡ hubAt hubs at) (z : 0 < d) (n : ℕ) (e : n ≡ clamp port * 16 ^ (d - 1))
+    (whole route : ℕ) (w : whole ≡ route + routeOf (ports hubs at port d)) where
+  pub route-up : whole ≡ (route + n) + routeOf (ports hubs (h .parent) (h .«port_id») (d - 1))
+  route-up = omega (arith, rw (← is, ← e) at (route-step hubs at port d z))
+
+  pub route-room : whole < 16 ^ 7 → route + n < 16 ^ 7
+  route-room b = omega (arith, route-up)
+
+pub route-end : (hubs : List ℕ) (at port d : ℕ) → d ≤ 0 → (whole route : ℕ) → whole ≡ route + routeOf (ports hubs at port d) → route ≡ whole
+unfolding ports routeOf
+route-end hubs at port zero z whole route w = omega arith
+route-end hubs at port (suc d) z whole route w = absurd (omega arith)
+
+-- A hub word has a depth of at most 6, so any route string has at most seven nibbles.
+pub route-small : (hubs : List ℕ) (hasParent : Bool) (at port : ℕ) → routeString hubs hasParent at port < 16 ^ 7
+unfolding routeString
+route-small hubs true at port = ports-below hubs at port ((hubAt hubs at) .«depth_plus_one») 7 (omega (arith, depth-below hubs at))
+route-small hubs false at port = omega arith
+
+high-step : (hubs : List ℕ) (at port d : ℕ) → 0 < d → nearestHigh hubs at port d
+    ≡ cond (eqb ((hubAt hubs at) .speed) HIGH)
     (record { «slot_id» = (hubAt hubs at) .«slot_id»; multi = (hubAt hubs at) .multi; port = port })
     (nearestHigh hubs ((hubAt hubs at) .parent) ((hubAt hubs at) .«port_id») (d - 1))
 unfolding nearestHigh
-high-step hubs at port zero z = absurd (z refl)
+high-step hubs at port zero z = absurd (omega arith)
 high-step hubs at port (suc d) z = rw (less-one d)
 
-module _ (hubs : List ℕ) (at port d : ℕ) (h : HubInfo) (z : d ≡ 0 → ⊥) (is : h ≡ hubAt hubs at) where
+-- A walk to the nearest High hub, at the hub at an index.
+module _ (hubs : List ℕ) (at port d : ℕ) (h : HubInfo) (is : h ≡ hubAt hubs at) (z : 0 < d) where
   pub high-here : h .speed ≡ HIGH
-      → record { «slot_id» = h .«slot_id»; multi = h .multi; port = port } ≡ nearestHigh hubs at port d
-  high-here e = rw (high-step hubs at port d z, ← is, eq-eqb (h .speed) HIGH e)
+      → nearestHigh hubs at port d ≡ record { «slot_id» = h .«slot_id»; multi = h .multi; port = port }
+  high-here e = high-step hubs at port d z ∙ rw (← is, eq-eqb (h .speed) HIGH e)
 
-  pub high-up : (t : Translator) → (h .speed ≡ HIGH → ⊥)
-      → t ≡ nearestHigh hubs (h .parent) (h .«port_id») (d - 1) → t ≡ nearestHigh hubs at port d
-  high-up t n u = u ∙ rw (high-step hubs at port d z, ← is, ne-eqb (h .speed) HIGH n)
+  pub high-up : (h .speed ≡ HIGH → ⊥) → nearestHigh hubs at port d ≡ nearestHigh hubs (h .parent) (h .«port_id») (d - 1)
+  high-up n = high-step hubs at port d z ∙ rw (← is, ne-eqb (h .speed) HIGH n)
+
+pub high-none : (hubs : List ℕ) (at port d : ℕ) → d ≤ 0 → nearestHigh hubs at port d ≡ noTranslator
+unfolding nearestHigh
+high-none hubs at port zero z = refl
+high-none hubs at port (suc d) z = absurd (omega arith)
 
 abbrev weights : List ℕ
 weights = 0x1 ∷ 0x10 ∷ 0x100 ∷ 0x1000 ∷ 0x1_0000 ∷ 0x10_0000 ∷ 0x100_0000 ∷ []

@@ -1,6 +1,6 @@
 // The transaction translator above a Low or Full speed device.
 ghost use mathlib.Core.Path.{_≡_};
-ghost use Rattle.hub.specs.Translator.{nearestHigh, translatorOf};
+ghost use Rattle.hub.specs.Translator.{translatorOf};
 use crate::hub_word::hub_at;
 
 // The High speed hub that translates for a Low or Full speed device, and the port on it; all 0 where there is none.
@@ -16,7 +16,7 @@ const NO_TRANSLATOR: Translator = Translator {
     port: 0,
 };
 
-// What a device's slot context says of a transaction translator.
+// What a device's slot context says of a transaction translator. The port on the High hub is passed on as it is.
 pub fn transaction_translator(
     speed: u8,
     hubs: &[u64],
@@ -26,27 +26,28 @@ pub fn transaction_translator(
 ) -> Translator
     ensures { λ r. ⌜ r ≡ translatorOf speed (now (hubs .entry)) «has_parent» parent port ⌝ }
 {
-    if has_parent && (speed == def::FULL || speed == def::LOW) {
-        let h = hub_at(hubs, parent);
-        return nearest_high(hubs, parent, port, h.depth_plus_one);
-    }
-    NO_TRANSLATOR
-}
-
-// The nearest High hub, from a port of the hub at an index; the port is passed on as it is.
-fn nearest_high(hubs: &[u64], at: usize, port: u8, depth_plus_one: u8) -> Translator
-    ensures { λ r. ⌜ r ≡ nearestHigh (now (hubs .entry)) at port «depth_plus_one» ⌝ }
-{
-    if depth_plus_one == 0 {
+    if speed != def::FULL && speed != def::LOW {
         return NO_TRANSLATOR;
     }
-    let h = hub_at(hubs, at);
-    if h.speed == def::HIGH {
-        return Translator {
-            slot_id: h.slot_id,
-            multi: h.multi,
-            port: port,
-        };
+    if !has_parent {
+        return NO_TRANSLATOR;
     }
-    nearest_high(hubs, h.parent, h.port_id, depth_plus_one - 1)
+    // The hub reached on the way up, and the port on it. A root hub never counts.
+    let mut at = parent;
+    let mut at_port = port;
+    let mut depth_plus_one = hub_at(hubs, at).depth_plus_one;
+    while 0 < depth_plus_one {
+        let h = hub_at(hubs, at);
+        if h.speed == def::HIGH {
+            return Translator {
+                slot_id: h.slot_id,
+                multi: h.multi,
+                port: at_port,
+            };
+        }
+        at = h.parent;
+        at_port = h.port_id;
+        depth_plus_one -= 1;
+    }
+    NO_TRANSLATOR
 }
