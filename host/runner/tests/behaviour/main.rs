@@ -1,16 +1,18 @@
-//! docs/BEHAVIOUR.md held against the proved library: its pictures, examples and tables are read out of the page.
+//! docs/BEHAVIOUR.md, and the ten lists of docs/THEOREM.md, held against the proved library: pictures, examples and
+//! tables are read out of the pages.
 #![forbid(unsafe_code)]
 
 mod calls;
 mod device;
 mod forms;
+mod lists;
 mod page;
 mod picture;
 mod records;
 mod values;
 
 /// What the modules read, by its mark.
-const CHECKED: [&str; 32] = [
+const CHECKED: [&str; 33] = [
     "picture configuration",
     "picture alternate",
     "picture endpoint",
@@ -43,6 +45,7 @@ const CHECKED: [&str; 32] = [
     "course set configuration",
     "course hub update",
     "sound",
+    "ten lists",
 ];
 
 #[test]

@@ -1,10 +1,13 @@
-//! docs/BEHAVIOUR.md as it stands: its tables and pictures by their marks, `<!-- checked: NAME -->`.
+//! The pages as they stand: their tables and pictures by their marks, `<!-- checked: NAME -->`.
 
 use std::sync::LazyLock;
 
 static PAGE: LazyLock<String> = LazyLock::new(|| {
-    let path = concat!(env!("CARGO_MANIFEST_DIR"), "/../../docs/BEHAVIOUR.md");
-    std::fs::read_to_string(path).expect("the page")
+    let paths = [
+        concat!(env!("CARGO_MANIFEST_DIR"), "/../../docs/BEHAVIOUR.md"),
+        concat!(env!("CARGO_MANIFEST_DIR"), "/../../docs/THEOREM.md"),
+    ];
+    paths.map(|path| std::fs::read_to_string(path).expect("a page")).join("\n")
 });
 
 fn mark(line: &str) -> Option<&str> {
