@@ -89,6 +89,32 @@ fn the_order_of_checks() {
     }
 }
 
+/// One change each of a bring-up: a buffer's length, or an argument.
+#[test]
+fn bounds() {
+    for row in table("bounds") {
+        let (name, value) = row[0].split_once(' ').expect("a number");
+        let value = number(value);
+        let mut args = bring_up(3, &list());
+        match name {
+            "slot" => args.slot = value as u8,
+            "n" => args.n = value as u32,
+            "speed" => args.speed = value as u8,
+            "ring" => args.ring = value,
+            "header" => args.header = value as u32,
+            _ => {}
+        }
+        let mut step = step(Call::BringUp(args));
+        match name {
+            "context" => step.ctx.resize(value as usize, 0),
+            "routes" => step.routes_len = Some(value as usize),
+            "log" => step.log_len = value as usize,
+            _ => assert!(["slot", "n", "speed", "ring", "header"].contains(&name), "{row:?}"),
+        }
+        assert_eq!(u64::from(run(&[step]).answer.number), number(&row[1]), "{row:?}");
+    }
+}
+
 /// Addresses of endpoints in one lifecycle.
 fn of_lifecycle(record: &Record, active: bool, name: &str) -> Option<String> {
     let of = record.endpoints.iter().filter(|e| e.active == active).map(|e| format!(" {:02x}", e.address));

@@ -119,6 +119,22 @@ fn chains() {
     }
 }
 
+/// The places of the fields are those of the definitions.
+#[test]
+fn fields() {
+    let path = concat!(env!("CARGO_MANIFEST_DIR"), "/../../crates/block/specs/Fields.antt");
+    let definitions = std::fs::read_to_string(path).expect("the definitions");
+    let placed = |name: &str| {
+        let place = definitions.lines().find_map(|line| line.strip_prefix(&format!("{name} = field ")));
+        place.unwrap_or_else(|| panic!("no field {name}")).split(' ').map(number).collect::<Vec<_>>()
+    };
+    for row in table("fields") {
+        let Field { dword, high, low } = field(&row[0], &row[3]);
+        let place = [dword as u64, low.into(), (high - low + 1).into()];
+        assert_eq!(placed(quoted(&row[4])[0]), place, "{row:?}");
+    }
+}
+
 /// Slot, port and several of a High hub, and its own port and parent, come back in the slot context.
 #[test]
 fn the_library_reads_hubs_so() {
@@ -163,9 +179,9 @@ pub fn command(word: u32) -> String {
         "" => String::new(),
         _ => format!(" {}", log.field(name, word.into())),
     };
-    let text = format!("{}{}{}", row[1], operand(2, "first"), operand(3, "second"));
-    assert_eq!(log.field("operation", word.into()) << 28 | u64::from(word) & 0x0FFF_F000, u64::from(word), "{text}");
-    text
+    let fields = ["operation", "first", "second"].map(|name| (name, log.field(name, word.into())));
+    assert_eq!(log.of(&fields), u64::from(word), "a bit beside the fields");
+    format!("{}{}{}", row[1], operand(2, "first"), operand(3, "second"))
 }
 
 #[test]

@@ -12,7 +12,7 @@ mod records;
 mod values;
 
 /// What the modules read, by its mark.
-const CHECKED: [&str; 33] = [
+const CHECKED: [&str; 34] = [
     "picture configuration",
     "picture alternate",
     "picture endpoint",
@@ -37,6 +37,7 @@ const CHECKED: [&str; 33] = [
     "writes",
     "answers",
     "order",
+    "bounds",
     "course bring-up",
     "course claim",
     "course first claim",

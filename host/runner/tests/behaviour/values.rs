@@ -144,7 +144,10 @@ fn before_and_after(step_name: &str) -> [Vec<u8>; 2] {
     };
     let mut steps = holding().to_vec();
     match step_name {
-        "packet size" => [1, 2].map(|outcomes| cut(&steps[..1], outcomes)),
+        "packet size" => {
+            let odd = step(Call::BringUp(BringUp { packet: 9, ..bring_up(3, &list()) }));
+            [1, 2].map(|outcomes| cut(std::slice::from_ref(&odd), outcomes))
+        }
         "value" => {
             steps.push(Step { ctx: vec![0; 1056], ..step(Call::SetConfiguration { value: 255 }) });
             [3, 4].map(|outcomes| cut(&steps, outcomes))
@@ -153,39 +156,47 @@ fn before_and_after(step_name: &str) -> [Vec<u8>; 2] {
     }
 }
 
-/// The bits of the fields that a row lists, of the block's doubleword.
-fn listed_bits(kind: &str, cell: &str, dword: usize) -> u32 {
+/// The fields of a block's kind that a cell lists.
+fn listed_fields(kind: &str, cell: &str) -> Vec<Field> {
     let names = table("fields").into_iter().filter(|row| row[0] == kind).map(|row| row[3].clone());
-    let listed = names.filter(|name| format!(", {cell},").contains(&format!(", {name},")));
-    let bits = |name: String| {
-        let field = field(kind, &name);
-        if field.dword == dword { u32::MAX >> (31 - field.high + field.low) << field.low } else { 0 }
-    };
-    listed.map(bits).fold(0, |all, bits| all | bits)
+    let listed: Vec<String> = names.filter(|name| format!(", {cell},").contains(&format!(", {name},"))).collect();
+    let length: usize = listed.iter().map(|name| name.len() + 2).sum();
+    assert!(length == cell.len() + 2 || cell == "no", "'{cell}' lists no other fields");
+    listed.iter().map(|name| field(kind, name)).collect()
 }
 
+/// Whether a row is about a step: `hub update` also about `hub update at speed 3`, `Configure` about `Configure, dropped`.
+fn is_about(row: &str, step_name: &str) -> bool {
+    let more = step_name.strip_prefix(row);
+    more.is_some_and(|more| {
+        more.is_empty() || more.starts_with(", ") && !row.contains(" at ") || more.starts_with(" at ")
+    })
+}
+
+/// The bits that the rows about a step list, of a block's doubleword.
+fn listed_bits(rows: &[Vec<String>], step_name: &str, number: usize, dword: usize) -> u32 {
+    let about = rows.iter().filter(|row| is_about(&row[0], step_name) && block(&row[1]).0 == number);
+    let fields = about.flat_map(|row| listed_fields(block(&row[1]).1, &row[2]));
+    let bits = |field: Field| u32::MAX >> (31 - field.high + field.low) << field.low;
+    fields.filter(|field| field.dword == dword).map(bits).fold(0, |all, bits| all | bits)
+}
+
+/// Of each step, what it writes in all blocks of the context. (A step that others are about stands in their rows.)
 #[test]
 fn writes() {
-    for row in table("writes") {
-        let (number, kind) = block(&row[1]);
-        let exact = filled(&row[0]);
-        let [one, other] = exact.clone().unwrap_or_else(|| before_and_after(&row[0]));
-        for dword in 0..8 {
-            let at = 32 * number + 4 * dword;
-            let word = |ctx: &[u8]| u32::from_le_bytes(ctx[at..at + 4].try_into().expect("four bytes"));
-            let differ = word(&one) ^ word(&other);
-            let listed = listed_bits(kind, &row[2], dword);
-            let holds = if exact.is_some() { !differ == listed } else { differ & !listed == 0 };
-            assert!(holds, "{row:?}, doubleword {dword}: {differ:08x}, listed {listed:08x}");
+    let rows = table("writes");
+    for step_name in rows.iter().map(|row| &row[0]) {
+        if rows.iter().any(|row| row[0] != *step_name && is_about(step_name, &row[0])) {
+            continue;
         }
-        let count = row[2].split(", ").filter(|name| !["low", "high", "no"].contains(name)).count();
-        assert_eq!(count, listed_count(kind, &row[2]), "{row:?}");
+        let exact = filled(step_name);
+        let [one, other] = exact.clone().unwrap_or_else(|| before_and_after(step_name));
+        for at in 0..33 * 8 {
+            let word = |ctx: &[u8]| u32::from_le_bytes(ctx[4 * at..4 * at + 4].try_into().expect("four bytes"));
+            let differ = word(&one) ^ word(&other);
+            let listed = listed_bits(&rows, step_name, at / 8, at % 8);
+            let holds = if exact.is_some() { !differ == listed } else { differ & !listed == 0 };
+            assert!(holds, "{step_name}, block {}, doubleword {}: {differ:08x}, {listed:08x}", at / 8, at % 8);
+        }
     }
-}
-
-/// How many fields a row lists, those in two parts counted as they are written.
-fn listed_count(kind: &str, cell: &str) -> usize {
-    let rows = table("fields");
-    let names = rows.iter().filter(|row| row[0] == kind).map(|row| &row[3]);
-    names.filter(|name| format!(", {cell},").contains(&format!(", {name},"))).count()
 }
