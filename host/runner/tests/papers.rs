@@ -92,8 +92,7 @@ fn edits_that_acceptance_names_exist() {
                 count += 1;
                 for function in of.split("at `").skip(1).filter_map(|rest| rest.split('`').next()) {
                     let refuses = |line: &str| line.starts_with("refused: ") && line.ends_with(function);
-                    let elsewhere = of.contains("and `");
-                    assert!(elsewhere || edit.lines().any(refuses), "{} at {function}", path.display());
+                    assert!(edit.lines().any(refuses), "{} at {function}", path.display());
                 }
             }
         }
