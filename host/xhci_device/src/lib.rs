@@ -6,12 +6,19 @@
 #![deny(unsafe_code)]
 
 mod answer;
+mod bus;
 mod call;
+mod command;
+mod driver;
+mod learned;
 mod library;
 mod record;
 
 pub use answer::Answer;
+pub use bus::{Bus, Due, Outcome, Read, UNREADABLE};
 pub use call::{BringUp, Memory};
+pub use command::Command;
+pub use driver::{Attached, Call, Next, Pending};
 pub use record::{Configuration, Endpoint, Record, Setting};
 
 /// A device slot.

@@ -58,13 +58,29 @@ const CONTROL: usize = 422;
 const EP_RINGS: usize = 423;
 const QUARANTINED: usize = 453;
 
+impl Default for Record {
+    fn default() -> Record {
+        Record::new()
+    }
+}
+
 /// The calls.
 impl Record {
+    /// The record that a refused bring-up leaves: unusable, every number 0.
+    pub const fn new() -> Record {
+        Record { words: [0; WORDS] }
+    }
+
     /// The bring-up of a slot. The record is there after every answer, and usable after `Accepted` alone.
     pub fn bring_up(memory: Memory<'_>, args: &BringUp<'_>) -> (Record, Answer, usize) {
-        let mut record = Record { words: [0; WORDS] };
-        let (answer, count) = library::bring_up(&mut record.words, memory, args);
+        let mut record = Record::new();
+        let (answer, count) = record.bring_up_here(memory, args);
         (record, answer, count)
+    }
+
+    /// The same, in the place of another record.
+    pub(crate) fn bring_up_here(&mut self, memory: Memory<'_>, args: &BringUp<'_>) -> (Answer, usize) {
+        library::bring_up(&mut self.words, memory, args)
     }
 
     /// The claim of an interface's alternate setting, with a ring for each of its endpoint words.
@@ -164,16 +180,19 @@ impl Record {
     }
 }
 
-#[cfg(feature = "words")]
+/// The image, word by word (host/include/xhci_device.h says which is which).
 impl Record {
+    /// How many words the image has.
     pub const WORDS: usize = WORDS;
 
-    /// A record of any words. A call refuses words that are no sound record with 12 and changes nothing.
-    pub fn from_words(words: [u64; WORDS]) -> Record {
-        Record { words }
-    }
-
+    /// The words of the image.
     pub fn words(&self) -> &[u64; WORDS] {
         &self.words
+    }
+
+    /// A record of any words. A call refuses words that are no sound record with 12 and changes nothing.
+    #[cfg(feature = "words")]
+    pub fn from_words(words: [u64; WORDS]) -> Record {
+        Record { words }
     }
 }
