@@ -1,5 +1,7 @@
 //! What a call answers.
 
+use core::fmt;
+
 /// In the order of 01's numbers, which begin at 0.
 #[derive(Clone, Copy, Debug, PartialEq, Eq)]
 pub enum Answer {
@@ -91,6 +93,33 @@ impl Answer {
             Answer::Failed(code) => code,
             _ => 0,
         }
+    }
+}
+
+/// In words, as host/include/xhci_device.h names the answers; a failure with its code.
+impl fmt::Display for Answer {
+    fn fmt(&self, f: &mut fmt::Formatter<'_>) -> fmt::Result {
+        f.write_str(match self {
+            Answer::Accepted => "accepted",
+            Answer::ContextLength => "the context has a wrong length",
+            Answer::RoutesLength => "the routes have a wrong length",
+            Answer::LogTooShort => "the log is too short",
+            Answer::DescriptorList => "the descriptor list is not valid",
+            Answer::HubChain => "the chain of hubs is not in order",
+            Answer::Speed => "the speed is unknown",
+            Answer::ThinkTime => "the think time has no value",
+            Answer::NotFound => "there is no such alternate",
+            Answer::InvalidParameter => "an address is owned by another interface",
+            Answer::Rings => "the rings offered do not fit",
+            Answer::SlotLimitReached => "the slot or the number of slots is out of range",
+            Answer::Unusable => "the record is unusable or not sound",
+            Answer::Failed(code) => return write!(f, "a command failed, with code {code}"),
+            Answer::InterfaceBroken => "what was begun could not be undone",
+            Answer::Cut => "cut: no outcome was left for the last command",
+            Answer::ShortHeader => "the header read has not 8 bytes",
+            Answer::QueueFull => "the control endpoint's route is taken",
+            Answer::InvalidEndpoint => "an endpoint's route is not its ring",
+        })
     }
 }
 
