@@ -86,7 +86,7 @@ fn look_at(due: &Due<'_>, before: &[u64]) {
     match due.command {
         Command::Configure => {
             assert!(due.added().eq(flags(word(4))) && due.dropped().eq(flags(word(0))));
-            assert!(due.added().all(|dci| due.ring(dci) != 0 && due.ring(dci) % 16 == 0));
+            assert!(due.added().all(|dci| due.ring(dci) != 0 && due.ring(dci).is_multiple_of(16)));
         }
         Command::Address => {
             assert!(due.added().eq([Dci::CONTROL]) && due.dropped().next().is_none());
@@ -316,6 +316,6 @@ fn a_call_that_never_begins_changes_nothing() {
     assert!(refused.record == Record::new());
     brought_up(&mut world, 1);
     let before = world.clone();
-    drop(Pending::new(&mut world.record, &mut world.ctx, Call::SetConfiguration { value: 1 }));
+    let _ = Pending::new(&mut world.record, &mut world.ctx, Call::SetConfiguration { value: 1 });
     assert!(world.record == before.record && world.ctx == before.ctx);
 }
