@@ -60,7 +60,17 @@ fn the_version_and_the_sizes_are_the_binding_s() {
         constant("XHCI_DEVICE_VERSION_PATCH"),
     ];
     let version = version.map(|part| part.expect("a part")).join(".");
-    assert_eq!(version, env!("CARGO_PKG_VERSION"));
+    assert_eq!((version.as_str(), env!("CARGO_PKG_VERSION")), (xhci_device::VERSION, xhci_device::VERSION));
     assert_eq!(constant("XHCI_DEVICE_VERSION"), Some(format!("\"{version}\"").as_str()));
     assert_eq!(number("XHCI_DEVICE_RECORD_WORDS"), Record::WORDS);
+}
+
+/// The binding can be taken alone.
+#[test]
+fn the_binding_has_the_licence_of_the_repository() {
+    let root = concat!(env!("CARGO_MANIFEST_DIR"), "/../../");
+    for name in ["LICENSE", "NOTICE"] {
+        let read = |path: String| std::fs::read_to_string(path).expect("a licence");
+        assert_eq!(read(format!("{root}{name}")), read(format!("{root}host/xhci_device/{name}")));
+    }
 }

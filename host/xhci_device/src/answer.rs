@@ -2,9 +2,19 @@
 
 use core::fmt;
 
-/// In the order of 01's numbers, which begin at 0.
+/// What a call answers, in the order of the answers' numbers, which begin at 0. Those from `ContextLength` to `Unusable`,
+/// and `QueueFull`, are refusals: the call has sent nothing and changed nothing. After `InterfaceBroken`, `Cut` and any
+/// bring-up that was not accepted the record is unusable.
+///
+/// ```
+/// use xhci_device::Answer;
+///
+/// assert_eq!(Answer::of(13, 7), Some(Answer::Failed(7)));
+/// assert_eq!(Answer::Failed(7).to_string(), "a command failed, with code 7");
+/// ```
 #[derive(Clone, Copy, Debug, PartialEq, Eq)]
 pub enum Answer {
+    /// Everything was done.
     Accepted,
     /// The context is not 33 blocks of the record's spacing.
     ContextLength,
@@ -12,22 +22,31 @@ pub enum Answer {
     RoutesLength,
     /// The log has less than 64 words.
     LogTooShort,
+    /// The descriptor list is not valid.
     DescriptorList,
+    /// A hub above the device is missing or out of order.
     HubChain,
+    /// The speed is not 1 to 5.
     Speed,
+    /// No think time of a high-speed hub has that many nanoseconds.
     ThinkTime,
+    /// The list has no such alternate.
     NotFound,
     /// An address that another interface owns.
     InvalidParameter,
+    /// The rings are not as many as the endpoint words, or one is no nonzero multiple of 16 or taken.
     Rings,
+    /// Slot 0, a slot above N, or N outside 1 to 255.
     SlotLimitReached,
     /// The record is marked unusable or is not sound.
     Unusable,
     /// A command failed, with this code.
     Failed(u8),
+    /// What was begun could not be undone.
     InterfaceBroken,
     /// No outcome was left for a command.
     Cut,
+    /// ReadHeader read another number of bytes than 8.
     ShortHeader,
     /// Bring-up: the slot has a route for control.
     QueueFull,
@@ -62,7 +81,7 @@ impl Answer {
         })
     }
 
-    /// 01's number.
+    /// Its number.
     pub fn number(self) -> u8 {
         match self {
             Answer::Accepted => 0,

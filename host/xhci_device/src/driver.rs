@@ -33,7 +33,7 @@ pub struct Attached<'a> {
     pub root_port: u8,
     /// Control's ring.
     pub ring: u64,
-    /// Hub words.
+    /// Hub words ([`Hub::word`](crate::Hub::word)), of every hub between the root hub and the device at least.
     pub hubs: &'a [u64],
 }
 
@@ -83,6 +83,26 @@ pub enum Next<'a> {
 
 /// A call that is being driven. After each step record, context and routes are as the call leaves them when it is
 /// cut there, so to drop a pending call is to cut it.
+///
+/// [`run`](Pending::run) drives it to its end over a [`Bus`]. Or step by step, where commands end by an event:
+///
+/// ```
+/// use xhci_device::{Answer, Call, Command, Next, Pending, Read, Record};
+///
+/// # let (mut ctx, mut routes, mut log) = ([0; 1056], [0; 64], [0; 64]);
+/// # let memory = xhci_device::Memory { ctx: &mut ctx, routes: &mut routes, log: &mut log, outcomes: &[0; 64] };
+/// # let args = xhci_device::BringUp { slot: xhci_device::SlotId(1), n: 1, speed: 3, parent: None, port: 1,
+/// #     root_port: 1, ring: 0x1000, header: 8, packet: 64, value: 0, hubs: &[], list: &[0x0040_0000, 0x4000_0000] };
+/// # let (mut record, _, _) = Record::bring_up(memory, &args);
+/// let mut pending = Pending::new(&mut record, &mut ctx, Call::Claim { interface: 0, alternate: 0, rings: &[] });
+/// let Next::Send(due) = pending.next(&mut routes) else { panic!() };
+/// assert_eq!(due.command, Command::Configure); // sent over due.ctx; other slots' calls may run meanwhile
+/// pending.outcome(Ok(Read::Nothing));
+/// let Next::Send(due) = pending.next(&mut routes) else { panic!() };
+/// assert_eq!(due.command.to_string(), "SetInterface 0, alternate 0");
+/// pending.outcome(Ok(Read::Nothing));
+/// assert!(matches!(pending.next(&mut routes), Next::Answer(Answer::Accepted)));
+/// ```
 pub struct Pending<'a> {
     record: &'a mut Record,
     ctx: &'a mut [u8],

@@ -190,9 +190,7 @@ pub fn claim(rng: &mut Rng, record: &Record) -> (u8, u8, Vec<u64>) {
         if found.is_empty() || rng.once_in(10) { (rng.byte(), rng.byte(), 0) } else { rng.of(&found) };
     let count = count + usize::from(rng.once_in(20));
     let mut rings: Vec<u64> = (0..count).map(|_| ring(rng)).collect();
-    if rng.once_in(30)
-        && let Some(last) = rings.last_mut()
-    {
+    if let Some(last) = rings.last_mut().filter(|_| rng.once_in(30)) {
         *last += 8;
     }
     (interface, alternate, rings)
