@@ -112,16 +112,16 @@ static struct xhci_device_answered played(struct xhci_device_pending *call, uint
 }
 
 /* Where the routes have the slot's own words; null where they have none. */
-static uint64_t *row(const struct xhci_device_pending *call, uint64_t *routes, size_t routes_len) {
+static uint64_t *own_routes(const struct xhci_device_pending *call, uint64_t *routes, size_t routes_len) {
     size_t first = xhci_device_route_index(call->slot, 0);
     return first + XHCI_DEVICE_ROUTES_OF_SLOT <= routes_len ? routes + first : NULL;
 }
 
 /* Runs the call with the outcomes so far, over what it began with. */
 static void play(struct xhci_device_pending *call, uint64_t *routes, size_t routes_len) {
-    uint64_t *own = row(call, routes, routes_len);
+    uint64_t *own = own_routes(call, routes, routes_len);
     if (own != NULL) {
-        memcpy(own, call->begun_row, sizeof call->begun_row);
+        memcpy(own, call->begun_routes, sizeof call->begun_routes);
     }
     memcpy(call->image, call->begun_image, sizeof call->begun_image);
     memcpy(call->ctx, call->begun_ctx, kept(call->ctx_len));
@@ -148,9 +148,9 @@ static void step(struct xhci_device_pending *call, uint64_t *routes, size_t rout
 
 bool xhci_device_next(struct xhci_device_pending *call, uint64_t *routes, size_t routes_len) {
     if (call->state == NEW) {
-        const uint64_t *own = row(call, routes, routes_len);
+        const uint64_t *own = own_routes(call, routes, routes_len);
         if (own != NULL) {
-            memcpy(call->begun_row, own, sizeof call->begun_row);
+            memcpy(call->begun_routes, own, sizeof call->begun_routes);
         }
         call->routes_len = routes_len;
         step(call, routes, routes_len);

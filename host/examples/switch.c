@@ -1,4 +1,4 @@
-/* A head is brought up, its interface claimed, a switch to the other setting fails on the bus, and the interface is
+/* A device is brought up, its interface claimed, a switch to the other setting fails on the bus, and the interface is
  * released. host/xhci_device/examples/switch.rs is the same in Rust and prints the same. */
 #include <inttypes.h>
 #include <stdio.h>

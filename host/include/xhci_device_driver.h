@@ -81,7 +81,7 @@ struct xhci_device_pending {
     /* what it began with, */
     uint64_t begun_image[XHCI_DEVICE_RECORD_WORDS];
     uint8_t begun_ctx[XHCI_DEVICE_CONTEXT_BYTES_64];
-    uint64_t begun_row[XHCI_DEVICE_ROUTES_OF_SLOT];
+    uint64_t begun_routes[XHCI_DEVICE_ROUTES_OF_SLOT];
     size_t routes_len;
     /* and what a bring-up has read: each configuration not read yet is one word, 0. */
     size_t header;

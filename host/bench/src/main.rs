@@ -86,8 +86,8 @@ fn row(scenario: &Scenario) -> Result<String, Cannot> {
 
 /// The table, as long as somebody reads it.
 fn table(scenarios: &[Scenario]) -> Result<(), Cannot> {
-    let head = "| call | answer | commands | library | original | ratio | library, ns | original, ns | ratio |";
-    let mut read = print(&format!("{head}\n|---|---|---|---|---|---|---|---|---|\n"));
+    let title = "| call | answer | commands | library | original | ratio | library, ns | original, ns | ratio |";
+    let mut read = print(&format!("{title}\n|---|---|---|---|---|---|---|---|---|\n"));
     for scenario in scenarios {
         read = read && print(&format!("{}\n", row(scenario)?));
     }

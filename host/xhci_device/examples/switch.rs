@@ -1,4 +1,4 @@
-//! A head is brought up, its interface claimed, a switch to the other setting fails on the bus, and the interface is
+//! A device is brought up, its interface claimed, a switch to the other setting fails on the bus, and the interface is
 //! released. host/examples/switch.c is the same in C and prints the same.
 
 use std::num::NonZeroU8;
@@ -18,11 +18,11 @@ const DESCRIPTOR: [u8; 18] = [18, 1, 0, 2, 0, 0, 0, 64, 0x34, 0x12, 1, 0, 0, 1, 
 
 /// The controller with the device on it, which fails one command. A real one sends the command and waits for its
 /// event.
-struct Head {
+struct Controller {
     failing: Option<Command>,
 }
 
-impl Bus for Head {
+impl Bus for Controller {
     fn send(&mut self, due: &Due<'_>) -> Outcome<'_> {
         print!("  {}", due.command);
         for dci in due.dropped() {
@@ -57,7 +57,7 @@ impl Slot {
     fn run(&mut self, what: &str, call: Call<'_>, failing: Option<Command>) {
         println!("{what}");
         let mut pending = Pending::new(&mut self.record, &mut self.ctx, call);
-        let answer = pending.run(&mut self.routes, &mut Head { failing });
+        let answer = pending.run(&mut self.routes, &mut Controller { failing });
         println!("  answer {}: {answer}", answer.number());
         for Setting { interface, alternate } in self.record.held() {
             println!("  interface {interface} holds alternate {alternate}");

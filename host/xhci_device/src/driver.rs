@@ -14,7 +14,7 @@ const COMMANDS: usize = 64;
 const CONTEXT: usize = 2112;
 
 /// Routes of one slot.
-const ROW: usize = 32;
+const ROUTES_OF_SLOT: usize = 32;
 
 /// A device that is to be brought up, as far as it is known before it is asked.
 #[derive(Clone, Copy, Debug)]
@@ -123,7 +123,7 @@ pub struct Pending<'a> {
 struct Begun {
     record: Record,
     ctx: [u8; CONTEXT],
-    row: [u64; ROW],
+    routes: [u64; ROUTES_OF_SLOT],
     routes_len: usize,
 }
 
@@ -140,7 +140,8 @@ enum State {
 impl<'a> Pending<'a> {
     /// A call on a record, over an input context. Nothing happens before the first step.
     pub fn new(record: &'a mut Record, ctx: &'a mut [u8], call: Call<'a>) -> Pending<'a> {
-        let mut begun = Begun { record: record.clone(), ctx: [0; CONTEXT], row: [0; ROW], routes_len: 0 };
+        let routes = [0; ROUTES_OF_SLOT];
+        let mut begun = Begun { record: record.clone(), ctx: [0; CONTEXT], routes, routes_len: 0 };
         let kept = ctx.len().min(CONTEXT);
         begun.ctx[..kept].copy_from_slice(&ctx[..kept]);
         Pending {
@@ -221,7 +222,7 @@ impl<'a> Pending<'a> {
     }
 
     /// Gives record and context back. Before the end this cuts the call.
-    pub fn into_lent(self) -> (&'a mut Record, &'a mut [u8]) {
+    pub fn into_parts(self) -> (&'a mut Record, &'a mut [u8]) {
         (self.record, self.ctx)
     }
 
@@ -237,15 +238,15 @@ impl<'a> Pending<'a> {
     }
 
     /// Where the routes have the slot's own words.
-    fn row(&self) -> core::ops::Range<usize> {
-        let first = ROW * usize::from(self.slot().0);
-        first..first + ROW
+    fn own_routes(&self) -> core::ops::Range<usize> {
+        let first = ROUTES_OF_SLOT * usize::from(self.slot().0);
+        first..first + ROUTES_OF_SLOT
     }
 
     fn begin(&mut self, routes: &[u64]) {
         self.begun.routes_len = routes.len();
-        if let Some(row) = routes.get(self.row()) {
-            self.begun.row.copy_from_slice(row);
+        if let Some(own) = routes.get(self.own_routes()) {
+            self.begun.routes.copy_from_slice(own);
         }
     }
 
@@ -284,8 +285,8 @@ impl<'a> Pending<'a> {
         self.record.clone_from(&self.begun.record);
         let kept = self.ctx.len().min(CONTEXT);
         self.ctx[..kept].copy_from_slice(&self.begun.ctx[..kept]);
-        if let Some(row) = routes.get_mut(self.row()) {
-            row.copy_from_slice(&self.begun.row);
+        if let Some(own) = routes.get_mut(self.own_routes()) {
+            own.copy_from_slice(&self.begun.routes);
         }
     }
 }

@@ -254,8 +254,8 @@ fn two_slots_take_turns_over_one_table() {
     }
     assert_eq!((step(&mut first, &mut routes), step(&mut second, &mut routes)), (None, None));
     for (slot, base) in [(1, 0x5000), (2, 0x6000)] {
-        let row = &routes[32 * slot..32 * slot + 32];
-        assert_eq!((row[1], row[3], row[4]), (0x1000 * slot as u64, base, base + 16));
+        let own = &routes[32 * slot..32 * slot + 32];
+        assert_eq!((own[1], own[3], own[4]), (0x1000 * slot as u64, base, base + 16));
     }
     assert!(first.record().is_usable() && second.record().is_usable());
 }
@@ -279,7 +279,7 @@ fn what_is_asked_twice_is_said_twice() {
     for _ in 0..2 {
         assert!(matches!(pending.next(routes), Next::Answer(Answer::Failed(7))));
     }
-    assert!(pending.into_lent().0.is_usable());
+    assert!(pending.into_parts().0.is_usable());
 }
 
 #[test]
