@@ -1,5 +1,5 @@
-//! Links the archive. The folder XHCI_DEVICE_LIB_DIR has a ready one, which must have been made from the sources that
-//! are here; XHCI_DEVICE_LIB_UNCHECKED takes one of unknown origin. Otherwise `rt` proves and builds it, unless the last
+//! Links the archives. The folder XHCI_DEVICE_LIB_DIR has ready ones, which must have been made from the sources that are
+//! here; XHCI_DEVICE_LIB_UNCHECKED takes those of unknown origin. Otherwise `rt` proves and builds each, unless the last
 //! one was made from these sources.
 
 #[path = "build/prove.rs"]
@@ -13,7 +13,7 @@ use std::env;
 use std::path::{Path, PathBuf};
 use std::process::exit;
 
-use sources::{ARCHIVE, ORIGIN, digest, fault, kit, kit_file, write_origin};
+use sources::{ARCHIVES, archive, digest, fault, kit, kit_file, origin, write_origin};
 
 /// Cargo prints what is wrong.
 fn fail(message: &str) -> ! {
@@ -29,13 +29,16 @@ fn repository() -> Option<PathBuf> {
 }
 
 fn ready(folder: PathBuf, root: Option<&Path>) -> PathBuf {
-    let digest = root.map(|root| digest(root).expect("the sources"));
-    let unchecked = env::var_os("XHCI_DEVICE_LIB_UNCHECKED").is_some();
     let kit = kit().filter(|_| root.is_some());
-    if let Some(fault) = fault(&folder, digest.as_deref(), kit.as_deref()).filter(|_| !unchecked) {
+    let fault = |name: &&str| {
+        let digest = root.map(|root| digest(root, name).expect("the sources"));
+        fault(&folder, name, digest.as_deref(), kit.as_deref())
+    };
+    let unchecked = env::var_os("XHCI_DEVICE_LIB_UNCHECKED").is_some();
+    if let Some(fault) = ARCHIVES.iter().find_map(fault).filter(|_| !unchecked) {
         fail(&format!(
-            "the archive of XHCI_DEVICE_LIB_DIR, {}, is not taken: {fault}\n\
-             (without the variable the archive is proved and built here; XHCI_DEVICE_LIB_UNCHECKED=1 takes any)",
+            "what XHCI_DEVICE_LIB_DIR names, {}, is not taken: {fault}\n\
+             (without the variable the archives are proved and built here; XHCI_DEVICE_LIB_UNCHECKED=1 takes any)",
             folder.display()
         ));
     }
@@ -45,13 +48,18 @@ fn ready(folder: PathBuf, root: Option<&Path>) -> PathBuf {
 fn built(root: &Path) -> PathBuf {
     let machine = env::var("CARGO_CFG_TARGET_ARCH").expect("cargo's variable");
     if machine != "x86_64" {
-        fail(&format!("rt builds {ARCHIVE} for x86_64: XHCI_DEVICE_LIB_DIR must name a folder with one for {machine}"));
+        fail(&format!("rt builds for x86_64: XHCI_DEVICE_LIB_DIR must name a folder with archives for {machine}"));
     }
     let folder = root.join("target/staticlib");
-    let digest = digest(root).expect("the sources");
-    if fault(&folder, Some(&digest), kit().as_deref()).is_some() {
-        prove::build(root);
-        write_origin(&folder, &digest).expect("a file beside the archive");
+    let kit = kit();
+    let digests = ARCHIVES.map(|name| (name, digest(root, name).expect("the sources")));
+    let is_old = |known: &&(&str, String)| fault(&folder, known.0, Some(&known.1), kit.as_deref()).is_some();
+    let old: Vec<_> = digests.iter().filter(is_old).collect();
+    if !old.is_empty() {
+        prove::build(root, &old.iter().map(|known| known.0).collect::<Vec<_>>());
+    }
+    for (name, digest) in old {
+        write_origin(&folder, name, digest).expect("a file beside the archive");
     }
     folder
 }
@@ -61,18 +69,18 @@ fn main() {
     let folder = match (env::var_os("XHCI_DEVICE_LIB_DIR"), &root) {
         (Some(folder), _) => ready(folder.into(), root.as_deref()),
         (None, Some(root)) => built(root),
-        (None, None) => {
-            fail(&format!("there are no sources here: XHCI_DEVICE_LIB_DIR must name a folder with {ARCHIVE}"))
-        }
+        (None, None) => fail("there are no sources here: XHCI_DEVICE_LIB_DIR must name a folder with the archives"),
     };
     for name in ["XHCI_DEVICE_LIB_DIR", "XHCI_DEVICE_LIB_UNCHECKED"] {
         println!("cargo:rerun-if-env-changed={name}");
     }
     let sources = root.iter().flat_map(|root| [root.join("crates"), root.join("crates.txt")]);
-    let others = ["build.rs".into(), "build".into(), folder.join(ARCHIVE), folder.join(ORIGIN)];
-    for path in sources.chain(others).chain(kit_file()) {
+    let made = ARCHIVES.iter().flat_map(|name| [archive(&folder, name), origin(&folder, name)]);
+    for path in sources.chain(made).chain(kit_file()).chain(["build.rs".into(), "build".into()]) {
         println!("cargo:rerun-if-changed={}", path.display());
     }
     println!("cargo:rustc-link-search=native={}", folder.display());
-    println!("cargo:rustc-link-lib=static=xhci_device");
+    for name in ARCHIVES {
+        println!("cargo:rustc-link-lib=static={name}");
+    }
 }

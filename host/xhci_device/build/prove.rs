@@ -9,7 +9,7 @@ use std::thread::sleep;
 use std::time::{Duration, Instant, SystemTime};
 
 use crate::fail;
-use crate::sources::{ARCHIVE, CRATE, crates};
+use crate::sources::crates;
 
 /// Cargo keeps what a build script prints to itself. Where its own standard error is a terminal or a pipe, lines
 /// are written there as well.
@@ -60,7 +60,7 @@ fn run(root: &Path, arguments: &[String], mut look: impl FnMut()) {
     let child =
         Command::new("rt").args(arguments).current_dir(root).stdin(Stdio::null()).stdout(file).stderr(copy).spawn();
     let mut child =
-        child.unwrap_or_else(|e| fail(&format!("rt: {e}; XHCI_DEVICE_LIB_DIR can name a folder with {ARCHIVE}")));
+        child.unwrap_or_else(|e| fail(&format!("rt: {e}; XHCI_DEVICE_LIB_DIR can name a folder with the archives")));
     let status = loop {
         if let Some(status) = child.try_wait().expect("rt's end") {
             break status;
@@ -73,31 +73,29 @@ fn run(root: &Path, arguments: &[String], mut look: impl FnMut()) {
     }
 }
 
-/// Proves what the archive is made of, several crates at a time, and then builds it.
-pub fn build(root: &Path) {
-    let all = crates(root).expect("crates.txt");
-    let (last, below) = all.split_last().expect("the archive's crate in crates.txt");
+/// Proves what archives are made of, several crates at a time, and then builds them.
+pub fn build(root: &Path, archives: &[&str]) {
+    let all = crates(root, archives).expect("crates.txt");
     let plan: Vec<String> = all.iter().map(|(name, _)| name.clone()).collect();
+    let count = plan.len();
     let mut screen = Screen::open();
     let (begun, since) = (Instant::now(), SystemTime::now());
-    screen.line(&format!("  Proving {CRATE}: {} crates; the first time this takes minutes", plan.len()));
+    screen.line(&format!("  Proving {}: {count} crates; the first time this takes minutes", archives.join(", ")));
     let mut shown = (0, Vec::new());
     let mut look = || {
         let now = noted(root, &plan, since);
         if now != shown && !now.1.is_empty() {
-            let (left, being, time) = (plan.len() - now.0, now.1.join(", "), minutes(begun.elapsed()));
-            screen.line(&format!("  Proving {being}; {left} of {} crates are left ({time})", plan.len()));
+            let (being, left, time) = (now.1.join(", "), count - now.0, minutes(begun.elapsed()));
+            screen.line(&format!("  Proving {being}; {left} of {count} crates are left ({time})"));
             shown = now;
         }
     };
-    let used: Vec<String> =
-        last.1.iter().filter(|name| below.iter().any(|(other, _)| other == *name)).cloned().collect();
-    run(root, &[vec!["check".into()], used].concat(), &mut look);
-    screen.line(&format!(
-        "  Proving {CRATE} and building the archive; 1 of {} crates is left ({})",
-        plan.len(),
-        minutes(begun.elapsed())
-    ));
-    run(root, &["staticlib".into(), CRATE.into()], || ());
-    screen.line(&format!("  Proved {} crates in {}", plan.len(), minutes(begun.elapsed())));
+    let below = plan.iter().filter(|name| !archives.contains(&name.as_str())).cloned();
+    run(root, &["check".to_string()].into_iter().chain(below).collect::<Vec<_>>(), &mut look);
+    for (at, name) in archives.iter().enumerate() {
+        let (left, time) = (archives.len() - at, minutes(begun.elapsed()));
+        screen.line(&format!("  Proving {name} and building its archive; {left} of {count} crates are left ({time})"));
+        run(root, &["staticlib".to_string(), name.to_string()], || ());
+    }
+    screen.line(&format!("  Proved {count} crates in {}", minutes(begun.elapsed())));
 }

@@ -1,4 +1,4 @@
-//! What the archive is made from, and whether one was made from it.
+//! What an archive is made from, and whether one was made from it.
 
 use std::collections::BTreeMap;
 use std::path::{Path, PathBuf};
@@ -7,19 +7,26 @@ use std::{env, fs, io};
 
 use crate::sha256::sha256;
 
-pub const CRATE: &str = "xhci_device";
-pub const ARCHIVE: &str = "libxhci_device.a";
-/// Stands beside an archive: the kit that made it, and the digests of its sources and of the archive itself.
-pub const ORIGIN: &str = "libxhci_device.origin";
+/// The crates of the repository that are built as archives.
+pub const ARCHIVES: [&str; 1] = ["xhci_device"];
 
-/// The crates of the repository that the archive is made from, each after those that it uses, with these.
-pub fn crates(root: &Path) -> io::Result<Vec<(String, Vec<String>)>> {
+pub fn archive(folder: &Path, name: &str) -> PathBuf {
+    folder.join(format!("lib{name}.a"))
+}
+
+/// Stands beside an archive: the kit that made it, and the digests of its sources and of the archive itself.
+pub fn origin(folder: &Path, name: &str) -> PathBuf {
+    folder.join(format!("lib{name}.origin"))
+}
+
+/// The crates of the repository that archives are made from, each after those that it uses, with these.
+pub fn crates(root: &Path, archives: &[&str]) -> io::Result<Vec<(String, Vec<String>)>> {
     let text = fs::read_to_string(root.join("crates.txt"))?;
     let lines = text.lines().filter_map(|line| line.split('#').next()?.split_once(':'));
     let uses: BTreeMap<String, Vec<String>> =
         lines.map(|(name, uses)| (name.trim().into(), uses.split_whitespace().map(String::from).collect())).collect();
     let mut found = Vec::new();
-    visit(CRATE, &uses, &mut found);
+    archives.iter().for_each(|name| visit(name, &uses, &mut found));
     Ok(found)
 }
 
@@ -39,10 +46,11 @@ fn files(folder: &Path, found: &mut Vec<PathBuf>) -> io::Result<()> {
     Ok(())
 }
 
-/// The digest of a text with a line for each crate, and under it one for each file of its src, specs and proofs.
-pub fn digest(root: &Path) -> io::Result<String> {
+/// The digest of a text with a line for each crate that an archive is made from, and under it one for each file of its
+/// src, specs and proofs.
+pub fn digest(root: &Path, name: &str) -> io::Result<String> {
     let mut text = String::new();
-    for (name, uses) in crates(root)? {
+    for (name, uses) in crates(root, &[name])? {
         text.push_str(&format!("{name}: {}\n", uses.join(" ")));
         let mut found = Vec::new();
         for part in ["src", "specs", "proofs"] {
@@ -73,32 +81,33 @@ pub fn kit() -> Option<String> {
     Some(String::from_utf8_lossy(&run.stdout).trim().to_string())
 }
 
-pub fn write_origin(folder: &Path, digest: &str) -> io::Result<()> {
-    let archive = sha256(&fs::read(folder.join(ARCHIVE))?);
+pub fn write_origin(folder: &Path, name: &str, digest: &str) -> io::Result<()> {
+    let archive = sha256(&fs::read(archive(folder, name))?);
     let kit = kit().unwrap_or_default();
-    fs::write(folder.join(ORIGIN), format!("kit {kit}\nsources {digest}\narchive {archive}\n"))
+    fs::write(origin(folder, name), format!("kit {kit}\nsources {digest}\narchive {archive}\n"))
 }
 
 /// Why an archive cannot be taken for one of these sources (of any, where there are none) and of this kit.
-pub fn fault(folder: &Path, digest: Option<&str>, kit: Option<&str>) -> Option<String> {
-    let archive = match fs::read(folder.join(ARCHIVE)) {
+pub fn fault(folder: &Path, name: &str, digest: Option<&str>, kit: Option<&str>) -> Option<String> {
+    let archive = match fs::read(archive(folder, name)) {
         Ok(bytes) => sha256(&bytes),
-        Err(e) => return Some(format!("{ARCHIVE}: {e}")),
+        Err(e) => return Some(format!("lib{name}.a: {e}")),
     };
-    let origin = match fs::read_to_string(folder.join(ORIGIN)) {
+    let origin = match fs::read_to_string(origin(folder, name)) {
         Ok(text) => text,
-        Err(e) => return Some(format!("{ORIGIN}, which says what the archive was made from: {e}")),
+        Err(e) => return Some(format!("lib{name}.origin, which says what lib{name}.a was made from: {e}")),
     };
     let said = |key: &str| origin.lines().find_map(|line| line.strip_prefix(key)?.strip_prefix(' ')).unwrap_or("");
     let is_other = |key: &str, here: Option<&str>| here.is_some_and(|here| said(key) != here);
     if is_other("archive", Some(&archive)) {
-        return Some(format!("{ORIGIN} is not this archive's"));
+        return Some(format!("lib{name}.origin is not that archive's"));
     }
     if is_other("sources", digest) {
-        return Some(format!("it was made from other sources: {}, and here are {}", said("sources"), digest?));
+        let (there, here) = (said("sources"), digest?);
+        return Some(format!("lib{name}.a was made from other sources: {there}, and here are {here}"));
     }
     if is_other("kit", kit) {
-        return Some(format!("it was made by another kit: {}, and here is {}", said("kit"), kit?));
+        return Some(format!("lib{name}.a was made by another kit: {}, and here is {}", said("kit"), kit?));
     }
     None
 }

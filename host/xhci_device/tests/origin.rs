@@ -10,7 +10,9 @@ use std::fs;
 use std::path::{Path, PathBuf};
 
 use sha256::sha256;
-use sources::{ARCHIVE, ORIGIN, crates, digest, fault, write_origin};
+use sources::{crates, digest, fault, write_origin};
+
+const NAME: &str = "xhci_device";
 
 /// The examples of FIPS 180-4, and lengths around a block's end, by sha256sum.
 #[test]
@@ -46,12 +48,12 @@ fn put(root: &Path, path: &str, text: &str) {
 #[test]
 fn the_digest_is_of_what_the_archive_is_made_from() {
     let root = repository("digest");
-    let names: Vec<String> = crates(&root).expect("crates.txt").into_iter().map(|known| known.0).collect();
+    let names: Vec<String> = crates(&root, &[NAME]).expect("crates.txt").into_iter().map(|known| known.0).collect();
     assert_eq!(names, ["below", "xhci_device"]);
-    let first = digest(&root).expect("a digest");
+    let first = digest(&root, NAME).expect("a digest");
     for same in ["crates/other/src/lib.rt", "crates/below/must-fail/a.edit", "docs/a.md", "crates/below/src/lib.rt"] {
         put(&root, same, "text");
-        assert_eq!(digest(&root).expect("a digest"), first, "{same}");
+        assert_eq!(digest(&root, NAME).expect("a digest"), first, "{same}");
     }
     let changes = [
         ("crates/below/src/lib.rt", "another"),
@@ -62,7 +64,7 @@ fn the_digest_is_of_what_the_archive_is_made_from() {
     let mut known = vec![first];
     for (path, text) in changes {
         put(&root, path, text);
-        let next = digest(&root).expect("a digest");
+        let next = digest(&root, NAME).expect("a digest");
         assert!(!known.contains(&next), "{path}");
         known.push(next);
     }
@@ -72,16 +74,19 @@ fn the_digest_is_of_what_the_archive_is_made_from() {
 fn an_archive_of_another_origin_is_not_taken() {
     let root = repository("fault");
     let folder = root.join("target/staticlib");
-    let here = digest(&root).expect("a digest");
-    assert!(fault(&folder, Some(&here), None).expect("no origin").starts_with(ORIGIN));
-    write_origin(&folder, &here).expect("a file");
-    assert_eq!(fault(&folder, Some(&here), None), None);
-    assert_eq!(fault(&folder, None, None), None);
-    let other = fault(&folder, Some("0"), None).expect("other sources");
-    assert!(other.starts_with("it was made from other sources: ") && other.contains(&here));
-    assert!(fault(&folder, Some(&here), Some("kit 0")).expect("another kit").contains("by another kit"));
-    put(&folder, ARCHIVE, "another");
-    assert_eq!(fault(&folder, Some(&here), None).expect("another archive"), format!("{ORIGIN} is not this archive's"));
-    fs::remove_file(folder.join(ARCHIVE)).expect("a file");
-    assert!(fault(&folder, Some(&here), None).expect("no archive").starts_with(ARCHIVE));
+    let here = digest(&root, NAME).expect("a digest");
+    assert!(fault(&folder, NAME, Some(&here), None).expect("no origin").starts_with("libxhci_device.origin, which"));
+    write_origin(&folder, NAME, &here).expect("a file");
+    assert_eq!(fault(&folder, NAME, Some(&here), None), None);
+    assert_eq!(fault(&folder, NAME, None, None), None);
+    let other = fault(&folder, NAME, Some("0"), None).expect("other sources");
+    assert!(other.starts_with("libxhci_device.a was made from other sources: ") && other.contains(&here));
+    assert!(fault(&folder, NAME, Some(&here), Some("kit 0")).expect("another kit").contains("by another kit"));
+    put(&folder, "libxhci_device.a", "another");
+    assert_eq!(
+        fault(&folder, NAME, Some(&here), None).expect("another archive"),
+        "libxhci_device.origin is not that archive's"
+    );
+    fs::remove_file(folder.join("libxhci_device.a")).expect("a file");
+    assert!(fault(&folder, NAME, Some(&here), None).expect("no archive").starts_with("libxhci_device.a: "));
 }
