@@ -86,7 +86,7 @@ pub fn build(root: &Path, archives: &[&str]) {
         let now = noted(root, &plan, since);
         if now != shown && !now.1.is_empty() {
             let (being, left, time) = (now.1.join(", "), count - now.0, minutes(begun.elapsed()));
-            screen.line(&format!("  Proving {being}; {left} of {count} crates are left ({time})"));
+            screen.line(&format!("  Proving {being}; {left} of {count} crates left ({time})"));
             shown = now;
         }
     };
@@ -94,7 +94,7 @@ pub fn build(root: &Path, archives: &[&str]) {
     run(root, &["check".to_string()].into_iter().chain(below).collect::<Vec<_>>(), &mut look);
     for (at, name) in archives.iter().enumerate() {
         let (left, time) = (archives.len() - at, minutes(begun.elapsed()));
-        screen.line(&format!("  Proving {name} and building its archive; {left} of {count} crates are left ({time})"));
+        screen.line(&format!("  Proving {name} and building its archive; {left} of {count} crates left ({time})"));
         run(root, &["staticlib".to_string(), name.to_string()], || ());
     }
     screen.line(&format!("  Proved {count} crates in {}", minutes(begun.elapsed())));
