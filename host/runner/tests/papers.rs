@@ -125,3 +125,13 @@ fn the_reviewer_s_table_has_every_definition() {
     let there: BTreeSet<String> = there.into_iter().filter(|name| !name.ends_with("/Lib")).collect();
     assert_eq!(listed, there);
 }
+
+/// What docs/INTEGRATION.md shows of the worked example's output is a part of it.
+#[test]
+fn the_worked_example_s_output() {
+    let page = fs::read_to_string(root().join("docs/INTEGRATION.md")).expect("the page");
+    let stored = fs::read_to_string(root().join("host/examples/switch.out")).expect("the output");
+    let part = page.split("## A worked example").nth(1).expect("the part");
+    let shown = part.split("```\n").nth(1).expect("the output");
+    assert!(shown.lines().count() > 5 && stored.contains(shown), "{shown}");
+}
