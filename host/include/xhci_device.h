@@ -14,6 +14,44 @@
 extern "C" {
 #endif
 
+/* The version of this header, as of the archive and of the Rust binding (host/xhci_device/Cargo.toml). */
+#define XHCI_DEVICE_VERSION_MAJOR 0
+#define XHCI_DEVICE_VERSION_MINOR 1
+#define XHCI_DEVICE_VERSION_PATCH 0
+#define XHCI_DEVICE_VERSION "0.1.0"
+
+/* Sizes. */
+#define XHCI_DEVICE_CONTEXT_BYTES_32 1056       /* of an input context of 33 blocks of 32 bytes, */
+#define XHCI_DEVICE_CONTEXT_BYTES_64 2112       /* and of 64 */
+#define XHCI_DEVICE_LOG_WORDS 64                /* at least; no call sends more commands */
+#define XHCI_DEVICE_LIST_WORDS 256              /* at most, of descriptor words */
+#define XHCI_DEVICE_HUB_WORDS 256               /* at most */
+#define XHCI_DEVICE_RING_ALIGNMENT 16           /* a ring's bus address is a nonzero multiple */
+#define XHCI_DEVICE_SLOTS 255                   /* N at most */
+#define XHCI_DEVICE_ROUTES_OF_SLOT 32
+#define XHCI_DEVICE_ROUTES_WORDS(n) ((size_t)XHCI_DEVICE_ROUTES_OF_SLOT * ((size_t)(n) + 1))
+
+/* Where the ring of a slot's endpoint stands in the routes. A Dci is 1 for control, otherwise
+ * 2 * endpoint number + 1 for IN. */
+static inline size_t xhci_device_route_index(uint8_t slot, uint8_t dci) {
+    return (size_t)XHCI_DEVICE_ROUTES_OF_SLOT * slot + dci;
+}
+
+/* A word of the log: operation 4 bits, first operand 8, second 8, the other 12 bits 0. */
+enum {
+    XHCI_DEVICE_OP_ADDRESS = 1,             /* Address Device Command, over the context */
+    XHCI_DEVICE_OP_EVALUATE = 2,            /* Evaluate Context Command, over the context */
+    XHCI_DEVICE_OP_CONFIGURE = 3,           /* Configure Endpoint Command, over the context */
+    XHCI_DEVICE_OP_STOP = 4,                /* Dci */
+    XHCI_DEVICE_OP_RESUME = 5,              /* Dci */
+    XHCI_DEVICE_OP_SET_INTERFACE = 6,       /* interface, alternate setting */
+    XHCI_DEVICE_OP_SET_CONFIGURATION = 7,   /* value */
+    XHCI_DEVICE_OP_READ_HEADER = 8,         /* the first 8 bytes of the device descriptor */
+    XHCI_DEVICE_OP_READ_CONFIGURATION = 9,  /* the value that is set */
+    XHCI_DEVICE_OP_READ_DEVICE = 10,        /* the device descriptor */
+    XHCI_DEVICE_OP_READ_CONFIG = 11         /* index; a configuration descriptor with all that follows it */
+};
+
 /* Answers. */
 enum {
     XHCI_DEVICE_ACCEPTED = 0,
@@ -36,6 +74,32 @@ enum {
     XHCI_DEVICE_QUEUE_FULL = 17,        /* bring-up: the slot has a route for control */
     XHCI_DEVICE_INVALID_ENDPOINT = 18   /* an old endpoint's route is not its ring */
 };
+
+/* The answer in words. */
+static inline const char *xhci_device_answer_name(uint32_t answer) {
+    switch (answer) {
+    case XHCI_DEVICE_ACCEPTED: return "accepted";
+    case XHCI_DEVICE_CONTEXT_LENGTH: return "the context has a wrong length";
+    case XHCI_DEVICE_ROUTES_LENGTH: return "the routes have a wrong length";
+    case XHCI_DEVICE_LOG_TOO_SHORT: return "the log is too short";
+    case XHCI_DEVICE_DESCRIPTOR_LIST: return "the descriptor list is not valid";
+    case XHCI_DEVICE_HUB_CHAIN: return "the chain of hubs is not in order";
+    case XHCI_DEVICE_SPEED: return "the speed is unknown";
+    case XHCI_DEVICE_THINK_TIME: return "the think time has no value";
+    case XHCI_DEVICE_NOT_FOUND: return "there is no such alternate";
+    case XHCI_DEVICE_INVALID_PARAMETER: return "an address is owned by another interface";
+    case XHCI_DEVICE_RINGS: return "the rings offered do not fit";
+    case XHCI_DEVICE_SLOT_LIMIT_REACHED: return "the slot or the number of slots is out of range";
+    case XHCI_DEVICE_UNUSABLE: return "the record is unusable or not sound";
+    case XHCI_DEVICE_FAILED: return "a command failed";
+    case XHCI_DEVICE_INTERFACE_BROKEN: return "what was begun could not be undone";
+    case XHCI_DEVICE_CUT: return "cut: no outcome was left for the last command";
+    case XHCI_DEVICE_SHORT_HEADER: return "the header read has not 8 bytes";
+    case XHCI_DEVICE_QUEUE_FULL: return "the control endpoint's route is taken";
+    case XHCI_DEVICE_INVALID_ENDPOINT: return "an endpoint's route is not its ring";
+    default: return "an answer without a name";
+    }
+}
 
 /* What a call returns. */
 struct xhci_device_answered {

@@ -3,10 +3,22 @@
 
 use std::process::{Command, ExitCode};
 
+use runner::program::{asked, fail, print};
 use scenario::{Answer, Cannot, Scenario, Session, Step, parse, start_clock, stop_clock};
 
 const INPUTS: &str = include_str!("../inputs.txt");
-const USAGE: &str = "usage: bench [--calls LAYER NAME TIMES]   (without: the table of all inputs)";
+const HELP: &str = "\
+usage: bench [--calls LAYER NAME TIMES]
+
+Prints a table of each call of library and original over the inputs of host/bench/inputs.txt: instructions, counted by
+valgrind where it is there, and time.
+
+  --calls LAYER NAME TIMES   only run the last call of the input NAME so many times
+  --help                     print this
+  --version                  print the version
+
+Exit status: 0, 1 where a layer is not here or gives no answer, 2 where the arguments are wrong.
+";
 
 /// How often a call is repeated: for instructions, and for time.
 const COUNTED: u32 = 10;
@@ -72,32 +84,36 @@ fn row(scenario: &Scenario) -> Result<String, Cannot> {
     Ok(format!("| {name} | {} | {} | {counts} {times}", answer.number, answer.count))
 }
 
+/// The table, as long as somebody reads it.
+fn table(scenarios: &[Scenario]) -> Result<(), Cannot> {
+    let title = "| call | answer | commands | library | original | ratio | library, ns | original, ns | ratio |";
+    let mut read = print(&format!("{title}\n|---|---|---|---|---|---|---|---|---|\n"));
+    for scenario in scenarios {
+        read = read && print(&format!("{}\n", row(scenario)?));
+    }
+    Ok(())
+}
+
 fn main() -> ExitCode {
+    if let Some(code) = asked("bench", HELP) {
+        return code;
+    }
     let scenarios = parse(INPUTS).expect("inputs.txt");
     let arguments: Vec<String> = std::env::args().skip(1).collect();
     let words: Vec<&str> = arguments.iter().map(String::as_str).collect();
     let done = match words[..] {
-        [] => {
-            println!("| call | answer | commands | library | original | ratio | library, ns | original, ns | ratio |");
-            println!("|---|---|---|---|---|---|---|---|---|");
-            scenarios.iter().try_for_each(|scenario| row(scenario).map(|row| println!("{row}")))
-        }
+        [] => table(&scenarios),
         ["--calls", layer, name, times] => match (scenarios.iter().find(|s| s.name == name), times.parse()) {
             (Some(scenario), Ok(times)) => repeat(layer, scenario, times).map(drop),
-            _ => return usage(),
+            _ => return fail("there is no such input, or TIMES is no number"),
         },
-        _ => return usage(),
+        _ => return fail(HELP),
     };
     match done {
         Ok(()) => ExitCode::SUCCESS,
         Err(cannot) => {
-            eprintln!("a layer is not here or does not answer: {cannot:?}");
+            fail(&format!("a layer is not here or does not answer: {cannot:?}"));
             ExitCode::FAILURE
         }
     }
-}
-
-fn usage() -> ExitCode {
-    eprintln!("{USAGE}");
-    ExitCode::from(2)
 }

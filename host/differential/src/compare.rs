@@ -150,7 +150,7 @@ fn describe(text: &mut String, done: Result<Done, Cannot>) {
     }
 }
 
-/// "Numbers 1 to 12 and 17 change no lent memory, return the record as it came and answer count 0."
+/// A refusal has changed nothing and logged no word.
 fn left_alone(case: &Case, subject: &Done) -> bool {
     let refused = matches!(subject.answer.number, 1..=12 | 17);
     let record = match case.call {

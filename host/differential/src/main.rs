@@ -20,11 +20,28 @@ use std::process::ExitCode;
 use std::time::Instant;
 
 use compare::Pair;
+use runner::program::{asked, fail, print};
 use store::Store;
 use tally::Tally;
 
-const USAGE: &str = "usage: differential [--reference NAME] [--subject NAME] [--seed N] [--calls N] [--part NAME] [--sample] [--store FOLDER]
-layers: library, model, original; parts: refusals, records, routes, outcomes, intervals, ports, packets, think, slots, random (default: all)";
+const HELP: &str = "\
+usage: differential [--reference LAYER] [--subject LAYER] [--seed N] [--calls N] [--part PART] [--sample] [--store FOLDER]
+
+Holds two layers against each other, call by call; layers are library, model and original.
+
+  --reference LAYER   what is right (original)
+  --subject LAYER     what is judged (library)
+  --seed N            of the random calls (1)
+  --calls N           how many of them (600000)
+  --part PART         one part instead of all: refusals, records, routes, outcomes, intervals, ports, packets, think,
+                      slots or random
+  --sample            print a small scenario for each call and answer instead of the counts
+  --store FOLDER      write a sample of the reference's answers to original_CALL/stdin and stdout in FOLDER
+  --help              print this
+  --version           print the version
+
+Exit status: 0, 1 where there is a difference that docs/DIFFERENCES.md does not list, 2 where the arguments are wrong.
+";
 
 struct Options {
     reference: String,
@@ -38,7 +55,7 @@ struct Options {
     store: Option<PathBuf>,
 }
 
-fn options() -> Option<Options> {
+fn options() -> Result<Options, String> {
     let mut options = Options {
         reference: "original".to_string(),
         subject: "library".to_string(),
@@ -54,28 +71,35 @@ fn options() -> Option<Options> {
             options.sample = true;
             continue;
         }
-        let value = arguments.next()?;
+        let mut value = || arguments.next().ok_or_else(|| format!("{key}: which?"));
+        let number = |text: String| text.parse().map_err(|_| format!("{key} {text}: no number"));
         match key.as_str() {
-            "--reference" => options.reference = value,
-            "--subject" => options.subject = value,
-            "--seed" => options.seed = value.parse().ok()?,
-            "--calls" => options.calls = value.parse().ok()?,
-            "--part" => options.part = Some(value),
-            "--store" => options.store = Some(value.into()),
-            _ => return None,
+            "--reference" => options.reference = value()?,
+            "--subject" => options.subject = value()?,
+            "--seed" => options.seed = number(value()?)?,
+            "--calls" => options.calls = number(value()?)?,
+            "--part" => options.part = Some(value()?),
+            "--store" => options.store = Some(value()?.into()),
+            _ => return Err(format!("there is no option '{key}'")),
         }
     }
-    Some(options)
+    let is_part = |name: &String| name == "random" || exhaustive::PARTS.iter().any(|part| part.0 == name);
+    match options.part.as_ref().filter(|name| !is_part(name)) {
+        Some(name) => Err(format!("there is no part '{name}'")),
+        None => Ok(options),
+    }
 }
 
 fn main() -> ExitCode {
-    let Some(options) = options() else {
-        eprintln!("{USAGE}");
-        return ExitCode::from(2);
+    if let Some(code) = asked("differential", HELP) {
+        return code;
+    }
+    let options = match options() {
+        Ok(options) => options,
+        Err(message) => return fail(&message),
     };
     let (Some(reference), Some(subject)) = (runner::layer(&options.reference), runner::layer(&options.subject)) else {
-        eprintln!("one of '{}' and '{}' is not here", options.reference, options.subject);
-        return ExitCode::from(2);
+        return fail(&format!("one of '{}' and '{}' is not here", options.reference, options.subject));
     };
     let mut pair = Pair { reference, subject, listed: options.reference == "original" };
     let mut tally = Tally::default();
@@ -89,22 +113,24 @@ fn main() -> ExitCode {
     if options.part.as_deref().is_none_or(|p| p == "random") {
         tally.part("random", |tally| random::run(&mut pair, tally, options.seed, options.calls));
     }
+    if tally.calls() == 0 {
+        return fail("there was nothing to compare");
+    }
     if options.sample {
-        print!("{}", tally.sample(&mut pair));
+        print(&tally.sample(&mut pair));
         return ExitCode::SUCCESS;
     }
     if let (Some(folder), Some(store)) = (&options.store, tally.store.take())
         && let Err(e) = write(folder, &store, &mut pair)
     {
-        eprintln!("{}: {e}", folder.display());
-        return ExitCode::from(2);
+        return fail(&format!("{}: {e}", folder.display()));
     }
-    println!("{} against {}, seed {}", options.subject, options.reference, options.seed);
-    tally.print(start.elapsed());
+    print(&format!("{} against {}, seed {}\n", options.subject, options.reference, options.seed));
+    print(&tally.text(start.elapsed()));
     match tally.first_difference(&mut pair) {
         None => ExitCode::SUCCESS,
         Some(text) => {
-            println!("{text}");
+            print(&format!("{text}\n"));
             ExitCode::FAILURE
         }
     }

@@ -2,6 +2,7 @@
 
 use std::collections::BTreeMap;
 use std::collections::btree_map::Entry;
+use std::fmt::Write;
 use std::time::{Duration, Instant};
 
 use scenario::scenario_text;
@@ -78,26 +79,24 @@ impl Tally {
         text
     }
 
-    pub fn print(&self, elapsed: Duration) {
+    pub fn text(&self, elapsed: Duration) -> String {
+        let mut text = String::new();
         for (name, calls, time) in &self.parts {
-            println!("  {name}: {calls} calls in {:.1} s", time.as_secs_f64());
+            let _ = writeln!(text, "  {name}: {calls} calls in {:.1} s", time.as_secs_f64());
         }
-        println!(
-            "{} calls in {:.1} s: {} the same, {} different",
-            self.calls,
-            elapsed.as_secs_f64(),
-            self.same,
-            self.different
-        );
-        println!("answers: {}", counts(self.answers.iter()));
-        println!("listed differences met:");
+        let Tally { calls, same, different, .. } = self;
+        let seconds = elapsed.as_secs_f64();
+        let _ = writeln!(text, "{calls} calls in {seconds:.1} s: {same} the same, {different} different");
+        let _ = writeln!(text, "answers: {}", counts(self.answers.iter()));
+        text.push_str("listed differences met:\n");
         for row in rows::ALL {
-            println!("  {:>8}  {row}", self.listed.get(row).unwrap_or(&0));
+            let _ = writeln!(text, "  {:>8}  {row}", self.listed.get(row).unwrap_or(&0));
         }
-        println!("without a counterpart in the reference:");
+        text.push_str("without a counterpart in the reference:\n");
         for (why, count) in &self.uncompared {
-            println!("  {count:>8}  {why}");
+            let _ = writeln!(text, "  {count:>8}  {why}");
         }
+        text
     }
 
     /// The smallest scenario among the different cases, with what both layers leave.

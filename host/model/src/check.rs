@@ -21,7 +21,7 @@ fn distinct<T: Ord + Copy>(values: &[T]) -> bool {
     sorted.windows(2).all(|pair| pair[0] != pair[1])
 }
 
-/// "1 context length, 2 routes length, 3 log too short."
+/// 1, 2, 3: the lengths of what is lent.
 fn lengths(buffers: &Buffers, context_fits: bool, n: usize) -> Checked {
     ask(context_fits, 1)?;
     ask(buffers.routes.len() == 32 * (n + 1), 2)?;
@@ -30,7 +30,6 @@ fn lengths(buffers: &Buffers, context_fits: bool, n: usize) -> Checked {
 
 pub fn bring_up(args: &BringUp, buffers: &Buffers) -> Checked {
     let n = args.n as usize;
-    // "Slot 0, slot above N, or N outside 1 to 255."
     ask((1..=255).contains(&n) && args.slot != 0 && usize::from(args.slot) <= n, 11)?;
     lengths(buffers, [1056, 2112].contains(&buffers.ctx.len()), n)?;
     ask((1..=5).contains(&args.speed), 6)?;
@@ -40,7 +39,7 @@ pub fn bring_up(args: &BringUp, buffers: &Buffers) -> Checked {
     ask(buffers.routes[32 * usize::from(args.slot) + 1] == 0, 17)
 }
 
-/// "Later calls must lend a context and routes of those lengths."
+/// 12, then the lengths that the record was made with.
 pub fn record(record: &Record, buffers: &Buffers) -> Checked {
     ask(record.usable && sound(record), 12)?;
     lengths(buffers, buffers.ctx.len() == 33 * record.spacing, record.n.into())
@@ -50,8 +49,7 @@ pub fn claim(record: &Record, args: &Claim) -> Checked {
     let words = lookup(&record.list, args.interface, args.alternate).ok_or(8u8)?;
     let foreign = |address: u8| record.endpoints.iter().any(|e| e.address == address && e.owner != args.interface);
     ask(!words.iter().any(|word| foreign(word.address())), 9)?;
-    // "As many as the alternate's endpoint words, nonzero multiples of 16, distinct, none live, quarantined
-    // or control." 4.8: the rings of the interface's own old setting count as live.
+    // The rings of the interface's own old setting are live, too.
     let known = rings(record);
     let fit = args.rings.len() == words.len()
         && args.rings.iter().all(|ring| is_ring(*ring) && !known.contains(ring))
@@ -59,13 +57,13 @@ pub fn claim(record: &Record, args: &Claim) -> Checked {
     ask(fit, 10)
 }
 
-/// "Release gives 8 only for an unclaimed interface without alternate 0."
+/// 8 is left for an interface that holds nothing and has no alternate 0.
 pub fn release(record: &Record, interface: u8) -> Checked {
     let held = record.held.iter().any(|h| h.0 == interface);
     ask(held || lookup(&record.list, interface, 0).is_some(), 8)
 }
 
-/// 4.14: think time is judged at High speed only.
+/// At other speeds than High no think time is refused.
 pub fn hub_update(record: &Record, args: &HubUpdate) -> Checked {
     ask(record.speed != 3 || think_time(args.think).is_some(), 7)
 }
@@ -75,10 +73,7 @@ fn rings(record: &Record) -> Vec<u64> {
     live.chain([record.control]).chain(record.quarantined.iter().copied()).collect()
 }
 
-/// "A sound record has a slot from 1 to N, N at most 255, spacing 32 or 64, speed 1 to 5, a valid list, distinct
-/// held interfaces whose alternates lookup finds, exactly one endpoint with owner and ring for each distinct
-/// address of those alternates and no others, no address under two owners, and distinct nonzero multiples of 16
-/// as live, control and quarantined rings, at most 61 in all, with none quarantined while the record is usable."
+/// docs/BEHAVIOUR.md, "A sound record".
 pub fn sound(record: &Record) -> bool {
     let mut owned = Vec::new();
     for (interface, alternate) in &record.held {

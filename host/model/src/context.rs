@@ -1,5 +1,5 @@
-//! Input contexts: "xHCI 1.2 section 6.2, little-endian doublewords, blocks of 32 or 64 bytes: control, slot,
-//! Dci 1 to 31". A step writes its fields and nothing else: "fields not written keep the context's earlier bytes".
+//! Input contexts (xHCI 1.2, section 6.2): 33 blocks, 32 or 64 bytes apart. A step writes its fields, and every other
+//! bit stays (docs/BEHAVIOUR.md, "What each command's context gets").
 
 use std::collections::BTreeMap;
 
@@ -14,7 +14,7 @@ pub struct Context<'a> {
     pub spacing: usize,
 }
 
-/// "First control packet size: 64, 8, 64, 512, 1024."
+/// By speed, from 1 on.
 const FIRST_PACKET_SIZE: [u32; 5] = [64, 8, 64, 512, 1024];
 
 pub struct Address {
@@ -40,7 +40,7 @@ impl Context<'_> {
         self.put(block, 3, 0, 32, (ring >> 32) as u32);
     }
 
-    /// 4.10: Address starts from a context that is all 0, the upper halves of 64-byte blocks too.
+    /// Over zeros, in the upper halves of 64-byte blocks too.
     pub fn address(&mut self, with: &Address) {
         self.bytes.fill(0);
         self.put(CONTROL, 1, 0, 2, 0b11);
@@ -62,27 +62,26 @@ impl Context<'_> {
         self.put(control, 4, 0, 16, 8);
     }
 
-    /// 4.11: drop flags 0 and 1 keep the lent bits; the add doubleword becomes A0 plus what the step sets.
+    /// How every other step begins: drop flags 0 and 1 stay, and of the add flags A0 alone is set.
     fn change(&mut self) {
         self.put(CONTROL, 0, 2, 30, 0);
         self.put(CONTROL, 1, 0, 32, 1);
     }
 
-    /// `setup_max_packet`: "byte 0 means 8; every other byte is the size itself".
+    /// `setup_max_packet`: a byte of 0 stands for 8.
     pub fn control_packet_size(&mut self, byte: u8) {
         self.change();
         self.put(CONTROL, 1, 1, 1, 1);
         self.put(SLOT + 1, 1, 16, 16, if byte == 0 { 8 } else { byte.into() });
     }
 
-    /// 4.12: the configuration value only for the last Evaluate of a set configuration.
+    /// For the last Evaluate of a set configuration, and no other command.
     pub fn configuration(&mut self, value: u8) {
         self.change();
         self.put(CONTROL, 7, 0, 8, value.into());
     }
 
-    /// `update_hub_inner`: "At High speed only, think time. Without multi, the multi flag is cleared at Full
-    /// speed only."
+    /// `update_hub_inner`. Without several translators the flag stays, but at Full speed.
     pub fn hub(&mut self, speed: u8, ports: u8, multi: bool, think_time: u32) {
         self.change();
         self.put(SLOT, 0, 26, 1, 1);
@@ -95,8 +94,7 @@ impl Context<'_> {
         }
     }
 
-    /// `prepare_configure_context`: "Each Configure's drop and add flags 2 to 31 are written whole. Context
-    /// entries is one above the highest Dci among record and added endpoints, or 2 if there are none."
+    /// `prepare_configure_context`. The entries are one above the highest Dci of the record and of what is added.
     pub fn configure(
         &mut self,
         setting: (u8, u8),
@@ -130,7 +128,6 @@ impl Context<'_> {
         self.put(block, 2, 0, 1, 1);
         self.put_pointer(word.dci(), *ring);
         if word.periodic() {
-            // "At High speed, periodic burst is packets per microframe less one (0 stays 0); otherwise it is 0."
             let burst = if speed == 3 { word.packets.saturating_sub(1) } else { 0 };
             let payload = word.packet_size * (burst + 1);
             self.put(block, 0, 8, 2, 0);
@@ -147,13 +144,12 @@ pub struct Added {
     pub ring: u64,
 }
 
-/// "A repeated address the last word's": both words write the block with that ring (4.5).
+/// Each word of an address that is listed twice has the ring of the last.
 pub fn added(words: &[EndpointWord], rings: &BTreeMap<u8, u64>) -> Vec<Added> {
     words.iter().map(|word| Added { word: *word, ring: rings[&word.address()] }).collect()
 }
 
-/// `calculate_xhci_interval`: "Interrupt and isochronous, speeds 3 to 5: 0→0, 1→0, 16→15, 17→15. Speeds 1 and 2:
-/// 0→3, 1→3, 2→4, 3→4, 255→10. Bulk: the byte itself."
+/// `calculate_xhci_interval`.
 fn interval(word: &EndpointWord, speed: u8) -> u32 {
     let byte = u32::from(word.interval);
     match (word.kind, speed) {

@@ -20,15 +20,14 @@ const CUT: Ended = Ended { number: 15, code: 0 };
 const SHORT_HEADER: Ended = Ended { number: 16, code: 0 };
 const INVALID_ENDPOINT: Ended = Ended { number: 18, code: 0 };
 
-/// 4.2: "every cut is 15, in whatever phase"; another end becomes a 14.
+/// What an undoing that did not work answers: a cut stays one.
 fn broken(end: Ended) -> Ended {
     if end.number == 15 { CUT } else { BROKEN }
 }
 
 type Run = Result<(), Ended>;
 
-/// "Operations: 1 Address, 2 Evaluate, 3 Configure, 4 Stop (Dci), 5 Resume (Dci), 6 SetInterface (interface,
-/// alternate), 7 SetConfiguration (value), 8 ReadHeader, 9 ReadConfiguration, 10 ReadDevice, 11 ReadConfig (index)."
+/// docs/BEHAVIOUR.md, "Log word".
 const ADDRESS: u32 = 1;
 const EVALUATE: u32 = 2;
 const CONFIGURE: u32 = 3;
@@ -52,8 +51,7 @@ impl<'a> Course<'a> {
         Course { record, count: 0, buffers }
     }
 
-    /// "32 bits each: operation 4, first 8, second 8." "One byte per command sent, 0 done, otherwise a failure
-    /// code. When none is left, the command is logged and the call is cut."
+    /// Logs a command and takes its outcome; without one the call is cut.
     fn send(&mut self, operation: u32, first: u8, second: u8) -> Run {
         self.buffers.log[self.count] = operation << 28 | u32::from(first) << 20 | u32::from(second) << 12;
         self.count += 1;
@@ -76,15 +74,14 @@ impl<'a> Course<'a> {
         }
     }
 
-    /// 4.4: by rising endpoint address.
+    /// In rising order.
     fn addresses(&self, owned: impl Fn(&Endpoint) -> bool) -> Vec<u8> {
         let mut addresses: Vec<u8> = self.record.endpoints.iter().filter(|e| owned(e)).map(|e| e.address).collect();
         addresses.sort();
         addresses
     }
 
-    /// "A failed stop resumes those already stopped; in a claim or release, if that resume fails, its code is
-    /// the answer."
+    /// After a stop that failed, those stopped before it are resumed, and a resume that fails counts instead.
     fn stop(&mut self, addresses: &[u8]) -> Run {
         for (stopped, address) in addresses.iter().enumerate() {
             let stop = self.send(STOP, dci(*address), 0);
@@ -96,7 +93,7 @@ impl<'a> Course<'a> {
         Ok(())
     }
 
-    /// 4.3: a resume makes Active those that it resumed.
+    /// Each one resumed is active.
     fn resume(&mut self, addresses: &[u8]) -> Run {
         for address in addresses {
             self.send(RESUME, dci(*address), 0)?;
@@ -105,7 +102,7 @@ impl<'a> Course<'a> {
         Ok(())
     }
 
-    /// Writes the context and sends Configure. 4.13: entries count the record's endpoints as they are now.
+    /// Writes the context and sends Configure. The entries count the record's endpoints as they are now.
     fn configure(
         &mut self,
         setting: (u8, u8),
@@ -123,8 +120,8 @@ impl<'a> Course<'a> {
         self.record.endpoints.iter().map(|e| (e.address, e.ring)).collect()
     }
 
-    /// `replace_queues`: "All old routes are checked, then all new ones, and only then is anything moved."
-    /// 4.18: a word that already holds the offered ring does not stop it.
+    /// `replace_queues`: everything is tested before anything is written. A word that already holds the ring offered
+    /// does not stop it.
     fn replace_queues(&mut self, old: &[u8], new: &BTreeMap<u8, u64>) -> bool {
         let rings = self.rings();
         let base = 32 * usize::from(self.record.slot);
@@ -144,7 +141,7 @@ impl<'a> Course<'a> {
         true
     }
 
-    /// `Device::init`. 4.6: what fails returns what the steps so far wrote.
+    /// `Device::init`. What fails leaves what was written and read so far.
     pub fn bring_up(&mut self, args: &BringUp) -> Run {
         self.record.slot = args.slot;
         self.record.n = args.n as u8;
@@ -164,7 +161,6 @@ impl<'a> Course<'a> {
         self.context().address(&address);
         self.send(ADDRESS, 0, 0)?;
         self.send(READ_HEADER, 0, 0)?;
-        // "16 header not 8 bytes after a done ReadHeader."
         if args.header != 8 {
             return Err(SHORT_HEADER);
         }
@@ -173,7 +169,6 @@ impl<'a> Course<'a> {
         self.send(READ_CONFIGURATION, 0, 0)?;
         self.record.config = Some(args.config);
         self.send(READ_DEVICE, 0, 0)?;
-        // "Bring-up sends one ReadConfig for each configuration of the list, index from 0."
         let configurations = configurations(&args.list);
         for (index, (_, words)) in configurations.iter().enumerate() {
             self.send(READ_CONFIG, index as u8, 0)?;
@@ -192,13 +187,13 @@ impl<'a> Course<'a> {
         let old_alternate = self.record.held.iter().find(|h| h.0 == *interface).map(|h| h.1);
         let old_words = old_alternate.map(|a| self.lookup(*interface, a)).unwrap_or_default();
         let old = self.addresses(|e| e.owner == *interface);
-        // "Repeated addresses in an alternate are allowed; the last word's ring stays."
+        // Of an address that is listed twice the last ring stays.
         let pending: BTreeMap<u8, u64> = new.iter().map(EndpointWord::address).zip(rings.iter().copied()).collect();
 
         self.stop_owned(&old)?;
         let configured = self.configure((*interface, *alternate), &old_words, &new, &pending);
         if let Err(Ended { number: 13, .. }) = configured {
-            // 4.1: in a claim 01 is silent, so as the original: the failed resume's code.
+            // As the original: the code of a resume that fails.
             self.resume(&old)?;
         }
         configured?;
@@ -208,7 +203,6 @@ impl<'a> Course<'a> {
             undone.map_err(|end| self.broken_claim(end, &pending))?;
         }
         set?;
-        // "A claim whose routes fail `replace_queues` gives 14."
         if !self.replace_queues(&old, &pending) {
             return Err(self.broken_claim(BROKEN, &pending));
         }
@@ -221,7 +215,7 @@ impl<'a> Course<'a> {
         Ok(())
     }
 
-    /// 4.3: a claim undone makes all old ones Active, with no Resume sent. 4.12: the old alternate, or 0.
+    /// A claim that is undone makes all old endpoints active, with no Resume sent.
     fn undo_claim(
         &mut self,
         interface: u8,
@@ -239,8 +233,7 @@ impl<'a> Course<'a> {
         Ok(())
     }
 
-    /// 4.3: 14 in a claim leaves the old ones Revoked and quarantines the pending ones. 4.8: pending rings of a
-    /// cut claim are forgotten.
+    /// 14 quarantines the rings offered; a cut forgets them.
     fn broken_claim(&mut self, end: Ended, pending: &BTreeMap<u8, u64>) -> Ended {
         let end = broken(end);
         if end.number == 14 {
@@ -253,7 +246,7 @@ impl<'a> Course<'a> {
         lookup(&self.record.list, interface, alternate).unwrap_or_default()
     }
 
-    /// The stops of a claim or a release. 4.3: after a failed Stop all old endpoints are Active.
+    /// The stops of a claim or a release. After one that failed all old endpoints are active.
     fn stop_owned(&mut self, old: &[u8]) -> Run {
         self.set_active(old, false);
         let stopped = self.stop(old);
@@ -268,7 +261,7 @@ impl<'a> Course<'a> {
         self.record.held.retain(|h| h.0 != interface);
     }
 
-    /// `_release_interface`. 4.9: of an unclaimed interface with alternate 0, one Configure with its drop flags.
+    /// `_release_interface`. Of an interface that holds nothing: one Configure with the drop flags of its alternate 0.
     pub fn release(&mut self, interface: u8) -> Run {
         let alternate = self.record.held.iter().find(|h| h.0 == interface).map_or(0, |h| h.1);
         let words = self.lookup(interface, alternate);
@@ -283,7 +276,7 @@ impl<'a> Course<'a> {
         Ok(())
     }
 
-    /// "A failed Configure in release or set configuration gives 13 with its code"; 4.1: its resumes done or not.
+    /// A Configure that fails counts, whether its resumes are done or not; a cut counts before it.
     fn disable(&mut self, setting: (u8, u8), words: &[EndpointWord], old: &[u8]) -> Run {
         let configured = self.configure(setting, words, &[], &BTreeMap::new());
         if let Err(Ended { number: 13, .. }) = configured
@@ -301,12 +294,10 @@ impl<'a> Course<'a> {
         let words: Vec<EndpointWord> = held.iter().flat_map(|(i, a)| self.lookup(*i, *a)).collect();
         let old = self.addresses(|_| true);
         self.set_active(&old, false);
-        // "A set configuration answers 14 for every failed stop."
         self.stop(&old).map_err(broken)?;
         self.disable((0, 0), &words, &old)?;
         let set = self.send(SET_CONFIGURATION, value, 0);
         if let Err(Ended { number: 13, .. }) = set {
-            // 4.2: the undoing Configure failed, or a resume after it failed: 14.
             let rings = self.rings();
             self.configure((0, 0), &[], &words, &rings).map_err(broken)?;
             self.resume(&old).map_err(broken)?;
@@ -318,9 +309,7 @@ impl<'a> Course<'a> {
         self.record.endpoints.clear();
         self.record.held.clear();
         self.context().configuration(value);
-        // 4.2: Evaluate after a done SetConfiguration failed: 14.
         self.send(EVALUATE, 0, 0).map_err(broken)?;
-        // 4.7: the configuration value changes by the last Evaluate of a set configuration.
         self.record.config = Some(value);
         Ok(())
     }

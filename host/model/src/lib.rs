@@ -1,5 +1,5 @@
-//! The five calls once more, in plain Rust, read from the customer's paper 01 and from DESIGN.md's
-//! section 4 ("4.n" below), not from the Rattle sources: a second reading to hold the library against.
+//! The five calls once more, in plain Rust, read from 01 and from docs/DECISIONS.md, not from the Rattle sources: a
+//! second reading to hold the library against. docs/BEHAVIOUR.md tells what they do.
 #![forbid(unsafe_code)]
 
 mod check;
@@ -14,12 +14,12 @@ use course::{Course, Ended};
 
 pub struct Model;
 
-/// "Numbers 1 to 12 and 17 change no lent memory, return the record as it came and answer count 0."
+/// Nothing is changed, and no word logged.
 fn refused(number: u8, record: Record) -> Outcome {
     Ok((record, Answer { number, code: 0, count: 0 }))
 }
 
-/// "14, 15 and every refused bring-up make the record unusable."
+/// After 14 and 15 the record is unusable.
 fn ended(course: Course, result: Result<(), Ended>) -> Outcome {
     let Ended { number, code } = result.err().unwrap_or(Ended { number: 0, code: 0 });
     let usable = course.record.usable && number != 14 && number != 15;
@@ -27,8 +27,7 @@ fn ended(course: Course, result: Result<(), Ended>) -> Outcome {
 }
 
 impl Layer for Model {
-    /// "Bring-up checks 11, 1, 2, 3, 6, 4, 5, 10, 17."
-    /// "A bring-up so refused returns a record that is unusable and otherwise empty, every number in it 0."
+    /// A refused one returns the empty record.
     fn bring_up(&mut self, args: &BringUp, buffers: &mut Buffers) -> Outcome {
         if let Err(number) = check::bring_up(args, buffers) {
             return refused(number, Record::default());
@@ -39,7 +38,6 @@ impl Layer for Model {
         ended(course, result)
     }
 
-    /// "Other calls check 12, 1, 2, 3, then 8, 9, 10 for a claim or 7 for a hub update."
     fn claim(&mut self, record: &Record, args: &Claim, buffers: &mut Buffers) -> Outcome {
         if let Err(number) = check::record(record, buffers).and_then(|()| check::claim(record, args)) {
             return refused(number, record.clone());

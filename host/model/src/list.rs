@@ -1,7 +1,6 @@
-//! Descriptor words: "kind 2. Kind 0, configuration: value 8. Kind 1, alternate: interface 8, alternate 8.
-//! Kind 2, endpoint: IN 1, number 4, type 2, packet size 11, packets per microframe 2, interval 8."
+//! Descriptor words and their lists (docs/BEHAVIOUR.md, "Descriptor word").
 
-/// "House words are packed most significant bit first": `width` bits after the first `from`.
+/// `width` bits after the `from` highest ones.
 fn bits(word: u32, from: u32, width: u32) -> u32 {
     (word >> (32 - from - width)) & ((1 << width) - 1)
 }
@@ -33,7 +32,7 @@ impl EndpointWord {
     }
 }
 
-/// "2 × number + IN."
+/// Of an endpoint address.
 pub fn dci(address: u8) -> u8 {
     2 * (address & 15) + (address >> 7)
 }
@@ -44,7 +43,7 @@ enum Word {
     Endpoint(EndpointWord),
 }
 
-/// None: "number 0, type 0, kind 3 and IN 15 are refused", and "unused low bits zero".
+/// None where no list may have the word.
 fn word(word: u32) -> Option<Word> {
     let (read, used) = match bits(word, 0, 2) {
         0 => (Word::Configuration(bits(word, 2, 8) as u8), 10),
@@ -68,8 +67,7 @@ fn word(word: u32) -> Option<Word> {
     (bits(word, used, 32 - used) == 0).then_some(read)
 }
 
-/// "At most 256 words, 8 configurations, 32 distinct interfaces, 30 endpoints in an alternate. A nonempty
-/// list begins with kind 0; endpoints follow an alternate of the same configuration. An empty list is valid."
+/// docs/BEHAVIOUR.md, "Descriptor list".
 pub fn valid(list: &[u32]) -> bool {
     let mut configurations = 0;
     let mut interfaces = Vec::new();
@@ -99,7 +97,7 @@ pub fn valid(list: &[u32]) -> bool {
     list.len() <= 256 && configurations <= 8 && interfaces.len() <= 32
 }
 
-/// "Lookup takes the first matching alternate over all configurations." Of a valid list.
+/// Of a valid list: the first alternate with these numbers, in whichever configuration.
 pub fn lookup(list: &[u32], interface: u8, alternate: u8) -> Option<Vec<EndpointWord>> {
     let sought = |w: &u32| matches!(word(*w), Some(Word::Alternate(i, a)) if (i, a) == (interface, alternate));
     let at = list.iter().position(sought)?;

@@ -1,4 +1,4 @@
-//! Hub words: "present 1, has parent 1, parent index 8, slot 8, depth plus one 3 (0 to 5), speed 3, port 8, multi 1."
+//! Hub words and the chain of hubs (docs/BEHAVIOUR.md, "Hub word").
 
 use scenario::BringUp;
 
@@ -30,14 +30,12 @@ fn hub(word: u64) -> Hub {
     }
 }
 
-/// 4.16: present, of speed 1 to 5, unused bits 0, depth plus one 0 to 5.
+/// A hub that may stand on a chain, its place there apart.
 fn in_order(hub: &Hub) -> bool {
     hub.present && (1..=5).contains(&hub.speed) && hub.unused == 0 && hub.depth_plus_one <= 5
 }
 
-/// The hubs from the device's parent to the one of depth -1. None where 01 gives 5: "On a chain, each hub is
-/// in the list and present with speed 1 to 5, each parent's depth is one less, and the end has depth -1 (its
-/// parent is ignored)"; "at most 256; more give 5, with a parent or not".
+/// The hubs from the device's parent to the one of depth -1; none where the answer is 5.
 pub fn chain(args: &BringUp) -> Option<Vec<Hub>> {
     if args.hubs.len() > 256 {
         return None;
@@ -62,8 +60,7 @@ pub fn chain(args: &BringUp) -> Option<Vec<Hub>> {
     Some(chain)
 }
 
-/// "A port above 15, the device's or a hub's, enters the route as 15; the nibble is shifted by 4 × depth of
-/// the hub it is on. Depth -1 is a root hub and ends the walk. No parent gives 0."
+/// Four bits for each hub that is no root hub: the port on it, 15 at most.
 pub fn route_string(chain: &[Hub], port: u8) -> u32 {
     let mut route = 0;
     let mut port = port;
@@ -80,8 +77,7 @@ pub struct Translator {
     pub port: u8,
 }
 
-/// "Low and Full devices take slot id, multi flag and unclamped port at the nearest High hub; a root hub
-/// never counts."
+/// Of the nearest High speed hub that is no root hub, for a Low or Full speed device; the port as it is.
 pub fn translator(chain: &[Hub], speed: u8, port: u8) -> Option<Translator> {
     let mut port = port;
     for hub in chain.iter().filter(|hub| hub.depth_plus_one > 0) {
@@ -93,7 +89,7 @@ pub fn translator(chain: &[Hub], speed: u8, port: u8) -> Option<Translator> {
     None
 }
 
-/// "Think time is ns / 666 less one: 0→0, 666→0, 1331→0, 1332→1, 3329→3; 1, 665 and 3330 are refused."
+/// The value of the think time field; none where it is refused.
 pub fn think_time(ns: u32) -> Option<u32> {
     match ns {
         0 => Some(0),

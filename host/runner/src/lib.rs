@@ -1,6 +1,8 @@
 //! The layers by name.
 #![forbid(unsafe_code)]
 
+pub mod program;
+
 use scenario::Layer;
 
 pub fn layer(name: &str) -> Option<Box<dyn Layer>> {

@@ -5,9 +5,21 @@ use std::fs::File;
 use std::io::{self, BufRead, BufReader, Write};
 use std::process::ExitCode;
 
-use scenario::{Event, Layer, Reader, Session, Step, explain_text, left_text};
+use runner::program::{asked, fail};
+use scenario::{Event, Given, Layer, Malformed, Reader, Session, Step, explain_text, left_text};
 
-const USAGE: &str = "usage: scenario [--explain] [--layer library|model|original] FILE   (FILE - is standard input)";
+const HELP: &str = "\
+usage: scenario [--explain] [--layer LAYER] FILE
+
+Runs the scenarios of FILE (- is standard input) and prints what each call leaves; docs/SCENARIOS.md has the form.
+
+  --explain        print each call for people
+  --layer LAYER    who answers: library (the default), model or original
+  --help           print this
+  --version        print the version
+
+Exit status: 0, or 2 where the arguments or a line of FILE are wrong.
+";
 
 struct Options {
     explain: bool,
@@ -15,18 +27,34 @@ struct Options {
     file: String,
 }
 
-fn options() -> Option<Options> {
+fn options() -> Result<Options, String> {
     let mut arguments = std::env::args().skip(1);
     let mut options = Options { explain: false, layer: "library".to_string(), file: String::new() };
     while let Some(argument) = arguments.next() {
         match argument.as_str() {
             "--explain" => options.explain = true,
-            "--layer" => options.layer = arguments.next()?,
+            "--layer" => options.layer = arguments.next().ok_or("--layer: which?")?,
+            option if option.starts_with("--") => return Err(format!("there is no option '{option}'")),
             _ if options.file.is_empty() => options.file = argument,
-            _ => return None,
+            _ => return Err(format!("'{argument}' is too much")),
         }
     }
-    (!options.file.is_empty()).then_some(options)
+    if options.file.is_empty() {
+        return Err(HELP.to_string());
+    }
+    Ok(options)
+}
+
+/// Marks at the beginning of a file that some editors write.
+const MARKS: [(&[u8], &str); 3] = [
+    (b"\xEF\xBB\xBF", "the file begins with a byte order mark; save it as UTF-8 without one"),
+    (b"\xFF\xFE", "the file is UTF-16; save it as UTF-8"),
+    (b"\xFE\xFF", "the file is UTF-16; save it as UTF-8"),
+];
+
+fn marked(line: &[u8]) -> Option<String> {
+    let mark = MARKS.iter().find(|(mark, _)| line.starts_with(mark));
+    mark.map(|(_, message)| format!("line 1: {message}"))
 }
 
 /// Runs a call and adds what it left to the text.
@@ -35,10 +63,11 @@ fn call(session: &mut Session, layer: &mut dyn Layer, step: &Step, explain: bool
     let mut buffers = given.clone();
     match layer.call(&record, &step.call, &mut buffers) {
         Err(cannot) => text.push_str(&format!("no answer: {cannot:?}\n.\n")),
-        Ok((record, answer)) => {
-            let left = session.settle(record, answer, buffers);
+        Ok((returned, answer)) => {
+            let left = session.settle(returned, answer, buffers);
             if explain {
-                explain_text(text, &step.call, &given, &left);
+                let given = Given { call: &step.call, record: &record, buffers: &given };
+                explain_text(text, layer, &given, &left);
             } else {
                 left_text(text, &left);
             }
@@ -46,13 +75,37 @@ fn call(session: &mut Session, layer: &mut dyn Layer, step: &Step, explain: bool
     }
 }
 
-fn run(input: impl BufRead, layer: &mut dyn Layer, explain: bool, out: &mut impl Write) -> Result<(), String> {
+/// Why a run ends before its time.
+enum Ends {
+    /// Nobody reads what is printed any more.
+    Unread,
+    Wrong(String),
+}
+
+impl From<io::Error> for Ends {
+    fn from(e: io::Error) -> Ends {
+        if e.kind() == io::ErrorKind::BrokenPipe { Ends::Unread } else { Ends::Wrong(e.to_string()) }
+    }
+}
+
+impl From<Malformed> for Ends {
+    fn from(e: Malformed) -> Ends {
+        Ends::Wrong(e.to_string())
+    }
+}
+
+fn run(mut input: impl BufRead, layer: &mut dyn Layer, explain: bool, out: &mut impl Write) -> Result<(), Ends> {
+    if let Some(message) = marked(input.fill_buf()?) {
+        return Err(Ends::Wrong(message));
+    }
     let mut reader = Reader::new();
     let mut session = Session::new();
     let mut text = String::new();
+    let mut empty = true;
     for line in input.split(b'\n') {
-        let line = line.map_err(|e| e.to_string())?;
-        match reader.line(&String::from_utf8_lossy(&line)).map_err(|e| e.to_string())? {
+        let event = reader.line(&String::from_utf8_lossy(&line?))?;
+        empty &= event.is_none();
+        match event {
             Some(Event::Begin(name)) => {
                 session = Session::new();
                 if explain {
@@ -62,15 +115,21 @@ fn run(input: impl BufRead, layer: &mut dyn Layer, explain: bool, out: &mut impl
             Some(Event::Call(step)) => call(&mut session, layer, &step, explain, &mut text),
             Some(Event::End) | None => {}
         }
-        out.write_all(text.as_bytes()).map_err(|e| e.to_string())?;
+        out.write_all(text.as_bytes())?;
         text.clear();
     }
-    reader.finish().map_err(|e| e.to_string())
+    reader.finish()?;
+    out.flush()?;
+    if empty { Err(Ends::Wrong("there is no scenario in the file".to_string())) } else { Ok(()) }
 }
 
 fn main() -> ExitCode {
-    let Some(Options { explain, layer, file }) = options() else {
-        return fail(USAGE);
+    if let Some(code) = asked("scenario", HELP) {
+        return code;
+    }
+    let Options { explain, layer, file } = match options() {
+        Ok(options) => options,
+        Err(message) => return fail(&message),
     };
     let Some(mut layer) = runner::layer(&layer) else {
         return fail(&format!("there is no layer '{layer}' here"));
@@ -80,19 +139,14 @@ fn main() -> ExitCode {
         "-" => run(io::stdin().lock(), &mut *layer, explain, &mut out),
         path => match File::open(path) {
             Ok(file) => run(BufReader::new(file), &mut *layer, explain, &mut out),
-            Err(e) => Err(format!("{path}: {e}")),
+            Err(e) => Err(Ends::Wrong(format!("{path}: {e}"))),
         },
     };
-    match result.and_then(|()| out.flush().map_err(|e| e.to_string())) {
-        Ok(()) => ExitCode::SUCCESS,
-        Err(message) => {
+    match result {
+        Ok(()) | Err(Ends::Unread) => ExitCode::SUCCESS,
+        Err(Ends::Wrong(message)) => {
             let _ = out.flush();
             fail(&message)
         }
     }
-}
-
-fn fail(message: &str) -> ExitCode {
-    eprintln!("{message}");
-    ExitCode::from(2)
 }

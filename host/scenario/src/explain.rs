@@ -3,47 +3,11 @@
 use std::fmt::Write;
 
 use crate::call::*;
+use crate::context_text::{explain_changes, explain_flags};
+use crate::layer::Layer;
+use crate::reason::reason;
+use crate::record_text::explain_record;
 use crate::session::Left;
-
-/// A field of a context block: its name, doubleword, lowest bit and width (xHCI 1.2, section 6.2).
-type Field = (&'static str, usize, u32, u32);
-
-const CONTROL: [Field; 5] = [
-    ("drop flags", 0, 0, 32),
-    ("add flags", 1, 0, 32),
-    ("configuration value", 7, 0, 8),
-    ("interface number", 7, 8, 8),
-    ("alternate setting", 7, 16, 8),
-];
-
-const SLOT: [Field; 12] = [
-    ("route string", 0, 0, 20),
-    ("speed", 0, 20, 4),
-    ("multi-TT", 0, 25, 1),
-    ("hub", 0, 26, 1),
-    ("context entries", 0, 27, 5),
-    ("max exit latency", 1, 0, 16),
-    ("root hub port number", 1, 16, 8),
-    ("number of ports", 1, 24, 8),
-    ("parent hub slot", 2, 0, 8),
-    ("parent port number", 2, 8, 8),
-    ("TT think time", 2, 16, 2),
-    ("interrupter target", 2, 22, 10),
-];
-
-const ENDPOINT: [Field; 11] = [
-    ("mult", 0, 8, 2),
-    ("max primary streams", 0, 10, 5),
-    ("interval", 0, 16, 8),
-    ("error count", 1, 1, 2),
-    ("endpoint type", 1, 3, 3),
-    ("max burst size", 1, 8, 8),
-    ("max packet size", 1, 16, 16),
-    ("dequeue cycle state", 2, 0, 1),
-    ("dequeue pointer / 16", 2, 4, 60),
-    ("average TRB length", 4, 0, 16),
-    ("max ESIT payload, low", 4, 16, 16),
-];
 
 /// 01's numbers in words.
 fn answer(number: u8) -> &'static str {
@@ -99,14 +63,32 @@ fn title(call: &Call) -> String {
     }
 }
 
-fn commands(out: &mut String, left: &Left, outcomes: &[u8]) {
+/// The context that a command reads: what the same call leaves when it is given only the outcomes before it.
+fn context_at(layer: &mut dyn Layer, given: &Given, at: usize) -> Option<Vec<u8>> {
+    let mut buffers = given.buffers.clone();
+    buffers.outcomes.truncate(at);
+    layer.call(given.record, given.call, &mut buffers).ok()?;
+    Some(buffers.ctx)
+}
+
+/// Each command with its outcome, and with what it reads of the context that no command before it has read.
+fn commands(out: &mut String, layer: &mut dyn Layer, given: &Given, left: &Left) {
+    const READ_CONTEXT: [u32; 3] = [1, 2, 3];
+    let mut read = given.buffers.ctx.clone();
     for (at, word) in left.log.iter().take(left.answer.count).enumerate() {
-        let outcome = match outcomes.get(at) {
+        let outcome = match given.buffers.outcomes.get(at) {
             None => "no outcome".to_string(),
             Some(0) => "done".to_string(),
             Some(code) => format!("failed, code {code}"),
         };
         let _ = writeln!(out, "  {:>2}. {:<32} {outcome}", at + 1, command(*word));
+        if READ_CONTEXT.contains(&(word >> 28))
+            && let Some(ctx) = context_at(layer, given, at)
+        {
+            explain_flags(out, &ctx);
+            explain_changes(out, &read, &ctx);
+            read = ctx;
+        }
     }
 }
 
@@ -117,64 +99,26 @@ fn routes(out: &mut String, before: &[u64], after: &[u64]) {
     }
 }
 
-fn record(out: &mut String, record: &Record) {
-    let state = if record.usable { "usable" } else { "unusable" };
-    let Record { slot, n, spacing, speed, control, .. } = record;
-    let configuration = record.config.map_or("none".to_string(), |value| value.to_string());
-    let _ = write!(out, "  record: {state}, slot {slot} of {n}, spacing {spacing}, speed {speed}, ");
-    let _ = writeln!(out, "configuration {configuration}, control's ring {control:x}, {} words", record.list.len());
-    for (interface, alternate) in &record.held {
-        let _ = writeln!(out, "    interface {interface} holds alternate {alternate}");
-    }
-    for Endpoint { address, ring, owner, active } in &record.endpoints {
-        let state = if *active { "active" } else { "revoked" };
-        let _ = writeln!(out, "    endpoint {address:02x} of interface {owner}: ring {ring:x}, {state}");
-    }
-    for ring in &record.quarantined {
-        let _ = writeln!(out, "    ring {ring:x} is quarantined");
-    }
+/// What a call was given.
+pub struct Given<'a> {
+    pub call: &'a Call,
+    pub record: &'a Record,
+    pub buffers: &'a Buffers,
 }
 
-/// A field's value in the block that begins at a byte.
-fn read(ctx: &[u8], block: usize, (_, dword, low, width): Field) -> u64 {
-    let mut bytes = [0; 8];
-    let len = if low + width > 32 { 8 } else { 4 };
-    let at = block + 4 * dword;
-    bytes[..len].copy_from_slice(&ctx[at..at + len]);
-    u64::from_le_bytes(bytes) >> low & (u64::MAX >> (64 - width))
-}
-
-fn context(out: &mut String, before: &[u8], after: &[u8]) {
-    let spacing = match after.len() {
-        1056 => 32,
-        2112 => 64,
-        _ => return,
-    };
-    for block in 0..33 {
-        let (name, fields) = match block {
-            0 => ("control".to_string(), &CONTROL[..]),
-            1 => ("slot".to_string(), &SLOT[..]),
-            dci => (format!("Dci {}", dci - 1), &ENDPOINT[..]),
-        };
-        for field in fields {
-            let (was, is) = (read(before, block * spacing, *field), read(after, block * spacing, *field));
-            if was != is {
-                let _ = writeln!(out, "  context, {name}, {}: {was:#x} -> {is:#x}", field.0);
-            }
-        }
-    }
-}
-
-/// What a call did: its commands with their outcomes, its answer, the routes and context fields that changed, and
-/// the record it returned.
-pub fn explain_text(out: &mut String, call: &Call, given: &Buffers, left: &Left) {
+/// What a call did: its commands with their outcomes and what they read of the context, its answer, the routes that
+/// changed, and the record it returned.
+pub fn explain_text(out: &mut String, layer: &mut dyn Layer, given: &Given, left: &Left) {
     let Answer { number, code, .. } = left.answer;
-    let _ = writeln!(out, "{}", title(call));
-    commands(out, left, &given.outcomes);
+    let _ = writeln!(out, "{}", title(given.call));
+    commands(out, layer, given, left);
     let _ = write!(out, "  answer {number}: {}", answer(number));
     let _ = if number == 13 { writeln!(out, ", with code {code}") } else { writeln!(out) };
-    routes(out, &given.routes, &left.table);
-    context(out, &given.ctx, &left.ctx);
-    record(out, &left.record.sorted());
+    if let Some(reason) = reason(number, given.call, given.record) {
+        let _ = writeln!(out, "    {reason}");
+    }
+    routes(out, &given.buffers.routes, &left.table);
+    let was = (!matches!(given.call, Call::BringUp(_))).then_some(given.record);
+    explain_record(out, was, &left.record);
     out.push('\n');
 }

@@ -4,16 +4,20 @@
 
 mod call;
 mod clock;
+mod context_text;
 mod explain;
 mod layer;
 mod parse;
 mod print;
+mod reason;
+mod record_text;
 mod session;
 
 pub use call::*;
 pub use clock::{proper, start_clock, stop_clock};
-pub use explain::explain_text;
+pub use explain::{Given, explain_text};
 pub use layer::{Cannot, Layer, Outcome};
 pub use parse::{Event, Malformed, Reader, parse};
 pub use print::{left_text, scenario_text, step_text};
+pub use reason::reason;
 pub use session::{Left, Session};

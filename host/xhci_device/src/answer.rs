@@ -1,8 +1,20 @@
 //! What a call answers.
 
-/// In the order of 01's numbers, which begin at 0.
+use core::fmt;
+
+/// What a call answers, in the order of the answers' numbers, which begin at 0. Those from `ContextLength` to `Unusable`,
+/// and `QueueFull`, are refusals: the call has sent nothing and changed nothing. After `InterfaceBroken`, `Cut` and any
+/// bring-up that was not accepted the record is unusable.
+///
+/// ```
+/// use xhci_device::Answer;
+///
+/// assert_eq!(Answer::of(13, 7), Some(Answer::Failed(7)));
+/// assert_eq!(Answer::Failed(7).to_string(), "a command failed, with code 7");
+/// ```
 #[derive(Clone, Copy, Debug, PartialEq, Eq)]
 pub enum Answer {
+    /// Everything was done.
     Accepted,
     /// The context is not 33 blocks of the record's spacing.
     ContextLength,
@@ -10,22 +22,31 @@ pub enum Answer {
     RoutesLength,
     /// The log has less than 64 words.
     LogTooShort,
+    /// The descriptor list is not valid.
     DescriptorList,
+    /// A hub above the device is missing or out of order.
     HubChain,
+    /// The speed is not 1 to 5.
     Speed,
+    /// No think time of a high-speed hub has that many nanoseconds.
     ThinkTime,
+    /// The list has no such alternate.
     NotFound,
     /// An address that another interface owns.
     InvalidParameter,
+    /// The rings are not as many as the endpoint words, or one is no nonzero multiple of 16 or taken.
     Rings,
+    /// Slot 0, a slot above N, or N outside 1 to 255.
     SlotLimitReached,
     /// The record is marked unusable or is not sound.
     Unusable,
     /// A command failed, with this code.
     Failed(u8),
+    /// What was begun could not be undone.
     InterfaceBroken,
     /// No outcome was left for a command.
     Cut,
+    /// ReadHeader read another number of bytes than 8.
     ShortHeader,
     /// Bring-up: the slot has a route for control.
     QueueFull,
@@ -60,7 +81,7 @@ impl Answer {
         })
     }
 
-    /// 01's number.
+    /// Its number.
     pub fn number(self) -> u8 {
         match self {
             Answer::Accepted => 0,
@@ -91,6 +112,33 @@ impl Answer {
             Answer::Failed(code) => code,
             _ => 0,
         }
+    }
+}
+
+/// In words, as host/include/xhci_device.h names the answers; a failure with its code.
+impl fmt::Display for Answer {
+    fn fmt(&self, f: &mut fmt::Formatter<'_>) -> fmt::Result {
+        f.write_str(match self {
+            Answer::Accepted => "accepted",
+            Answer::ContextLength => "the context has a wrong length",
+            Answer::RoutesLength => "the routes have a wrong length",
+            Answer::LogTooShort => "the log is too short",
+            Answer::DescriptorList => "the descriptor list is not valid",
+            Answer::HubChain => "the chain of hubs is not in order",
+            Answer::Speed => "the speed is unknown",
+            Answer::ThinkTime => "the think time has no value",
+            Answer::NotFound => "there is no such alternate",
+            Answer::InvalidParameter => "an address is owned by another interface",
+            Answer::Rings => "the rings offered do not fit",
+            Answer::SlotLimitReached => "the slot or the number of slots is out of range",
+            Answer::Unusable => "the record is unusable or not sound",
+            Answer::Failed(code) => return write!(f, "a command failed, with code {code}"),
+            Answer::InterfaceBroken => "what was begun could not be undone",
+            Answer::Cut => "cut: no outcome was left for the last command",
+            Answer::ShortHeader => "the header read has not 8 bytes",
+            Answer::QueueFull => "the control endpoint's route is taken",
+            Answer::InvalidEndpoint => "an endpoint's route is not its ring",
+        })
     }
 }
 

@@ -12,12 +12,14 @@ pub struct Memory<'a> {
     pub routes: &'a mut [u64],
     /// At least 64 words; the commands are logged from the first on.
     pub log: &'a mut [u32],
+    /// How each command goes.
     pub outcomes: &'a [u8],
 }
 
-/// A device that is to be brought up.
+/// A device that is to be brought up, with what its commands will read.
 #[derive(Clone, Copy, Debug)]
 pub struct BringUp<'a> {
+    /// The slot that it gets.
     pub slot: SlotId,
     /// N, the number of slots that the routes serve.
     pub n: usize,
@@ -27,16 +29,18 @@ pub struct BringUp<'a> {
     pub parent: Option<usize>,
     /// The port on that hub.
     pub port: u8,
+    /// The port of the root hub that the way to the device begins at.
     pub root_port: u8,
     /// Control's ring.
     pub ring: u64,
-    /// How many bytes ReadHeader reads, and the packet byte among them.
+    /// How many bytes ReadHeader reads,
     pub header: usize,
+    /// and the packet byte among them.
     pub packet: u8,
     /// What ReadConfiguration reads.
     pub value: u8,
-    /// Hub words.
+    /// Hub words ([`Hub::word`](crate::Hub::word)), of every hub between the root hub and the device at least.
     pub hubs: &'a [u64],
-    /// Descriptor words.
+    /// Descriptor words, of all configurations.
     pub list: &'a [u32],
 }

@@ -1,29 +1,45 @@
-//! The proved xHCI device layer, for Rust: the five calls of libxhci_device.a on a `Record`.
-//!
-//! Every slice goes to the library with its own length, and borrows keep the slices of a call apart, so
-//! nothing that compiles here can be refused by the library for anything but what 01 says.
+#![doc = include_str!("../README.md")]
 #![no_std]
-#![deny(unsafe_code)]
+#![deny(unsafe_code, missing_docs)]
 
 mod answer;
+mod bus;
 mod call;
+mod command;
+mod driver;
+mod hub;
 pub mod layout;
+mod learned;
 mod library;
 mod record;
 
 pub use answer::Answer;
+pub use bus::{Bus, Due, Outcome, Read, UNREADABLE};
 pub use call::{BringUp, Memory};
+pub use command::Command;
+pub use driver::{Attached, Call, Next, Pending};
+pub use hub::Hub;
 pub use record::{Configuration, Endpoint, Record, Setting};
+
+/// The version of this crate and of the header for C.
+pub const VERSION: &str = env!("CARGO_PKG_VERSION");
 
 /// A device slot.
 #[derive(Clone, Copy, Debug, PartialEq, Eq, PartialOrd, Ord, Hash)]
 pub struct SlotId(pub u8);
 
 /// A device context index: 1 control, 2 × number + IN of another endpoint.
+///
+/// ```
+/// use xhci_device::Dci;
+///
+/// assert_eq!((Dci::of_address(0x81), Dci::of_address(0x02)), (Dci(3), Dci(4)));
+/// ```
 #[derive(Clone, Copy, Debug, PartialEq, Eq, PartialOrd, Ord, Hash)]
 pub struct Dci(pub u8);
 
 impl Dci {
+    /// The control endpoint's.
     pub const CONTROL: Dci = Dci(1);
 
     /// The index of an endpoint's address.
@@ -33,6 +49,12 @@ impl Dci {
 }
 
 /// Where the ring of a slot's endpoint stands in the routes.
+///
+/// ```
+/// use xhci_device::{Dci, SlotId, route_index};
+///
+/// assert_eq!(route_index(SlotId(2), Dci(3)), 67);
+/// ```
 pub fn route_index(slot: SlotId, dci: Dci) -> usize {
     32 * usize::from(slot.0) + usize::from(dci.0)
 }

@@ -9,6 +9,35 @@ use crate::library;
 use crate::{Answer, BringUp, Dci, Memory, SlotId};
 
 /// A record: the image that the library reads and writes. A bring-up makes it.
+///
+/// The methods run a call at once, over outcomes that are known; [`Pending`](crate::Pending) runs one as they come.
+///
+/// ```
+/// use xhci_device::{Answer, BringUp, Memory, Record, SlotId};
+///
+/// let (mut ctx, mut routes, mut log) = ([0; 1056], [0; 64], [0; 64]);
+/// let memory = Memory { ctx: &mut ctx, routes: &mut routes, log: &mut log, outcomes: &[0; 64] };
+/// let args = BringUp {
+///     slot: SlotId(1),
+///     n: 1,
+///     speed: 3,
+///     parent: None,
+///     port: 1,
+///     root_port: 1,
+///     ring: 0x1000,
+///     header: 8,
+///     packet: 64,
+///     value: 0,
+///     hubs: &[],
+///     list: &[0x0040_0000, 0x4000_0000, 0xA384_0410],
+/// };
+/// let (mut record, answer, count) = Record::bring_up(memory, &args);
+/// assert_eq!((answer, count), (Answer::Accepted, 9));
+///
+/// let memory = Memory { ctx: &mut ctx, routes: &mut routes, log: &mut log, outcomes: &[0, 7, 0] };
+/// assert_eq!(record.claim(memory, 0, 0, &[0x2000]), (Answer::Failed(7), 3));
+/// assert!(record.is_usable() && record.held().len() == 0);
+/// ```
 #[derive(Clone, Debug, PartialEq, Eq)]
 pub struct Record {
     words: [u64; WORDS],
@@ -17,14 +46,18 @@ pub struct Record {
 /// An endpoint of a record, with the interface that owns it.
 #[derive(Clone, Copy, Debug, PartialEq, Eq)]
 pub struct Endpoint {
+    /// The endpoint number, and 0x80 for IN.
     pub address: u8,
+    /// The interface that owns it.
     pub interface: u8,
+    /// Its transfer ring's bus address.
     pub ring: u64,
     /// Otherwise revoked.
     pub active: bool,
 }
 
 impl Endpoint {
+    /// Its index in contexts and routes.
     pub fn dci(&self) -> Dci {
         Dci::of_address(self.address)
     }
@@ -33,7 +66,9 @@ impl Endpoint {
 /// A held setting.
 #[derive(Clone, Copy, Debug, PartialEq, Eq)]
 pub struct Setting {
+    /// The interface.
     pub interface: u8,
+    /// The alternate setting that it holds.
     pub alternate: u8,
 }
 
@@ -41,13 +76,29 @@ pub struct Setting {
 #[derive(Clone, Copy, Debug, PartialEq, Eq)]
 pub struct Configuration(pub u8);
 
+impl Default for Record {
+    fn default() -> Record {
+        Record::new()
+    }
+}
+
 /// The calls.
 impl Record {
+    /// The record that a refused bring-up leaves: unusable, every number 0.
+    pub const fn new() -> Record {
+        Record { words: [0; WORDS] }
+    }
+
     /// The bring-up of a slot. The record is there after every answer, and usable after `Accepted` alone.
     pub fn bring_up(memory: Memory<'_>, args: &BringUp<'_>) -> (Record, Answer, usize) {
-        let mut record = Record { words: [0; WORDS] };
-        let (answer, count) = library::bring_up(&mut record.words, memory, args);
+        let mut record = Record::new();
+        let (answer, count) = record.bring_up_here(memory, args);
         (record, answer, count)
+    }
+
+    /// The same, in the place of another record.
+    pub(crate) fn bring_up_here(&mut self, memory: Memory<'_>, args: &BringUp<'_>) -> (Answer, usize) {
+        library::bring_up(&mut self.words, memory, args)
     }
 
     /// The claim of an interface's alternate setting, with a ring for each of its endpoint words.
@@ -73,6 +124,7 @@ impl Record {
 
 /// What a record says.
 impl Record {
+    /// Whether calls may be made on it: after an accepted bring-up, up to a broken or cut call.
     pub fn is_usable(&self) -> bool {
         library::is_usable(&self.words)
     }
@@ -82,6 +134,7 @@ impl Record {
         library::is_sound(&self.words)
     }
 
+    /// The slot.
     pub fn slot(&self) -> SlotId {
         SlotId(self.words[SLOT] as u8)
     }
@@ -96,6 +149,7 @@ impl Record {
         self.words[SPACING] as usize
     }
 
+    /// xHCI's speed id.
     pub fn port_speed(&self) -> u8 {
         self.words[PORT_SPEED] as u8
     }
@@ -110,6 +164,7 @@ impl Record {
         self.words[CONTROL]
     }
 
+    /// Whether control's ring is revoked.
     pub fn control_revoked(&self) -> bool {
         self.words[CONTROL_REVOKED] != 0
     }
@@ -124,6 +179,7 @@ impl Record {
         (0..self.count(LIST_LEN, LIST_ROOM)).map(|i| self.words[LIST + i] as u32)
     }
 
+    /// The endpoints of the held settings.
     pub fn endpoints(&self) -> impl ExactSizeIterator<Item = Endpoint> + '_ {
         (0..self.count(EP_COUNT, EP_ROOM)).map(|i| Endpoint {
             address: self.words[EP_ADDRESSES + i] as u8,
@@ -147,14 +203,19 @@ impl Record {
     }
 }
 
-#[cfg(feature = "words")]
+/// The image, word by word (host/include/xhci_device.h says which is which).
 impl Record {
-    /// A record of any words. A call refuses words that are no sound record with 12 and changes nothing.
-    pub fn from_words(words: [u64; WORDS]) -> Record {
-        Record { words }
-    }
+    /// How many words the image has.
+    pub const WORDS: usize = WORDS;
 
+    /// The words of the image.
     pub fn words(&self) -> &[u64; WORDS] {
         &self.words
+    }
+
+    /// A record of any words. A call refuses words that are no sound record with 12 and changes nothing.
+    #[cfg(feature = "words")]
+    pub fn from_words(words: [u64; WORDS]) -> Record {
+        Record { words }
     }
 }

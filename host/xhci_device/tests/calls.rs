@@ -1,6 +1,6 @@
 //! A device with one interface, brought up and used; and words that are no record.
 
-use xhci_device::{Answer, BringUp, Configuration, Dci, Memory, Record, Setting, SlotId, route_index};
+use xhci_device::{Answer, BringUp, Configuration, Dci, Hub, Memory, Record, Setting, SlotId, route_index};
 
 const SLOT: SlotId = SlotId(1);
 
@@ -82,6 +82,24 @@ fn a_refused_bring_up_leaves_an_empty_record() {
     assert_eq!((refused.1, refused.2), (Answer::Speed, 0));
     assert!(!refused.0.is_usable() && !refused.0.is_sound());
     assert_eq!((refused.0.slot(), refused.0.list().len()), (SlotId(0), 0));
+}
+
+#[test]
+fn a_hub_that_is_told_wrong_is_refused() {
+    let root = Hub { parent: None, slot: SlotId(0), depth: -1, speed: 3, port: 0, multi: false };
+    let hub = Hub { parent: Some(0), slot: SlotId(2), depth: 0, speed: 3, port: 4, multi: true };
+    let answer = |hub: Hub| {
+        let hubs = [root.word(), hub.word()];
+        Record::bring_up(Room::new().memory(&[0; 16]), &BringUp { parent: Some(1), hubs: &hubs, ..device() }).1
+    };
+    assert_eq!(answer(hub), Answer::Accepted);
+    for speed in [0, 6, 9, 11, 255] {
+        assert_eq!(answer(Hub { speed, ..hub }), Answer::HubChain, "speed {speed}");
+    }
+    for depth in [-128, -2, 1, 7, 8, 127] {
+        assert_eq!(answer(Hub { depth, ..hub }), Answer::HubChain, "depth {depth}");
+    }
+    assert_eq!(answer(Hub { parent: None, ..hub }), Answer::HubChain);
 }
 
 /// Words of an image that no record has, and a count beyond its array.

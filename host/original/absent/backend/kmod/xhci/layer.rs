@@ -28,6 +28,10 @@ use crate::bus::{self, Script};
 use crate::err::Result;
 use crate::words;
 
+#[cfg(test)]
+#[path = "above.rs"]
+mod above;
+
 type Polled = Poll<Result<()>>;
 
 /// Polls once: nothing on the scripted bus wakes a future later.

@@ -1,0 +1,100 @@
+/* Makes the calls that come on standard input, and writes what they leave to standard output. */
+#include "remote.h"
+
+#include <stdlib.h>
+#include <unistd.h>
+
+static bool get(void *to, size_t bytes) {
+    unsigned char *at = to;
+    while (bytes > 0) {
+        ssize_t got = read(0, at, bytes);
+        if (got <= 0) {
+            return false;
+        }
+        at += got;
+        bytes -= (size_t)got;
+    }
+    return true;
+}
+
+static void put(const void *from, size_t bytes) {
+    const unsigned char *at = from;
+    while (bytes > 0) {
+        ssize_t done = write(1, at, bytes);
+        if (done <= 0) {
+            exit(1);
+        }
+        at += done;
+        bytes -= (size_t)done;
+    }
+}
+
+/* The buffers of a request, each in memory of its own. */
+static void get_buffers(const struct request *r, void *buffers[BUFFERS]) {
+    for (int i = 0; i < BUFFERS; i++) {
+        size_t bytes = (size_t)r->count[i] * size_of[i];
+        buffers[i] = malloc(bytes + 1);
+        if (buffers[i] == NULL || !get(buffers[i], bytes)) {
+            exit(1);
+        }
+    }
+}
+
+#define LENT                                                                                       \
+    b[IMAGE], (size_t)c[IMAGE], b[CTX], (size_t)c[CTX], b[ROUTES], (size_t)c[ROUTES], b[LOG],       \
+        (size_t)c[LOG], b[OUTCOMES], (size_t)c[OUTCOMES]
+
+static struct xhci_device_answered make_call(const struct request *r, void *b[BUFFERS]) {
+    const uint64_t *c = r->count, *n = r->number;
+    switch (r->function) {
+    case BRING_UP:
+        return xhci_device_bring_up(LENT, b[HUBS], (size_t)c[HUBS], b[LIST], (size_t)c[LIST], (uint8_t)n[0],
+            (size_t)n[1], (uint8_t)n[2], (uint8_t)n[3], (size_t)n[4], (uint8_t)n[5], (uint8_t)n[6], n[7], (size_t)n[8],
+            (uint8_t)n[9], (uint8_t)n[10]);
+    case CLAIM:
+        return xhci_device_claim(LENT, (uint8_t)n[0], (uint8_t)n[1], b[RINGS], (size_t)c[RINGS]);
+    case RELEASE:
+        return xhci_device_release(LENT, (uint8_t)n[0]);
+    case SET_CONFIGURATION:
+        return xhci_device_set_configuration(LENT, (uint8_t)n[0]);
+    case HUB_UPDATE:
+        return xhci_device_hub_update(LENT, (uint8_t)n[0], (uint8_t)n[1], (uint32_t)n[2]);
+    default:
+        exit(1);
+    }
+}
+
+static uint64_t ask(const struct request *r, void *b[BUFFERS]) {
+    switch (r->function) {
+    case IS_USABLE:
+        return xhci_device_is_usable(b[IMAGE], (size_t)r->count[IMAGE]);
+    case IS_SOUND:
+        return xhci_device_is_sound(b[IMAGE], (size_t)r->count[IMAGE]);
+    default:
+        return xhci_device_record_words();
+    }
+}
+
+int main(void) {
+    struct request r;
+    while (get(&r, sizeof r)) {
+        void *buffers[BUFFERS];
+        struct reply reply = {0, 0, 0, 0};
+        bool is_call = r.function <= HUB_UPDATE;
+        get_buffers(&r, buffers);
+        if (is_call) {
+            struct xhci_device_answered answered = make_call(&r, buffers);
+            reply = (struct reply){answered.answer, answered.code, answered.count, 0};
+        } else {
+            reply.value = ask(&r, buffers);
+        }
+        put(&reply, sizeof reply);
+        for (int i = 0; i < BUFFERS; i++) {
+            if (is_call && i < WRITTEN) {
+                put(buffers[i], (size_t)r.count[i] * size_of[i]);
+            }
+            free(buffers[i]);
+        }
+    }
+    return 0;
+}
