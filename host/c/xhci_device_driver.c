@@ -192,6 +192,17 @@ static bool append(struct xhci_device_pending *call, const uint32_t *words, size
     return true;
 }
 
+/* The same from the descriptor's bytes. */
+static bool append_bytes(struct xhci_device_pending *call, const uint8_t *bytes, size_t len) {
+    uint32_t words[XHCI_DEVICE_READ_WORDS];
+    struct xhci_device_answered read;
+    if (len == 0) {
+        return false;
+    }
+    read = xhci_device_read_descriptors(bytes, len, words, XHCI_DEVICE_READ_WORDS);
+    return read.answer == XHCI_DEVICE_ACCEPTED && append(call, words, read.count);
+}
+
 /* Takes what a command read; false where it cannot be used. */
 static bool learn(struct xhci_device_pending *call, const uint8_t *bytes, size_t bytes_len, const uint32_t *words,
                   size_t words_len) {
@@ -209,7 +220,7 @@ static bool learn(struct xhci_device_pending *call, const uint8_t *bytes, size_t
         call->unread = bytes_len >= DEVICE_DESCRIPTOR ? bytes[NUM_CONFIGURATIONS] : 0;
         return bytes_len >= DEVICE_DESCRIPTOR;
     case XHCI_DEVICE_OP_READ_CONFIG:
-        return append(call, words, words_len);
+        return words_len > 0 ? append(call, words, words_len) : append_bytes(call, bytes, bytes_len);
     default:
         return true;
     }

@@ -8,7 +8,13 @@
 enum { SLOT = 1, N = 2 };
 
 /* Configuration 1, interface 0: alternate 0 with endpoint 0x81, interrupt; alternate 1 with 0x81 and 0x02, bulk. */
-static const uint32_t configuration[] = {0x00400000, 0x40000000, 0xA3840410, 0x40004000, 0xA3840410, 0x85200000};
+static const uint8_t configuration[48] = {
+    9, 2, 48, 0, 1, 1, 0, 0x80, 50,
+    9, 4, 0, 0, 1, 0xFF, 0, 0, 0,
+    7, 5, 0x81, 3, 64, 0, 4,
+    9, 4, 0, 1, 2, 0xFF, 0, 0, 0,
+    7, 5, 0x81, 3, 64, 0, 4,
+    7, 5, 0x02, 2, 0, 2, 0};
 
 /* The device descriptor: 64 bytes for control, one configuration. */
 static const uint8_t descriptor[18] = {18, 1, 0, 2, 0, 0, 0, 64, 0x34, 0x12, 1, 0, 0, 1, 0, 0, 0, 1};
@@ -74,7 +80,7 @@ static void bus_send(struct xhci_device_pending *call, const uint64_t *all_route
         xhci_device_read_bytes(call, value_now, sizeof value_now);
         break;
     case XHCI_DEVICE_OP_READ_CONFIG:
-        xhci_device_read_words(call, configuration, sizeof configuration / sizeof configuration[0]);
+        xhci_device_read_bytes(call, configuration, sizeof configuration);
         break;
     default:
         xhci_device_done(call);

@@ -1,4 +1,5 @@
-/* The calls of Nuszkadorj, as libxhci_device.a has them (`rt staticlib xhci_device`).
+/* The functions of Nuszkadorj: the calls, as libxhci_device.a has them (`rt staticlib xhci_device`), and raw
+ * descriptors, as libxhci_descriptors.a has them (`rt staticlib xhci_descriptors`). Both may be linked.
  *
  * A slice is a pointer and a count of elements. The slices of one call must not overlap, and a pointer
  * may not be null, even with a count of 0. Nothing is kept after a call returns.
@@ -57,7 +58,7 @@ enum {
     XHCI_DEVICE_ACCEPTED = 0,
     XHCI_DEVICE_CONTEXT_LENGTH = 1,     /* the context is not 33 blocks of the record's spacing */
     XHCI_DEVICE_ROUTES_LENGTH = 2,      /* the routes are not 32 * (N + 1) words */
-    XHCI_DEVICE_LOG_TOO_SHORT = 3,      /* the log has less than LOG_ROOM words */
+    XHCI_DEVICE_LOG_TOO_SHORT = 3,      /* the log has less than LOG_ROOM words; raw descriptors: too little is lent */
     XHCI_DEVICE_DESCRIPTOR_LIST = 4,
     XHCI_DEVICE_HUB_CHAIN = 5,
     XHCI_DEVICE_SPEED = 6,
@@ -72,7 +73,8 @@ enum {
     XHCI_DEVICE_CUT = 15,               /* no outcome was left for a command */
     XHCI_DEVICE_SHORT_HEADER = 16,
     XHCI_DEVICE_QUEUE_FULL = 17,        /* bring-up: the slot has a route for control */
-    XHCI_DEVICE_INVALID_ENDPOINT = 18   /* an old endpoint's route is not its ring */
+    XHCI_DEVICE_INVALID_ENDPOINT = 18,  /* an old endpoint's route is not its ring */
+    XHCI_DEVICE_MALFORMED = 20          /* raw descriptors: malformed bytes, or an endpoint word with packets 0 */
 };
 
 /* The answer in words. */
@@ -97,15 +99,16 @@ static inline const char *xhci_device_answer_name(uint32_t answer) {
     case XHCI_DEVICE_SHORT_HEADER: return "the header read has not 8 bytes";
     case XHCI_DEVICE_QUEUE_FULL: return "the control endpoint's route is taken";
     case XHCI_DEVICE_INVALID_ENDPOINT: return "an endpoint's route is not its ring";
+    case XHCI_DEVICE_MALFORMED: return "the descriptors are malformed";
     default: return "an answer without a name";
     }
 }
 
-/* What a call returns. */
+/* What a function returns. */
 struct xhci_device_answered {
     uint32_t answer;
     uint32_t code;  /* of 13, else 0 */
-    size_t count;   /* how many words were logged */
+    size_t count;   /* how many words were logged; raw descriptors: how many words or bytes were written */
 };
 
 /* A record is an image of so many words, one for each number and each element of its arrays.
@@ -190,6 +193,20 @@ struct xhci_device_answered xhci_device_hub_update(
     uint64_t *image, size_t image_len, uint8_t *ctx, size_t ctx_len, uint64_t *routes, size_t routes_len,
     uint32_t *log, size_t log_len, const uint8_t *outcomes, size_t outcomes_len,
     uint8_t ports, uint8_t multi, uint32_t ns);
+
+/* Raw configuration descriptors (USB 2.0 section 9.6) to descriptor words, into the first of 256 words or more:
+ * 0, or the first of 3, 20 and 4. A refusal changes nothing, and words past the count keep their contents.
+ */
+#define XHCI_DEVICE_READ_WORDS 256
+
+struct xhci_device_answered xhci_device_read_descriptors(
+    const uint8_t *bytes, size_t bytes_len, uint32_t *words, size_t words_len);
+
+/* Descriptor words to raw descriptors, into the first of 2,304 bytes or more: 0, or the first of 3, 4 and 20. */
+#define XHCI_DEVICE_WRITE_BYTES 2304
+
+struct xhci_device_answered xhci_device_write_descriptors(
+    const uint32_t *list, size_t list_len, uint8_t *bytes, size_t bytes_len);
 
 #ifdef __cplusplus
 }

@@ -53,8 +53,8 @@ struct xhci_device_attached {
 };
 
 /* The code of a command that was done but brought what a bring-up cannot use: no byte of a configuration value,
- * less than the 18 bytes of a device descriptor, more than 8 configurations, words that are not one
- * configuration, or words with which the list is not valid. */
+ * less than the 18 bytes of a device descriptor, more than 8 configurations, malformed descriptors, words that are
+ * not one configuration, or words with which the list is not valid. */
 #define XHCI_DEVICE_UNREADABLE 255
 
 /* A call that is being driven. What it points to must stay where it is until the end. */
@@ -110,9 +110,9 @@ bool xhci_device_next(struct xhci_device_pending *call, uint64_t *routes, size_t
 /* The outcome of the command that was to be sent; where none was, it is not taken.
  * Done, and there was nothing to read: */
 void xhci_device_done(struct xhci_device_pending *call);
-/* done, with the bytes that the device sent, for ReadHeader, ReadConfiguration and ReadDevice: */
+/* done, with the bytes that the device sent, for ReadConfig the configuration descriptor with all that follows it: */
 void xhci_device_read_bytes(struct xhci_device_pending *call, const uint8_t *bytes, size_t len);
-/* done, with the descriptor words of the configuration, for ReadConfig: one of kind 0, then the others: */
+/* done, for ReadConfig, with the descriptor words of the configuration instead: one of kind 0, then the others: */
 void xhci_device_read_words(struct xhci_device_pending *call, const uint32_t *words, size_t len);
 /* failed, with a code of your own (0 counts as 255): */
 void xhci_device_failed(struct xhci_device_pending *call, uint8_t code);

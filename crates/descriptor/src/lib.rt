@@ -27,25 +27,25 @@ pub const ALTERNATE: u8 = 1;
 pub const ENDPOINT: u8 = 2;
 
 // The lowest bit of each field of a descriptor word (`_LSB`).
-const KIND_LSB: u32 = 0x4000_0000;
+pub const KIND_LSB: u32 = 0x4000_0000;
 
-const VALUE_LSB: u32 = 0x40_0000;
+pub const VALUE_LSB: u32 = 0x40_0000;
 
-const INTERFACE_LSB: u32 = 0x40_0000;
+pub const INTERFACE_LSB: u32 = 0x40_0000;
 
-const SETTING_LSB: u32 = 0x4000;
+pub const SETTING_LSB: u32 = 0x4000;
 
-const IN_LSB: u32 = 0x2000_0000;
+pub const IN_LSB: u32 = 0x2000_0000;
 
-const NUMBER_LSB: u32 = 0x200_0000;
+pub const NUMBER_LSB: u32 = 0x200_0000;
 
-const TYPE_LSB: u32 = 0x80_0000;
+pub const TYPE_LSB: u32 = 0x80_0000;
 
-const PACKET_SIZE_LSB: u32 = 0x1000;
+pub const PACKET_SIZE_LSB: u32 = 0x1000;
 
-const PACKETS_LSB: u32 = 0x400;
+pub const PACKETS_LSB: u32 = 0x400;
 
-const INTERVAL_LSB: u32 = 0x4;
+pub const INTERVAL_LSB: u32 = 0x4;
 
 const IN_15: u32 = 31;
 

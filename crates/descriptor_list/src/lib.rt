@@ -16,7 +16,7 @@ pub enum Found {
 }
 
 // How many endpoint words stand from an index on.
-fn endpoint_run(list: &[u32], from: usize) -> usize
+pub fn endpoint_run(list: &[u32], from: usize) -> usize
     ensures { λ r. ⌜ r ≡ endpointRun (drop from (now (list .entry))) ⌝ }
 {
     let mut i = from;

@@ -1,5 +1,8 @@
-//! Each call of library and original over the same inputs: instructions, counted by callgrind, and time.
+//! Each call of library and original over the same inputs, and the library's functions on raw descriptors: instructions,
+//! counted by callgrind, and time.
 #![forbid(unsafe_code)]
+
+mod raw;
 
 use std::process::{Command, ExitCode};
 
@@ -8,12 +11,13 @@ use scenario::{Answer, Cannot, Scenario, Session, Step, parse, start_clock, stop
 
 const INPUTS: &str = include_str!("../inputs.txt");
 const HELP: &str = "\
-usage: bench [--calls LAYER NAME TIMES]
+usage: bench [--functions | --calls LAYER NAME TIMES]
 
 Prints a table of each call of library and original over the inputs of host/bench/inputs.txt: instructions, counted by
-valgrind where it is there, and time.
+valgrind where it is there, and time; then a table of the library's functions on raw descriptors.
 
-  --calls LAYER NAME TIMES   only run the last call of the input NAME so many times
+  --functions                print the second table only
+  --calls LAYER NAME TIMES   only run the last call, or the function, of the input NAME so many times
   --help                     print this
   --version                  print the version
 
@@ -84,36 +88,53 @@ fn row(scenario: &Scenario) -> Result<String, Cannot> {
     Ok(format!("| {name} | {} | {} | {counts} {times}", answer.number, answer.count))
 }
 
-/// The table, as long as somebody reads it.
-fn table(scenarios: &[Scenario]) -> Result<(), Cannot> {
+/// The table of the functions on raw descriptors, which the original has not, as long as somebody reads it.
+fn functions() -> Result<(), Cannot> {
+    let title = "| function | bytes | answer | instructions | a byte | ns | a byte |";
+    let mut read = print(&format!("{title}\n|---|---|---|---|---|---|---|\n"));
+    for (name, question) in raw::inputs() {
+        read = read && print(&format!("{}\n", raw::row(&name, &question).ok_or(Cannot::NoSuchInput)?));
+    }
+    Ok(())
+}
+
+fn tables(scenarios: &[Scenario]) -> Result<(), Cannot> {
     let title = "| call | answer | commands | library | original | ratio | library, ns | original, ns | ratio |";
     let mut read = print(&format!("{title}\n|---|---|---|---|---|---|---|---|---|\n"));
     for scenario in scenarios {
         read = read && print(&format!("{}\n", row(scenario)?));
     }
-    Ok(())
+    if read && print("\n") { functions() } else { Ok(()) }
+}
+
+/// Repeats the call or function of that name. None: there is none.
+fn only(scenarios: &[Scenario], layer: &str, name: &str, times: u32) -> Option<Result<(), Cannot>> {
+    if let Some(scenario) = scenarios.iter().find(|s| s.name == name) {
+        return Some(repeat(layer, scenario, times).map(drop));
+    }
+    let (_, question) = raw::inputs().into_iter().find(|(of, _)| of == name)?;
+    Some(raw::repeat(layer, &question, times).map(drop).ok_or(Cannot::NoSuchInput))
 }
 
 fn main() -> ExitCode {
     if let Some(code) = asked("bench", HELP) {
         return code;
     }
-    let scenarios = parse(INPUTS).expect("inputs.txt");
+    let scenarios = parse(INPUTS).expect("inputs.txt").scenarios;
     let arguments: Vec<String> = std::env::args().skip(1).collect();
     let words: Vec<&str> = arguments.iter().map(String::as_str).collect();
     let done = match words[..] {
-        [] => table(&scenarios),
-        ["--calls", layer, name, times] => match (scenarios.iter().find(|s| s.name == name), times.parse()) {
-            (Some(scenario), Ok(times)) => repeat(layer, scenario, times).map(drop),
-            _ => return fail("there is no such input, or TIMES is no number"),
-        },
+        [] => Some(tables(&scenarios)),
+        ["--functions"] => Some(functions()),
+        ["--calls", layer, name, times] => times.parse().ok().and_then(|times| only(&scenarios, layer, name, times)),
         _ => return fail(HELP),
     };
     match done {
-        Ok(()) => ExitCode::SUCCESS,
-        Err(cannot) => {
+        Some(Ok(())) => ExitCode::SUCCESS,
+        Some(Err(cannot)) => {
             fail(&format!("a layer is not here or does not answer: {cannot:?}"));
             ExitCode::FAILURE
         }
+        None => fail("there is no such input, or TIMES is no number"),
     }
 }

@@ -1,8 +1,6 @@
 //! House words of 01 and what is made of them.
 
-use scenario::{BringUp, Buffers};
-
-use crate::case::log;
+use scenario::{BringUp, Buffers, LOG_LEN, filled_words};
 
 pub const ISOCHRONOUS: u32 = 1;
 pub const BULK: u32 = 2;
@@ -72,7 +70,7 @@ pub fn rings_wanted(list: &[u32], interface: u8, alternate: u8) -> usize {
 }
 
 pub fn buffers(ctx: Vec<u8>, routes: Vec<u64>, outcomes: Vec<u8>) -> Buffers {
-    Buffers { ctx, routes, log: log(64), outcomes }
+    Buffers { ctx, routes, log: filled_words(LOG_LEN), outcomes }
 }
 
 /// A plain bring-up of slot 1 of 2 with a list.

@@ -1,6 +1,6 @@
 //! One call with all that it is given.
 
-use scenario::{Buffers, Call, LOG_FILL, Record, Scenario, Step};
+use scenario::{Buffers, Call, Record, Scenario, Step};
 
 #[derive(Clone, Debug)]
 pub struct Case {
@@ -10,10 +10,6 @@ pub struct Case {
     pub buffers: Buffers,
     /// Whether the record is as a call returned it, but for the order of its arrays.
     pub genuine: bool,
-}
-
-pub fn log(len: usize) -> Vec<u32> {
-    (0..len as u32).map(|i| LOG_FILL + i).collect()
 }
 
 impl Case {

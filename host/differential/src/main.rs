@@ -1,4 +1,4 @@
-//! Holds two layers against each other, call by call.
+//! Holds two layers against each other, call by call, and their functions outside a slot.
 #![forbid(unsafe_code)]
 
 mod build;
@@ -7,6 +7,7 @@ mod compare;
 mod exhaustive;
 mod faults;
 mod random;
+mod raw;
 mod refusal;
 mod rng;
 mod rows;
@@ -25,17 +26,21 @@ use store::Store;
 use tally::Tally;
 
 const HELP: &str = "\
-usage: differential [--reference LAYER] [--subject LAYER] [--seed N] [--calls N] [--part PART] [--sample] [--store FOLDER]
+usage: differential [--reference LAYER] [--subject LAYER] [--seed N] [--calls N] [--cases N]
+                    [--part PART] [--sample] [--store FOLDER]
 
-Holds two layers against each other, call by call; layers are library, model and original.
+Holds two layers against each other, call by call, and their functions outside a slot; layers are library, model and
+original.
 
   --reference LAYER   what is right (original)
   --subject LAYER     what is judged (library)
   --seed N            of the random calls (1)
   --calls N           how many of them (600000)
+  --cases N           how many random cases of raw descriptors (2000000)
   --part PART         one part instead of all: refusals, records, routes, outcomes, intervals, ports, packets, think,
-                      slots or random
-  --sample            print a small scenario for each call and answer instead of the counts
+                      slots, random or raw (which the original has not)
+  --sample            print a small scenario for each call and answer, or case for each function and answer, instead
+                      of the counts
   --store FOLDER      write a sample of the reference's answers to original_CALL/stdin and stdout in FOLDER
   --help              print this
   --version           print the version
@@ -48,8 +53,10 @@ struct Options {
     subject: String,
     seed: u64,
     calls: u64,
+    /// Random cases of the part raw.
+    cases: u64,
     part: Option<String>,
-    /// Print a small scenario for each call and answer instead of the counts.
+    /// Print a small scenario for each call and answer, or case for each function and answer, instead of the counts.
     sample: bool,
     /// Write a sample of the reference's answers to replay_CALL/stdin and stdout in this folder.
     store: Option<PathBuf>,
@@ -61,6 +68,7 @@ fn options() -> Result<Options, String> {
         subject: "library".to_string(),
         seed: 1,
         calls: 600_000,
+        cases: 2_000_000,
         part: None,
         sample: false,
         store: None,
@@ -78,12 +86,15 @@ fn options() -> Result<Options, String> {
             "--subject" => options.subject = value()?,
             "--seed" => options.seed = number(value()?)?,
             "--calls" => options.calls = number(value()?)?,
+            "--cases" => options.cases = number(value()?)?,
             "--part" => options.part = Some(value()?),
             "--store" => options.store = Some(value()?.into()),
             _ => return Err(format!("there is no option '{key}'")),
         }
     }
-    let is_part = |name: &String| name == "random" || exhaustive::PARTS.iter().any(|part| part.0 == name);
+    let is_part = |name: &String| {
+        ["random", "raw"].contains(&name.as_str()) || exhaustive::PARTS.iter().any(|part| part.0 == name)
+    };
     match options.part.as_ref().filter(|name| !is_part(name)) {
         Some(name) => Err(format!("there is no part '{name}'")),
         None => Ok(options),
@@ -98,8 +109,22 @@ fn main() -> ExitCode {
         Ok(options) => options,
         Err(message) => return fail(&message),
     };
+    let done = match options.part.as_deref() {
+        Some("raw") => raw(&options),
+        Some(_) => calls(&options),
+        None => calls(&options).and_then(|passed| Ok(raw_if_there(&options)? && passed)),
+    };
+    match done {
+        Ok(true) => ExitCode::SUCCESS,
+        Ok(false) => ExitCode::FAILURE,
+        Err(message) => fail(&message),
+    }
+}
+
+/// The calls on a slot. False: a difference.
+fn calls(options: &Options) -> Result<bool, String> {
     let (Some(reference), Some(subject)) = (runner::layer(&options.reference), runner::layer(&options.subject)) else {
-        return fail(&format!("one of '{}' and '{}' is not here", options.reference, options.subject));
+        return Err(format!("one of '{}' and '{}' is not here", options.reference, options.subject));
     };
     let mut pair = Pair { reference, subject, listed: options.reference == "original" };
     let mut tally = Tally::default();
@@ -114,26 +139,48 @@ fn main() -> ExitCode {
         tally.part("random", |tally| random::run(&mut pair, tally, options.seed, options.calls));
     }
     if tally.calls() == 0 {
-        return fail("there was nothing to compare");
+        return Err("there was nothing to compare".to_string());
     }
     if options.sample {
         print(&tally.sample(&mut pair));
-        return ExitCode::SUCCESS;
+        return Ok(true);
     }
-    if let (Some(folder), Some(store)) = (&options.store, tally.store.take())
-        && let Err(e) = write(folder, &store, &mut pair)
-    {
-        return fail(&format!("{}: {e}", folder.display()));
+    if let (Some(folder), Some(store)) = (&options.store, tally.store.take()) {
+        write(folder, &store, &mut pair).map_err(|e| format!("{}: {e}", folder.display()))?;
     }
     print(&format!("{} against {}, seed {}\n", options.subject, options.reference, options.seed));
     print(&tally.text(start.elapsed()));
-    match tally.first_difference(&mut pair) {
-        None => ExitCode::SUCCESS,
-        Some(text) => {
-            print(&format!("{text}\n"));
-            ExitCode::FAILURE
-        }
+    let difference = tally.first_difference(&mut pair);
+    if let Some(text) = &difference {
+        print(&format!("{text}\n"));
     }
+    Ok(difference.is_none())
+}
+
+/// The functions on raw descriptors. False: a difference, or an answer that was not met.
+fn raw(options: &Options) -> Result<bool, String> {
+    let Options { reference, subject, seed, cases, sample, .. } = options;
+    let functions = |name: &str| runner::functions(name).ok_or(format!("'{name}' has no functions outside a slot"));
+    let pair = raw::Pair { reference: functions(reference)?, subject: functions(subject)? };
+    let (mut tally, start) = (raw::Tally::default(), Instant::now());
+    raw::run(&pair, &mut tally, *seed, *cases);
+    if *sample {
+        print(&tally.sample(&pair));
+        return Ok(true);
+    }
+    print(&format!("raw descriptors, {subject} against {reference}, seed {seed}\n"));
+    print(&tally.text(start.elapsed()));
+    let difference = tally.first_difference(&pair);
+    if let Some(text) = &difference {
+        print(&format!("{text}\n"));
+    }
+    Ok(difference.is_none() && tally.missing().is_empty())
+}
+
+/// The same where both layers have them.
+fn raw_if_there(options: &Options) -> Result<bool, String> {
+    let there = [&options.reference, &options.subject].iter().all(|name| runner::functions(name).is_some());
+    if there { raw(options) } else { Ok(true) }
 }
 
 fn write(folder: &Path, store: &Store, pair: &mut Pair) -> std::io::Result<()> {

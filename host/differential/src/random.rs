@@ -1,9 +1,9 @@
 //! Random scenarios: a bring-up and calls after it, each given what the last one left.
 
-use scenario::{BringUp, Buffers, Call, Claim, HubUpdate, Record};
+use scenario::{BringUp, Buffers, Call, Claim, HubUpdate, Record, filled_words};
 
 use crate::build::*;
-use crate::case::{Case, log};
+use crate::case::Case;
 use crate::compare::Pair;
 use crate::rng::Rng;
 use crate::tally::Tally;
@@ -109,8 +109,8 @@ fn given(rng: &mut Rng, ctx: &[u8], routes: &[u64], all_done: u64) -> Buffers {
             1 => buffers.ctx.push(0),
             2 => drop(buffers.routes.pop()),
             3 => buffers.routes.push(7),
-            4 => buffers.log = log(rng.index(64)),
-            _ => buffers.log = log(64 + rng.index(100)),
+            4 => buffers.log = filled_words(rng.index(64)),
+            _ => buffers.log = filled_words(64 + rng.index(100)),
         }
     }
     buffers
@@ -157,7 +157,7 @@ fn word(rng: &mut Rng, numbers: u64) -> u32 {
 }
 
 /// A valid list; small numbers, so that addresses meet.
-fn list(rng: &mut Rng) -> Vec<u32> {
+pub fn list(rng: &mut Rng) -> Vec<u32> {
     let mut list = Vec::new();
     for _ in 0..rng.of(&[0, 1, 1, 1, 2, 2, 3, 8]) {
         list.push(configuration(rng.byte()));
@@ -179,7 +179,7 @@ fn interface(rng: &mut Rng) -> u8 {
 }
 
 /// Lists that break one rule.
-fn broken_list(rng: &mut Rng) -> Vec<u32> {
+pub fn broken_list(rng: &mut Rng) -> Vec<u32> {
     let mut list = list(rng);
     match rng.below(9) {
         0 => list.insert(0, alternate(0, 0)),

@@ -98,7 +98,7 @@ pub fn chain_fault(args: &BringUp) -> Option<&'static str> {
 }
 
 /// What is wrong with a list of descriptor words.
-fn list_fault(list: &[u32]) -> bool {
+pub fn list_fault(list: &[u32]) -> bool {
     let kinds: Vec<u32> = list.iter().map(|w| w >> 30).collect();
     let mut interfaces: Vec<u32> = list.iter().filter(|w| *w >> 30 == 1).map(|w| w >> 22 & 0xFF).collect();
     interfaces.sort();

@@ -1,10 +1,10 @@
-//! The proved library as a `Layer`.
+//! The proved library as a `Layer`, and its functions outside a slot.
 #![forbid(unsafe_code)]
 
 pub mod words;
 
-use scenario::{Answer, BringUp, Buffers, Cannot, Claim, HubUpdate, Layer, Outcome, Record, proper};
-use xhci_device::{Memory, SlotId};
+use scenario::{Answer, BringUp, Buffers, Cannot, Claim, Functions, HubUpdate, Layer, Outcome, Record, Reply, proper};
+use xhci_device::{Memory, RawRefusal, SlotId};
 
 pub struct Library;
 
@@ -58,5 +58,22 @@ impl Layer for Library {
 
     fn hub_update(&mut self, record: &Record, args: &HubUpdate, buffers: &mut Buffers) -> Outcome {
         on(record, |r| r.hub_update(memory(buffers), args.ports, args.multi, args.think))
+    }
+}
+
+fn replied(result: Result<usize, RawRefusal>) -> Reply {
+    match result {
+        Ok(count) => Reply { number: 0, count },
+        Err(refusal) => Reply { number: refusal.number(), count: 0 },
+    }
+}
+
+impl Functions for Library {
+    fn read_descriptors(&self, bytes: &[u8], words: &mut [u32]) -> Reply {
+        replied(proper(|| xhci_device::read_descriptors(bytes, words)))
+    }
+
+    fn write_descriptors(&self, list: &[u32], bytes: &mut [u8]) -> Reply {
+        replied(proper(|| xhci_device::write_descriptors(list, bytes)))
     }
 }

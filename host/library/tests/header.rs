@@ -1,6 +1,6 @@
 //! The header for C says what the binding says.
 
-use xhci_device::{Answer, Command, Record};
+use xhci_device::{Answer, Command, RawRefusal, Record};
 
 const HEADER: &str = include_str!("../../include/xhci_device.h");
 
@@ -29,12 +29,17 @@ fn answers_have_their_numbers_and_names() {
         else {
             continue;
         };
-        let answer = Answer::of(number(name) as u8, 0).expect("an answer");
-        let words = answer.to_string();
+        let words = match Answer::of(number(name) as u8, 0) {
+            Some(answer) => answer.to_string(),
+            None => {
+                assert_eq!(number(name), usize::from(RawRefusal::Malformed.number()));
+                RawRefusal::Malformed.to_string()
+            }
+        };
         assert_eq!(text.trim_end_matches("\";"), words.trim_end_matches(", with code 0"), "{name}");
         count += 1;
     }
-    assert_eq!((count, Answer::of(count, 0)), (19, None));
+    assert_eq!((count, Answer::of(19, 0)), (20, None));
 }
 
 #[test]

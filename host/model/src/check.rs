@@ -7,7 +7,7 @@ use crate::topology::{chain, think_time};
 
 type Checked = Result<(), u8>;
 
-fn ask(holds: bool, number: u8) -> Checked {
+pub fn ask(holds: bool, number: u8) -> Checked {
     if holds { Ok(()) } else { Err(number) }
 }
 

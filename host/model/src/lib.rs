@@ -1,16 +1,20 @@
 //! The five calls once more, in plain Rust, read from 01 and from docs/DECISIONS.md, not from the Rattle sources: a
 //! second reading to hold the library against. docs/BEHAVIOUR.md tells what they do.
+//! The functions outside a slot are read from 02.
 #![forbid(unsafe_code)]
 
 mod check;
 mod context;
 mod course;
 mod list;
+mod raw;
 mod topology;
 
-use scenario::{Answer, BringUp, Buffers, Claim, HubUpdate, Layer, Outcome, Record};
+use scenario::{Answer, BringUp, Buffers, Claim, Functions, HubUpdate, Layer, Outcome, Record, Reply};
 
 use course::{Course, Ended};
+
+pub use raw::{Ground, grounds};
 
 pub struct Model;
 
@@ -72,5 +76,26 @@ impl Layer for Model {
         let mut course = Course::new(record.clone(), buffers);
         let result = course.hub_update(args);
         ended(course, result)
+    }
+}
+
+/// "What is lent past the output, here and later, keeps its contents." Refusals act as 1 to 12 do.
+fn replied<T: Copy>(result: Result<Vec<T>, u8>, memory: &mut [T]) -> Reply {
+    match result {
+        Err(number) => Reply { number, count: 0 },
+        Ok(written) => {
+            memory[..written.len()].copy_from_slice(&written);
+            Reply { number: 0, count: written.len() }
+        }
+    }
+}
+
+impl Functions for Model {
+    fn read_descriptors(&self, bytes: &[u8], words: &mut [u32]) -> Reply {
+        replied(raw::read(bytes, words.len()), words)
+    }
+
+    fn write_descriptors(&self, list: &[u32], bytes: &mut [u8]) -> Reply {
+        replied(raw::write(list, bytes.len()), bytes)
     }
 }

@@ -37,14 +37,14 @@ pub fn dci(address: u8) -> u8 {
     2 * (address & 15) + (address >> 7)
 }
 
-enum Word {
+pub enum Word {
     Configuration(u8),
     Alternate(u8, u8),
     Endpoint(EndpointWord),
 }
 
 /// None where no list may have the word.
-fn word(word: u32) -> Option<Word> {
+pub fn word(word: u32) -> Option<Word> {
     let (read, used) = match bits(word, 0, 2) {
         0 => (Word::Configuration(bits(word, 2, 8) as u8), 10),
         1 => (Word::Alternate(bits(word, 2, 8) as u8, bits(word, 10, 8) as u8), 18),

@@ -1,4 +1,4 @@
-//! Runs scenarios and prints what each call leaves.
+//! Runs scenarios and cases and prints what each call and each function leaves.
 #![forbid(unsafe_code)]
 
 use std::fs::File;
@@ -6,12 +6,13 @@ use std::io::{self, BufRead, BufReader, Write};
 use std::process::ExitCode;
 
 use runner::program::{asked, fail};
-use scenario::{Event, Given, Layer, Malformed, Reader, Session, Step, explain_text, left_text};
+use scenario::{Case, Event, Functions, Given, Layer, Malformed, Reader, Session, Step, explain_text, left_text};
 
 const HELP: &str = "\
 usage: scenario [--explain] [--layer LAYER] FILE
 
-Runs the scenarios of FILE (- is standard input) and prints what each call leaves; docs/SCENARIOS.md has the form.
+Runs the scenarios and cases of FILE (- is standard input) and prints what each call and each function leaves;
+docs/SCENARIOS.md has the form.
 
   --explain        print each call for people
   --layer LAYER    who answers: library (the default), model or original
@@ -57,20 +58,38 @@ fn marked(line: &[u8]) -> Option<String> {
     mark.map(|(_, message)| format!("line 1: {message}"))
 }
 
-/// Runs a call and adds what it left to the text.
-fn call(session: &mut Session, layer: &mut dyn Layer, step: &Step, explain: bool, text: &mut String) {
-    let (record, given) = session.prepare(step);
-    let mut buffers = given.clone();
-    match layer.call(&record, &step.call, &mut buffers) {
-        Err(cannot) => text.push_str(&format!("no answer: {cannot:?}\n.\n")),
-        Ok((returned, answer)) => {
-            let left = session.settle(returned, answer, buffers);
-            if explain {
-                let given = Given { call: &step.call, record: &record, buffers: &given };
-                explain_text(text, layer, &given, &left);
-            } else {
-                left_text(text, &left);
+/// Whoever answers, and how it is printed.
+struct Asked {
+    layer: Box<dyn Layer>,
+    functions: Option<Box<dyn Functions>>,
+    explain: bool,
+}
+
+impl Asked {
+    /// Runs a call and adds what it left to the text.
+    fn call(&mut self, session: &mut Session, step: &Step, text: &mut String) {
+        let (record, given) = session.prepare(step);
+        let mut buffers = given.clone();
+        match self.layer.call(&record, &step.call, &mut buffers) {
+            Err(cannot) => text.push_str(&format!("no answer: {cannot:?}\n.\n")),
+            Ok((returned, answer)) => {
+                let left = session.settle(returned, answer, buffers);
+                if self.explain {
+                    let given = Given { call: &step.call, record: &record, buffers: &given };
+                    explain_text(text, &mut *self.layer, &given, &left);
+                } else {
+                    left_text(text, &left);
+                }
             }
+        }
+    }
+
+    /// Runs a case and adds what its function left to the text.
+    fn case(&self, case: &Case, text: &mut String) {
+        match &self.functions {
+            None => text.push_str("no answer: this layer has no functions outside a slot\n.\n"),
+            Some(functions) if self.explain => case.explain(&**functions, text),
+            Some(functions) => case.run(&**functions, text),
         }
     }
 }
@@ -94,7 +113,7 @@ impl From<Malformed> for Ends {
     }
 }
 
-fn run(mut input: impl BufRead, layer: &mut dyn Layer, explain: bool, out: &mut impl Write) -> Result<(), Ends> {
+fn run(mut input: impl BufRead, asked: &mut Asked, out: &mut impl Write) -> Result<(), Ends> {
     if let Some(message) = marked(input.fill_buf()?) {
         return Err(Ends::Wrong(message));
     }
@@ -108,11 +127,12 @@ fn run(mut input: impl BufRead, layer: &mut dyn Layer, explain: bool, out: &mut 
         match event {
             Some(Event::Begin(name)) => {
                 session = Session::new();
-                if explain {
+                if asked.explain {
                     text = format!("scenario {name}\n\n");
                 }
             }
-            Some(Event::Call(step)) => call(&mut session, layer, &step, explain, &mut text),
+            Some(Event::Call(step)) => asked.call(&mut session, &step, &mut text),
+            Some(Event::Case(case)) => asked.case(&case, &mut text),
             Some(Event::End) | None => {}
         }
         out.write_all(text.as_bytes())?;
@@ -120,7 +140,7 @@ fn run(mut input: impl BufRead, layer: &mut dyn Layer, explain: bool, out: &mut 
     }
     reader.finish()?;
     out.flush()?;
-    if empty { Err(Ends::Wrong("there is no scenario in the file".to_string())) } else { Ok(()) }
+    if empty { Err(Ends::Wrong("there is neither a scenario nor a case in the file".to_string())) } else { Ok(()) }
 }
 
 fn main() -> ExitCode {
@@ -131,14 +151,16 @@ fn main() -> ExitCode {
         Ok(options) => options,
         Err(message) => return fail(&message),
     };
-    let Some(mut layer) = runner::layer(&layer) else {
+    let functions = runner::functions(&layer);
+    let Some(layer) = runner::layer(&layer) else {
         return fail(&format!("there is no layer '{layer}' here"));
     };
+    let mut asked = Asked { layer, functions, explain };
     let mut out = io::BufWriter::new(io::stdout().lock());
     let result = match file.as_str() {
-        "-" => run(io::stdin().lock(), &mut *layer, explain, &mut out),
+        "-" => run(io::stdin().lock(), &mut asked, &mut out),
         path => match File::open(path) {
-            Ok(file) => run(BufReader::new(file), &mut *layer, explain, &mut out),
+            Ok(file) => run(BufReader::new(file), &mut asked, &mut out),
             Err(e) => Err(Ends::Wrong(format!("{path}: {e}"))),
         },
     };

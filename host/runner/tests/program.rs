@@ -1,4 +1,4 @@
-//! The program: the shipped scenario, and lines that are not of the form.
+//! The program: the shipped scenario and cases, and lines that are not of the form.
 
 use std::io::Write;
 use std::process::{Command, Output, Stdio};
@@ -28,6 +28,38 @@ fn the_shipped_scenario() {
     if runner::layer("original").is_some() {
         assert_eq!(run(&["--layer", "original", "-"], SWITCH).stdout, plain.stdout);
     }
+}
+
+const DESCRIPTORS: &str = include_str!("../scenarios/descriptors.txt");
+
+#[test]
+fn the_shipped_cases() {
+    for layer in ["library", "model"] {
+        let plain = run(&["--layer", layer, "-"], DESCRIPTORS);
+        assert_eq!(plain.status.code(), Some(0));
+        assert_eq!(String::from_utf8_lossy(&plain.stdout), include_str!("../scenarios/descriptors.out"));
+        let explained = run(&["--layer", layer, "--explain", "-"], DESCRIPTORS);
+        assert_eq!(String::from_utf8_lossy(&explained.stdout), include_str!("../scenarios/descriptors.explained"));
+    }
+}
+
+#[test]
+fn the_original_has_no_functions_for_cases() {
+    if runner::layer("original").is_some() {
+        let asked = run(&["--layer", "original", "-"], "case a\nrawread\ngo\n");
+        assert_eq!(asked.status.code(), Some(0));
+        let expected = "no answer: this layer has no functions outside a slot\n.\n";
+        assert_eq!(String::from_utf8_lossy(&asked.stdout), expected);
+    }
+}
+
+#[test]
+fn a_malformed_line_of_a_case_ends_the_run() {
+    let ended = run(&["-"], "case a\nrawread\nroom 0\ngo\ncase b\nrawread\nbytes 0\ngo\n");
+    assert_eq!(ended.status.code(), Some(2));
+    assert_eq!(String::from_utf8_lossy(&ended.stdout), "answer 3 0\nwords\n.\n");
+    assert_eq!(String::from_utf8_lossy(&ended.stderr), "line 7: bytes are two hexadecimal digits each\n");
+    assert_eq!(run(&["-"], "case a\nrawread\n").status.code(), Some(2));
 }
 
 #[test]

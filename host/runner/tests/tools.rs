@@ -36,9 +36,9 @@ fn wrong_arguments() {
 }
 
 #[test]
-fn files_that_hold_no_scenario() {
+fn files_that_hold_nothing() {
     for empty in [&b""[..], b"\n", b"# a comment\n  \n"] {
-        refused(&["-"], empty, "there is no scenario in the file");
+        refused(&["-"], empty, "there is neither a scenario nor a case in the file");
     }
     let marked = "line 1: the file begins with a byte order mark; save it as UTF-8 without one";
     refused(&["-"], b"\xEF\xBB\xBFscenario a\nend\n", marked);

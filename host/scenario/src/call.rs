@@ -117,7 +117,6 @@ pub struct Step {
 }
 
 pub const LOG_LEN: usize = 64;
-pub const LOG_FILL: u32 = 0xA500_0000;
 
 impl Step {
     pub fn new(call: Call) -> Step {

@@ -4,13 +4,14 @@ use std::fmt::Write;
 
 use crate::call::*;
 use crate::context_text::{explain_changes, explain_flags};
+use crate::descriptors::explain_words;
 use crate::layer::Layer;
 use crate::reason::reason;
 use crate::record_text::explain_record;
 use crate::session::Left;
 
 /// 01's numbers in words.
-fn answer(number: u8) -> &'static str {
+pub fn answer(number: u8) -> &'static str {
     match number {
         0 => "accepted",
         1 => "refused: the context has a wrong length",
@@ -107,10 +108,13 @@ pub struct Given<'a> {
 }
 
 /// What a call did: its commands with their outcomes and what they read of the context, its answer, the routes that
-/// changed, and the record it returned.
+/// changed, and the record it returned. Of a bring-up also the list.
 pub fn explain_text(out: &mut String, layer: &mut dyn Layer, given: &Given, left: &Left) {
     let Answer { number, code, .. } = left.answer;
     let _ = writeln!(out, "{}", title(given.call));
+    if let Call::BringUp(args) = given.call {
+        explain_words(out, &args.list);
+    }
     commands(out, layer, given, left);
     let _ = write!(out, "  answer {number}: {}", answer(number));
     let _ = if number == 13 { writeln!(out, ", with code {code}") } else { writeln!(out) };

@@ -1,9 +1,10 @@
-//! Scenarios from text, a line at a time.
+//! Scenarios and cases from text, a line at a time.
 
-use std::fmt;
-use std::str::SplitWhitespace;
+use std::{fmt, mem};
 
 use crate::call::*;
+use crate::case::{Case, kind};
+use crate::value::*;
 
 /// The first line that is not of the form, counted from 1.
 #[derive(Clone, Debug, PartialEq, Eq)]
@@ -19,69 +20,12 @@ impl fmt::Display for Malformed {
 }
 
 /// What a line completes.
-#[derive(Clone, Debug, PartialEq, Eq)]
+#[derive(Debug)]
 pub enum Event {
     Begin(String),
     Call(Box<Step>),
     End,
-}
-
-/// Words of a line after its key.
-type Words<'a> = SplitWhitespace<'a>;
-type Parsed<T> = Result<T, String>;
-
-/// The most words of routes or log that a call may be given, so that a slip of the pen asks for no gigabytes.
-const MOST_WORDS: usize = 1 << 24;
-
-fn word<'a>(words: &mut Words<'a>, what: &str) -> Parsed<&'a str> {
-    words.next().ok_or_else(|| format!("{what} is missing"))
-}
-
-fn decimal<T: TryFrom<u64>>(text: &str) -> Parsed<T> {
-    let all_digits = !text.is_empty() && text.bytes().all(|b| b.is_ascii_digit());
-    let value = text.parse::<u64>().ok().filter(|_| all_digits);
-    value.and_then(|v| T::try_from(v).ok()).ok_or_else(|| format!("'{text}' is not a decimal number, or out of range"))
-}
-
-fn hex(text: &str, most: usize) -> Parsed<u64> {
-    let fits = (1..=most).contains(&text.len()) && text.bytes().all(|b| b.is_ascii_hexdigit());
-    u64::from_str_radix(text, 16)
-        .ok()
-        .filter(|_| fits)
-        .ok_or_else(|| format!("'{text}' is not a hexadecimal number of at most {most} digits"))
-}
-
-fn number<T: TryFrom<u64>>(words: &mut Words) -> Parsed<T> {
-    decimal(word(words, "a number")?)
-}
-
-fn flag(text: &str) -> Parsed<bool> {
-    match text {
-        "0" => Ok(false),
-        "1" => Ok(true),
-        _ => Err(format!("'{text}' is neither 0 nor 1")),
-    }
-}
-
-fn length(words: &mut Words) -> Parsed<usize> {
-    let len: usize = number(words)?;
-    if len > MOST_WORDS {
-        return Err(format!("more than {MOST_WORDS} words"));
-    }
-    Ok(len)
-}
-
-fn bytes(words: &mut Words) -> Parsed<Vec<u8>> {
-    let text = words.next().unwrap_or("");
-    if !text.len().is_multiple_of(2) || !text.bytes().all(|b| b.is_ascii_hexdigit()) {
-        return Err("bytes are two hexadecimal digits each".to_string());
-    }
-    let digit = |b: u8| (b as char).to_digit(16).unwrap_or(0) as u8;
-    Ok(text.as_bytes().chunks(2).map(|p| digit(p[0]) << 4 | digit(p[1])).collect())
-}
-
-fn list<T>(words: &mut Words, each: impl Fn(&str) -> Parsed<T>) -> Parsed<Vec<T>> {
-    words.by_ref().map(each).collect()
+    Case(Case),
 }
 
 fn list_within<T>(words: &mut Words, room: usize, each: impl Fn(&str) -> Parsed<T>) -> Parsed<Vec<T>> {
@@ -92,14 +36,6 @@ fn list_within<T>(words: &mut Words, room: usize, each: impl Fn(&str) -> Parsed<
     Ok(found)
 }
 
-fn hex32(text: &str) -> Parsed<u32> {
-    hex(text, 8).map(|v| v as u32)
-}
-
-fn hex64(text: &str) -> Parsed<u64> {
-    hex(text, 16)
-}
-
 fn lifecycle(text: &str) -> Parsed<bool> {
     match text {
         "active" => Ok(true),
@@ -108,14 +44,10 @@ fn lifecycle(text: &str) -> Parsed<bool> {
     }
 }
 
-fn split(text: &str, at: char) -> Parsed<(&str, &str)> {
-    text.split_once(at).ok_or_else(|| format!("'{text}' has no '{at}'"))
-}
-
 fn route(text: &str) -> Parsed<(usize, u64)> {
     let (index, value) = split(text, '=')?;
     let index: usize = decimal(index)?;
-    if index >= MOST_WORDS {
+    if index >= MOST {
         return Err(format!("route {index} is out of range"));
     }
     Ok((index, hex64(value)?))
@@ -182,17 +114,11 @@ impl Building {
     }
 
     fn line(&mut self, key: &str, words: &mut Words) -> Parsed<()> {
-        if self.seen.iter().any(|k| k == key) {
-            return Err(format!("'{key}' is given twice"));
-        }
-        self.seen.push(key.to_string());
+        once(&mut self.seen, key)?;
         if !self.common(key, words)? && !self.argument(key, words)? && !self.of_record(key, words)? {
             return Err(format!("this call has no '{key}'"));
         }
-        match words.next() {
-            Some(rest) => Err(format!("'{rest}' is too much")),
-            None => Ok(()),
-        }
+        Ok(())
     }
 
     fn common(&mut self, key: &str, words: &mut Words) -> Parsed<bool> {
@@ -303,12 +229,40 @@ fn hub_update(args: &mut HubUpdate, key: &str, words: &mut Words) -> Parsed<bool
     Ok(true)
 }
 
+/// A case after its kind.
+struct Asking {
+    case: Case,
+    seen: Vec<String>,
+}
+
+impl Asking {
+    fn line(&mut self, key: &str, words: &mut Words) -> Parsed<()> {
+        once(&mut self.seen, key)?;
+        if !self.case.kind.key(key, words)? {
+            return Err(format!("'{}' has no '{key}'", self.case.kind.name()));
+        }
+        Ok(())
+    }
+}
+
+/// Where a line stands.
+#[derive(Default)]
+enum Place {
+    #[default]
+    Outside,
+    /// In a scenario, between calls.
+    Between,
+    Call(Box<Building>),
+    /// In a case of this name, before its kind.
+    Case(String),
+    Kind(Asking),
+}
+
 /// Reads lines one after another.
 #[derive(Default)]
 pub struct Reader {
     line: usize,
-    inside: bool,
-    building: Option<Building>,
+    place: Place,
 }
 
 impl Reader {
@@ -321,12 +275,14 @@ impl Reader {
         self.take(text).map_err(|message| self.malformed(message))
     }
 
-    /// Call after the last line: a scenario must have ended.
+    /// Call after the last line: what was begun must have ended.
     pub fn finish(&self) -> Result<(), Malformed> {
-        if self.inside {
-            return Err(self.malformed("the scenario has no 'end'".to_string()));
-        }
-        Ok(())
+        let message = match self.place {
+            Place::Outside => return Ok(()),
+            Place::Between | Place::Call(_) => "the scenario has no 'end'",
+            Place::Case(_) | Place::Kind(_) => "the case has no 'go'",
+        };
+        Err(self.malformed(message.to_string()))
     }
 
     fn malformed(&self, message: String) -> Malformed {
@@ -339,49 +295,47 @@ impl Reader {
         let Some(key) = words.next() else {
             return Ok(None);
         };
-        match self.building.take() {
-            Some(building) if key == "go" => {
-                alone(words)?;
-                Ok(Some(Event::Call(Box::new(building.finish()?))))
-            }
-            Some(mut building) => {
-                building.line(key, &mut words)?;
-                self.building = Some(building);
-                Ok(None)
-            }
-            None => self.between(key, words),
-        }
-    }
-
-    fn between(&mut self, key: &str, mut words: Words) -> Parsed<Option<Event>> {
-        match (self.inside, key) {
-            (false, "scenario") => {
-                let name = word(&mut words, "the scenario's name")?.to_string();
-                let name = words.fold(name, |name, next| name + " " + next);
-                self.inside = true;
-                Ok(Some(Event::Begin(name)))
-            }
-            (false, _) => Err(format!("'{key}' stands outside a scenario")),
-            (true, "end") => {
-                alone(words)?;
-                self.inside = false;
-                Ok(Some(Event::End))
-            }
-            (true, _) => {
-                let call = named(key).ok_or_else(|| format!("there is no call '{key}'"))?;
-                alone(words)?;
-                self.building = Some(Building::new(call));
-                Ok(None)
-            }
+        let (place, event) = next(mem::take(&mut self.place), key, &mut words)?;
+        self.place = place;
+        match words.next() {
+            Some(rest) => Err(format!("'{rest}' is too much")),
+            None => Ok(event),
         }
     }
 }
 
-fn alone(mut words: Words) -> Parsed<()> {
-    match words.next() {
-        Some(rest) => Err(format!("'{rest}' is too much")),
-        None => Ok(()),
-    }
+/// Where the line after this one stands, and what this one completes.
+fn next(place: Place, key: &str, words: &mut Words) -> Parsed<(Place, Option<Event>)> {
+    Ok(match (place, key) {
+        (Place::Outside, "scenario") => (Place::Between, Some(Event::Begin(name(words)?))),
+        (Place::Outside, "case") => (Place::Case(name(words)?), None),
+        (Place::Outside, _) => return Err(format!("'{key}' stands outside a scenario or a case")),
+        (Place::Between, "end") => (Place::Outside, Some(Event::End)),
+        (Place::Between, _) => {
+            let call = named(key).ok_or_else(|| format!("there is no call '{key}'"))?;
+            (Place::Call(Box::new(Building::new(call))), None)
+        }
+        (Place::Call(building), "go") => (Place::Between, Some(Event::Call(Box::new(building.finish()?)))),
+        (Place::Call(mut building), _) => {
+            building.line(key, words)?;
+            (Place::Call(building), None)
+        }
+        (Place::Case(name), _) => {
+            let kind = kind(key).ok_or_else(|| format!("there is no kind of case '{key}'"))?;
+            (Place::Kind(Asking { case: Case { name, kind }, seen: Vec::new() }), None)
+        }
+        (Place::Kind(asking), "go") => (Place::Outside, Some(Event::Case(asking.case))),
+        (Place::Kind(mut asking), _) => {
+            asking.line(key, words)?;
+            (Place::Kind(asking), None)
+        }
+    })
+}
+
+/// A name of one word or more.
+fn name(words: &mut Words) -> Parsed<String> {
+    let first = word(words, "the name")?.to_string();
+    Ok(words.fold(first, |name, next| name + " " + next))
 }
 
 fn named(key: &str) -> Option<Call> {
@@ -395,21 +349,28 @@ fn named(key: &str) -> Option<Call> {
     })
 }
 
-/// All scenarios of a text.
-pub fn parse(text: &str) -> Result<Vec<Scenario>, Malformed> {
+/// What a text holds.
+#[derive(Debug, Default)]
+pub struct Contents {
+    pub scenarios: Vec<Scenario>,
+    pub cases: Vec<Case>,
+}
+
+pub fn parse(text: &str) -> Result<Contents, Malformed> {
     let mut reader = Reader::new();
-    let mut scenarios: Vec<Scenario> = Vec::new();
+    let mut contents = Contents::default();
     for line in text.lines() {
         match reader.line(line)? {
-            Some(Event::Begin(name)) => scenarios.push(Scenario { name, steps: Vec::new() }),
+            Some(Event::Begin(name)) => contents.scenarios.push(Scenario { name, steps: Vec::new() }),
             Some(Event::Call(step)) => {
-                if let Some(scenario) = scenarios.last_mut() {
+                if let Some(scenario) = contents.scenarios.last_mut() {
                     scenario.steps.push(*step);
                 }
             }
+            Some(Event::Case(case)) => contents.cases.push(case),
             Some(Event::End) | None => {}
         }
     }
     reader.finish()?;
-    Ok(scenarios)
+    Ok(contents)
 }

@@ -7,7 +7,7 @@ use crate::session::Left;
 
 const DIGITS: &[u8; 16] = b"0123456789abcdef";
 
-fn bytes(out: &mut String, key: &str, bytes: &[u8]) {
+pub fn bytes(out: &mut String, key: &str, bytes: &[u8]) {
     out.push_str(key);
     if !bytes.is_empty() {
         out.push(' ');
@@ -25,7 +25,7 @@ fn digits(out: &mut String, value: u64, count: u32) {
     }
 }
 
-fn words(out: &mut String, key: &str, words: &[u32]) {
+pub fn words(out: &mut String, key: &str, words: &[u32]) {
     out.push_str(key);
     for word in words {
         out.push(' ');

@@ -2,6 +2,7 @@
 
 use crate::call::*;
 use crate::layer::{Cannot, Layer};
+use crate::memory::filled_words;
 
 /// What a call leaves: its answer, the record, the log and context it was given, the whole table.
 #[derive(Clone, Debug, PartialEq, Eq)]
@@ -43,7 +44,7 @@ impl Session {
         let buffers = Buffers {
             ctx: step.ctx.clone(),
             routes: self.table[..routes_len].to_vec(),
-            log: (0..step.log_len as u32).map(|i| LOG_FILL.wrapping_add(i)).collect(),
+            log: filled_words(step.log_len),
             outcomes: step.outcomes.clone(),
         };
         (record, buffers)

@@ -9,8 +9,8 @@ fn error(text: &str) -> (usize, String) {
 
 fn one(call: &str) -> Step {
     let text = format!("scenario one\n{call}\ngo\nend\n");
-    let mut scenarios = parse(&text).expect("a scenario");
-    scenarios.remove(0).steps.remove(0)
+    let mut contents = parse(&text).expect("a scenario");
+    contents.scenarios.remove(0).steps.remove(0)
 }
 
 const BRING_UP: &str = "scenario all # of it
@@ -37,7 +37,7 @@ end
 
 #[test]
 fn a_bring_up_is_read() {
-    let step = &parse(BRING_UP).expect("a scenario")[0].steps[0];
+    let step = &parse(BRING_UP).expect("a scenario").scenarios[0].steps[0];
     let args = BringUp {
         slot: 3,
         n: 8,
@@ -91,10 +91,10 @@ fn a_record_is_read_in_the_order_written() {
 
 #[test]
 fn what_is_printed_is_read_again() {
-    let read = parse(BRING_UP).expect("a scenario");
+    let read = parse(BRING_UP).expect("a scenario").scenarios;
     let mut text = String::new();
     scenario_text(&mut text, &read[0]);
-    assert_eq!(parse(&text).expect("the same"), read);
+    assert_eq!(parse(&text).expect("the same").scenarios, read);
 }
 
 #[test]

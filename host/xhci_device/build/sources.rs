@@ -7,8 +7,8 @@ use std::{env, fs, io};
 
 use crate::sha256::sha256;
 
-/// The crates of the repository that are built as archives.
-pub const ARCHIVES: [&str; 1] = ["xhci_device"];
+/// The crates of the repository that are built as archives: the calls on a slot, and what stands outside a slot.
+pub const ARCHIVES: [&str; 2] = ["xhci_device", "xhci_descriptors"];
 
 pub fn archive(folder: &Path, name: &str) -> PathBuf {
     folder.join(format!("lib{name}.a"))

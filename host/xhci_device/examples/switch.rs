@@ -11,7 +11,15 @@ const SLOT: SlotId = SlotId(1);
 const N: usize = 2;
 
 /// Configuration 1, interface 0: alternate 0 with endpoint 0x81, interrupt; alternate 1 with 0x81 and 0x02, bulk.
-const CONFIGURATION: [u32; 6] = [0x0040_0000, 0x4000_0000, 0xA384_0410, 0x4000_4000, 0xA384_0410, 0x8520_0000];
+#[rustfmt::skip]
+const CONFIGURATION: [u8; 48] = [
+    9, 2, 48, 0, 1, 1, 0, 0x80, 50,
+    9, 4, 0, 0, 1, 0xFF, 0, 0, 0,
+    7, 5, 0x81, 3, 64, 0, 4,
+    9, 4, 0, 1, 2, 0xFF, 0, 0, 0,
+    7, 5, 0x81, 3, 64, 0, 4,
+    7, 5, 0x02, 2, 0, 2, 0,
+];
 
 /// The device descriptor: 64 bytes for control, one configuration.
 const DESCRIPTOR: [u8; 18] = [18, 1, 0, 2, 0, 0, 0, 64, 0x34, 0x12, 1, 0, 0, 1, 0, 0, 0, 1];
@@ -41,7 +49,7 @@ impl Bus for Controller {
             Command::ReadHeader => Read::Bytes(&DESCRIPTOR[..8]),
             Command::ReadDevice => Read::Bytes(&DESCRIPTOR),
             Command::ReadConfiguration => Read::Bytes(&[0]),
-            Command::ReadConfig(_) => Read::Words(&CONFIGURATION),
+            Command::ReadConfig(_) => Read::Bytes(&CONFIGURATION),
             _ => Read::Nothing,
         })
     }

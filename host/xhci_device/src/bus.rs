@@ -8,8 +8,8 @@ use crate::{Command, Dci, Record, SlotId, route_index};
 pub type Outcome<'a> = Result<Read<'a>, NonZeroU8>;
 
 /// The code of a command that was done but brought what a bring-up cannot use: no byte of a configuration
-/// value, less than the 18 bytes of a device descriptor, more than 8 configurations, words that are not one
-/// configuration, or words with which the list is not valid.
+/// value, less than the 18 bytes of a device descriptor, more than 8 configurations, malformed descriptors, words that
+/// are not one configuration, or words with which the list is not valid.
 pub const UNREADABLE: NonZeroU8 = NonZeroU8::MAX;
 
 /// What a command that was done has read.
@@ -17,9 +17,9 @@ pub const UNREADABLE: NonZeroU8 = NonZeroU8::MAX;
 pub enum Read<'a> {
     /// There was nothing to read.
     Nothing,
-    /// The bytes that the device sent, for ReadHeader, ReadConfiguration and ReadDevice.
+    /// The bytes that the device sent; for ReadConfig the configuration descriptor with all that follows it.
     Bytes(&'a [u8]),
-    /// The descriptor words of the configuration, for ReadConfig: one of kind 0, then the others.
+    /// For ReadConfig instead the descriptor words of the configuration: one of kind 0, then the others.
     Words(&'a [u32]),
 }
 

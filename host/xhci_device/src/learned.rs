@@ -1,6 +1,6 @@
 //! What the commands of a bring-up have read so far.
 
-use crate::{Command, Read};
+use crate::{Command, READ_WORDS, Read, read_descriptors};
 
 const LIST: usize = 256;
 const DEVICE_DESCRIPTOR: usize = 18;
@@ -46,7 +46,14 @@ impl Learned {
                 let descriptor: &[u8; DEVICE_DESCRIPTOR] = bytes.first_chunk()?;
                 self.unread = descriptor[NUM_CONFIGURATIONS].into();
             }
-            Command::ReadConfig(_) => self.append(if let Read::Words(words) = read { words } else { &[] })?,
+            Command::ReadConfig(_) => match read {
+                Read::Words(words) => self.append(words)?,
+                _ => {
+                    let mut words = [0; READ_WORDS];
+                    let count = read_descriptors(bytes, &mut words).ok()?;
+                    self.append(&words[..count])?;
+                }
+            },
             _ => (),
         }
         Some(())

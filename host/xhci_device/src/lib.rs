@@ -11,6 +11,7 @@ mod hub;
 pub mod layout;
 mod learned;
 mod library;
+mod raw;
 mod record;
 
 pub use answer::Answer;
@@ -19,6 +20,7 @@ pub use call::{BringUp, Memory};
 pub use command::Command;
 pub use driver::{Attached, Call, Next, Pending};
 pub use hub::Hub;
+pub use raw::{READ_WORDS, RawRefusal, WRITE_BYTES, read_descriptors, write_descriptors};
 pub use record::{Configuration, Endpoint, Record, Setting};
 
 /// The version of this crate and of the header for C.

@@ -1,8 +1,8 @@
-//! The archive's functions (host/include/xhci_device.h). Each writes to the slices that it is given and to
+//! The archives' functions (host/include/xhci_device.h). Each writes to the slices that it is given and to
 //! nothing else, and keeps no pointer; a `&mut` slice overlaps no other.
 #![allow(unsafe_code)]
 
-use crate::{Answer, BringUp, Memory};
+use crate::{Answer, BringUp, Memory, RawRefusal};
 
 #[repr(C)]
 struct Answered {
@@ -100,11 +100,20 @@ unsafe extern "C" {
         multi: u8,
         ns: u32,
     ) -> Answered;
+    fn xhci_device_read_descriptors(bytes: *const u8, bytes_len: usize, words: *mut u32, words_len: usize) -> Answered;
+    fn xhci_device_write_descriptors(list: *const u32, list_len: usize, bytes: *mut u8, bytes_len: usize) -> Answered;
 }
 
 fn told(answered: Answered) -> (Answer, usize) {
     let answer = Answer::of(answered.answer as u8, answered.code as u8);
     (answer.expect("the library answers 0 to 18"), answered.count)
+}
+
+fn counted(answered: Answered) -> Result<usize, RawRefusal> {
+    match answered.answer {
+        0 => Ok(answered.count),
+        number => Err(RawRefusal::of(number).expect("the library answers 0, 3, 4 or 20")),
+    }
 }
 
 pub fn is_usable(image: &[u64]) -> bool {
@@ -234,6 +243,16 @@ pub fn hub_update(image: &mut [u64], memory: Memory<'_>, ports: u8, multi: bool,
             ns,
         )
     })
+}
+
+pub fn read_descriptors(bytes: &[u8], words: &mut [u32]) -> Result<usize, RawRefusal> {
+    // SAFETY: each pointer comes with its slice's length, and the words are borrowed for this call alone.
+    counted(unsafe { xhci_device_read_descriptors(bytes.as_ptr(), bytes.len(), words.as_mut_ptr(), words.len()) })
+}
+
+pub fn write_descriptors(list: &[u32], bytes: &mut [u8]) -> Result<usize, RawRefusal> {
+    // SAFETY: each pointer comes with its slice's length, and the bytes are borrowed for this call alone.
+    counted(unsafe { xhci_device_write_descriptors(list.as_ptr(), list.len(), bytes.as_mut_ptr(), bytes.len()) })
 }
 
 #[cfg(test)]

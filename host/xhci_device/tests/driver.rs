@@ -8,7 +8,7 @@ use std::num::NonZeroU8;
 use random::{Device, N, ROUTES, Rng, World};
 use xhci_device::{
     Answer, Attached, BringUp, Bus, Call, Command, Dci, Due, Memory, Next, Outcome, Pending, Read, Record, SlotId,
-    UNREADABLE, route_index,
+    UNREADABLE, WRITE_BYTES, route_index, write_descriptors,
 };
 
 /// The most commands that a call sends.
@@ -98,17 +98,35 @@ fn look_at(due: &Due<'_>, before: &[u64]) {
     assert_eq!(due.log.last(), Some(&due.command.word()));
 }
 
+fn raw(words: &[u32]) -> Option<Vec<u8>> {
+    let mut bytes = vec![0; WRITE_BYTES];
+    let count = write_descriptors(words, &mut bytes).ok()?;
+    bytes.truncate(count);
+    Some(bytes)
+}
+
 /// Answers as the device does, with given outcomes.
 struct Script<'a> {
     device: &'a Device,
     descriptor: [u8; 18],
+    /// The configurations as descriptors, where they can be written.
+    raw: Vec<Option<Vec<u8>>>,
     outcomes: &'a [u8],
     before: &'a [u64],
 }
 
 impl<'a> Script<'a> {
     fn new(device: &'a Device, outcomes: &'a [u8], before: &'a [u64]) -> Script<'a> {
-        Script { device, descriptor: device.descriptor(), outcomes, before }
+        let raw = device.configurations.iter().map(|words| raw(words)).collect();
+        Script { device, descriptor: device.descriptor(), raw, outcomes, before }
+    }
+
+    /// In turn as words and as bytes.
+    fn configuration(&self, index: usize) -> Read<'_> {
+        match &self.raw[index] {
+            Some(bytes) if (index + self.outcomes.len()) % 2 == 0 => Read::Bytes(bytes),
+            _ => Read::Words(&self.device.configurations[index]),
+        }
     }
 
     /// None where no outcome is left.
@@ -118,7 +136,7 @@ impl<'a> Script<'a> {
             Command::ReadHeader => Read::Bytes(&self.device.header),
             Command::ReadConfiguration => Read::Bytes(&self.device.value),
             Command::ReadDevice => Read::Bytes(&self.descriptor),
-            Command::ReadConfig(index) => Read::Words(&self.device.configurations[usize::from(index)]),
+            Command::ReadConfig(index) => self.configuration(usize::from(index)),
             _ => Read::Nothing,
         };
         let outcome = self.outcomes.get(due.log.len() - 1)?;

@@ -1,0 +1,6 @@
+pub mod Answer
+pub mod Claims
+pub mod Descriptor
+pub mod Read
+pub mod Words
+pub mod Write

@@ -1,0 +1,43 @@
+-- The exits of the reader.
+use Prim.Native.Nat.{ℕ, _≤_, _<_}
+use mathlib.Core.Path.{_≡_, refl, sym}
+use mathlib.Core.Bool.{Bool, true, false, cond, _&&_, and-false}
+use mathlib.Core.List.{List}
+use borrow.Author.Tests.{le-leb, lt-leb}
+use lib.Dec.{leb}
+use lib.ListN.{length, take}
+use lib.Seq.{sets}
+use Rattle.descriptor_list.specs.Valid.{validList}
+use Rattle.descriptor_raw.specs.declared.RawAnswer.the-variants.{Accepted, TooShort, DescriptorList, Malformed}
+use Rattle.descriptor_raw.specs.Answer.{leaves}
+use Rattle.descriptor_raw.specs.Read.{descriptors, allWhole, allBorneOut, wellFormed, readWords, readDescriptors}
+use Rattle.descriptor_reader.specs.Walk.{Gathered}
+
+module _ (bytes lent : List ℕ) where
+  pub too-short : length lent < 256 → leaves TooShort lent ≡ readDescriptors bytes lent
+  unfolding readDescriptors
+  too-short h = rw (lt-leb 256 (length lent) h)
+
+  module _ (room : 256 ≤ length lent) where
+    pub not-whole : allWhole (descriptors bytes) ≡ false → leaves Malformed lent ≡ readDescriptors bytes lent
+    unfolding readDescriptors wellFormed
+    not-whole w = rw (le-leb 256 (length lent) room, w)
+
+    pub not-borne-out : allBorneOut (descriptors bytes) ≡ false → leaves Malformed lent ≡ readDescriptors bytes lent
+    unfolding readDescriptors wellFormed
+    not-borne-out b = rw (le-leb 256 (length lent) room, b, and-false (allWhole (descriptors bytes)))
+
+    module _ (w : allWhole (descriptors bytes) ≡ true) (b : allBorneOut (descriptors bytes) ≡ true) (list : List ℕ) (count : ℕ) (g : Gathered bytes list count) where
+      pub too-many : 256 < count → leaves DescriptorList lent ≡ readDescriptors bytes lent
+      unfolding readDescriptors wellFormed validList
+      too-many m = rw (le-leb 256 (length lent) room, w, b, lt-leb (length (readWords bytes)) 256 (g .many m))
+
+      module _ (few : count ≤ 256) where
+        pub not-valid : validList (take count list) ≡ false → leaves DescriptorList lent ≡ readDescriptors bytes lent
+        unfolding readDescriptors wellFormed
+        not-valid v = rw (le-leb 256 (length lent) room, w, b, ← g .few few, v)
+
+        pub all-read : validList (take count list) ≡ true → count ≡ length (take count list) →
+            leaves (Accepted count) (sets lent 0 (take count list)) ≡ readDescriptors bytes lent
+        unfolding readDescriptors wellFormed
+        all-read v n = rw (le-leb 256 (length lent) room, w, b, ← g .few few, v, ← n)

@@ -1,0 +1,5 @@
+mod Exits
+mod Gather
+mod Judged
+mod Rest
+mod Turn

@@ -1,0 +1,46 @@
+-- The exits of the writer.
+use Prim.Native.Nat.{ℕ, _≤_, _<_}
+use mathlib.Core.Path.{_≡_, sym}
+use mathlib.Core.Bool.{true, false, _&&_}
+use mathlib.Core.List.{List}
+use borrow.Author.Tests.{le-leb, lt-leb}
+use lib.Dec.{leb}
+use lib.ListN.{length}
+use lib.Seq.{sets}
+use Rattle.laws.proofs.Tests.{and-left, and-right}
+use Rattle.descriptor_list.specs.Valid.{beginsWithConfiguration, wordsOk, validList}
+use Rattle.descriptor_list.proofs.Laws.{valid-length}
+use Rattle.descriptor_raw.specs.declared.RawAnswer.the-variants.{Accepted, TooShort, DescriptorList, Malformed}
+use Rattle.descriptor_raw.specs.Answer.{leaves}
+use Rattle.descriptor_raw.specs.Write.{packetsGiven, writtenBytes, writeDescriptors}
+use Rattle.descriptor_writer.specs.Written.{Listed}
+
+-- a valid list has valid words
+valid-words : (list : List ℕ) → validList list ≡ true → wordsOk list ≡ true
+unfolding validList
+valid-words list v =
+    and-left (wordsOk list) _ (and-right (beginsWithConfiguration list) _ (and-right (leb (length list) 256) _ v))
+
+module _ (list lent : List ℕ) where
+  pub too-short : length lent < 2304 → leaves TooShort lent ≡ writeDescriptors list lent
+  unfolding writeDescriptors
+  too-short h = rw (lt-leb 2304 (length lent) h)
+
+  module _ (room : 2304 ≤ length lent) where
+    pub not-valid : validList list ≡ false → leaves DescriptorList lent ≡ writeDescriptors list lent
+    unfolding writeDescriptors
+    not-valid v = rw (le-leb 2304 (length lent) room, v)
+
+    module _ (v : validList list ≡ true) where
+      pub not-given : packetsGiven list ≡ false → leaves Malformed lent ≡ writeDescriptors list lent
+      unfolding writeDescriptors
+      not-given p = rw (le-leb 2304 (length lent) room, v, p)
+
+      module _ (p : packetsGiven list ≡ true) where
+        pub listed : Listed list (length lent)
+        listed = record { short = valid-length list v; words = valid-words list v; packets = p; space = room }
+
+        pub all-written : (count : ℕ) (out : List ℕ) → (count ≡ length (writtenBytes list)) × (out ≡ sets lent 0 (writtenBytes list)) →
+            leaves (Accepted count) out ≡ writeDescriptors list lent
+        unfolding writeDescriptors
+        all-written count out q = rw (le-leb 2304 (length lent) room, v, p, q .0, q .1)

@@ -1,0 +1,4 @@
+mod Claiming
+mod Exits
+mod Packets
+mod Placed

@@ -1,0 +1,59 @@
+//! Raw configuration descriptors (USB 2.0 section 9.6) to descriptor words, and back.
+
+use core::fmt;
+
+use crate::library;
+
+/// How many words the reader is lent at least.
+pub const READ_WORDS: usize = 256;
+
+/// How many bytes the writer is lent at least.
+pub const WRITE_BYTES: usize = 2304;
+
+/// Why descriptors were not read or written. Nothing that was lent has changed.
+#[derive(Clone, Copy, Debug, PartialEq, Eq)]
+pub enum RawRefusal {
+    /// Less than `READ_WORDS` words or `WRITE_BYTES` bytes are lent.
+    TooShort,
+    /// The words are no valid list.
+    DescriptorList,
+    /// The bytes are malformed, or an endpoint word has packets 0.
+    Malformed,
+}
+
+impl RawRefusal {
+    pub(crate) fn of(number: u32) -> Option<RawRefusal> {
+        [RawRefusal::TooShort, RawRefusal::DescriptorList, RawRefusal::Malformed]
+            .into_iter()
+            .find(|refusal| u32::from(refusal.number()) == number)
+    }
+
+    /// The number in 01 and 02.
+    pub fn number(self) -> u8 {
+        match self {
+            RawRefusal::TooShort => 3,
+            RawRefusal::DescriptorList => 4,
+            RawRefusal::Malformed => 20,
+        }
+    }
+}
+
+impl fmt::Display for RawRefusal {
+    fn fmt(&self, f: &mut fmt::Formatter<'_>) -> fmt::Result {
+        f.write_str(match self {
+            RawRefusal::TooShort => "there is too little room",
+            RawRefusal::DescriptorList => "the descriptor list is not valid",
+            RawRefusal::Malformed => "the descriptors are malformed",
+        })
+    }
+}
+
+/// Reads descriptors into the first of `words`. Says how many; the other words stay as they are.
+pub fn read_descriptors(bytes: &[u8], words: &mut [u32]) -> Result<usize, RawRefusal> {
+    library::read_descriptors(bytes, words)
+}
+
+/// Writes a list of descriptor words into the first of `bytes`. Says how many; the other bytes stay as they are.
+pub fn write_descriptors(list: &[u32], bytes: &mut [u8]) -> Result<usize, RawRefusal> {
+    library::write_descriptors(list, bytes)
+}
