@@ -30,14 +30,14 @@ module _ (P : Command → Type 0) (a : Claim) where
   -- What holds of every command that it can send.
   pub record OfEach : Type 0 where
     pub configure : P command.Configure
-    pub switch : P (command.SetInterface (a .interface) (a .alternate))
-    pub back : P (command.SetInterface (a .interface) (a .oldAlternate))
+    pub switch : P (command.SetInterface (a .args .interface) (a .args .alternate))
+    pub back : P (command.SetInterface (a .args .interface) (a .args .«old_alternate»))
     pub stop : (k : ℕ) → P (command.Stop (getD (queueDcis (a .old)) k 0))
     pub resume : (k : ℕ) → P (command.Resume (getD (queueDcis (a .old)) k 0))
 
   undone-sends : OfEach → (code : ℕ) (ctx routes : List ℕ) → EachCommand P (claimUndone a code ctx routes)
   unfolding claimUndone claimSwitchBack EachCommand
-  undone-sends p code ctx routes = go (a .held)
+  undone-sends p code ctx routes = go (a .args .held)
     where
       go : (held : Bool) →
           EachCommand P
@@ -83,7 +83,7 @@ module _ (P : Command → Type 0) (a : Claim) where
       )
 
 -- the operands of its commands are bytes
-pub claim-operands : (a : Claim) (ctx routes : List ℕ) → a .interface < 256 → a .alternate < 256 → a .oldAlternate < 256 →
+pub claim-operands : (a : Claim) (ctx routes : List ℕ) → a .args .interface < 256 → a .args .alternate < 256 → a .args .«old_alternate» < 256 →
     ((k : ℕ) → getD (queueDcis (a .old)) k 0 < 256) → EachCommand ByteOperands (claimCourse a ctx routes)
 unfolding ByteOperands
 claim-operands a ctx routes i n o d =
@@ -107,35 +107,35 @@ module _ (a : Claim) (routes : List ℕ) (d : ℕ) (two : 2 ≤ d) (h : d < 32) 
   Says : End → (ℕ → Bool) → Type 0
   Says r now = Told (enabled d) made AsHeld (r .answer) (now d)
 
-  claim-configured : (ctx : List ℕ) → Spaced (a .spacing) (length ctx) → configured (claimContext a ctx) enabled d ≡ made
+  claim-configured : (ctx : List ℕ) → Spaced (a .args .spacing) (length ctx) → configured (claimContext a ctx) enabled d ≡ made
   unfolding claimContext
-  claim-configured ctx sp = configured-writes (a .spacing) ctx sp d two h _ _ _ _ _ _ _ enabled
+  claim-configured ctx sp = configured-writes (a .args .spacing) ctx sp d two h _ _ _ _ _ _ _ enabled
 
-  undo-configured : (ctx : List ℕ) → Spaced (a .spacing) (length ctx) → AsHeld →
+  undo-configured : (ctx : List ℕ) → Spaced (a .args .spacing) (length ctx) → AsHeld →
       configured (undoContext a (claimContext a ctx)) (configured (claimContext a ctx) enabled) d ≡ enabled d
   unfolding claimContext undoContext
-  undo-configured ctx sp u = configured-undone (a .spacing) ctx sp d two h _ _ _ _ _ _ _ _ _ enabled (u .0) (u .1)
+  undo-configured ctx sp u = configured-undone (a .args .spacing) ctx sp d two h _ _ _ _ _ _ _ _ _ enabled (u .0) (u .1)
 
   undone-follows : (now : ℕ → Bool) (code : ℕ) (ctx : List ℕ) → (AsHeld → now d ≡ enabled d) →
       Follows enabledAfter Says now (claimUndone a code ctx routes)
   unfolding claimUndone claimSwitchBack Follows Says operation
-  undone-follows now code ctx u = go (a .held)
+  undone-follows now code ctx u = go (a .args .held)
     where
       go : (held : Bool) →
           Follows enabledAfter Says now
           (cond held (claimSwitchBack a code ctx routes) (ends (stays (answer.Failed code) (length (a .old)) ctx routes)))
       go true =
-          follows-other Says now (command.SetInterface (a .interface) (a .oldAlternate)) refl ctx _ _ _ (told-failed u) (λ later. told-broken) told-cut
+          follows-other Says now (command.SetInterface (a .args .interface) (a .args .«old_alternate»)) refl ctx _ _ _ (told-failed u) (λ later. told-broken) told-cut
       go false = told-failed u
 
-  switch-follows : (ctx : List ℕ) → Spaced (a .spacing) (length ctx) →
+  switch-follows : (ctx : List ℕ) → Spaced (a .args .spacing) (length ctx) →
       Follows enabledAfter Says (configured (claimContext a ctx) enabled) (claimSwitch a (claimContext a ctx) routes)
   unfolding claimSwitch claimPublish claimPublished claimUndo Follows Says operation
   switch-follows ctx sp =
       let now : ℕ → Bool = configured (claimContext a ctx) enabled in
       let next : List ℕ = claimContext a ctx in
       let back : List ℕ = undoContext a next in
-      follows-other Says now (command.SetInterface (a .interface) (a .alternate)) refl next _ _ _ (published (replaced routes (a .slot) (a .old) (a .pending)))
+      follows-other Says now (command.SetInterface (a .args .interface) (a .args .alternate)) refl next _ _ _ (published (replaced routes (a .args .slot .0) (a .old) (a .pending)))
       (λ code.
       follows-configure Says now back _ _ _ (undone-follows (configured back now) code back (undo-configured ctx sp))
       (λ later. told-broken)
@@ -149,7 +149,7 @@ module _ (a : Claim) (routes : List ℕ) (d : ℕ) (two : 2 ≤ d) (h : d < 32) 
       published replace.InvalidEndpoint = told-broken
       published replace.QueueFull = told-broken
 
-  claim-follows : (ctx : List ℕ) → Spaced (a .spacing) (length ctx) → Follows enabledAfter Says enabled (claimCourse a ctx routes)
+  claim-follows : (ctx : List ℕ) → Spaced (a .args .spacing) (length ctx) → Follows enabledAfter Says enabled (claimCourse a ctx routes)
   unfolding claimCourse claimConfigure claimResume answerOf orCode Follows Says
   claim-follows ctx sp =
       let dcis : List ℕ = queueDcis (a .old) in
@@ -169,7 +169,7 @@ module _ (a : Claim) (routes : List ℕ) (d : ℕ) (two : 2 ≤ d) (h : d < 32) 
       resumed code (sent.Failed later) = told-failed (λ u. refl)
       resumed code sent.Cut = told-cut
 
-module _ (a : Claim) (ctx routes o : List ℕ) (n : ℕ) (sp : Spaced (a .spacing) (length ctx)) (d : ℕ) (two : 2 ≤ d) (h : d < 32)
+module _ (a : Claim) (ctx routes o : List ℕ) (n : ℕ) (sp : Spaced (a .args .spacing) (length ctx)) (d : ℕ) (two : 2 ≤ d) (h : d < 32)
     (enabled : ℕ → Bool) where
   claim-told :
       Told (enabled d) (made a routes d two h enabled) (AsHeld a routes d two h enabled)

@@ -47,8 +47,8 @@ Refused x = ((code : ℕ) × (x ≡ answer.Failed code)) ⊎ (x ≡ answer.Inter
 
 -- How a claim can end.
 pub data ClaimEnd (a : Claim) (ctx routes : List ℕ) : End → Type 0 where
-  accepted : replaced routes (a .slot) (a .old) (a .pending) ≡ replace.Done →
-      ClaimEnd a ctx routes (moves answer.Accepted (claimContext a ctx) (withReplaced routes (a .slot) (a .old) (a .pending)))
+  accepted : replaced routes (a .args .slot .0) (a .old) (a .pending) ≡ replace.Done →
+      ClaimEnd a ctx routes (moves answer.Accepted (claimContext a ctx) (withReplaced routes (a .args .slot .0) (a .old) (a .pending)))
   -- after a failed stop all old endpoints are active
   stopFailed : {code : ℕ} → ClaimEnd a ctx routes (stays (answer.Failed code) (length (a .old)) ctx routes)
   -- after a failed Configure those that were resumed
@@ -59,15 +59,15 @@ pub data ClaimEnd (a : Claim) (ctx routes : List ℕ) : End → Type 0 where
   -- the same, not undone
   broken : ClaimEnd a ctx routes (stays answer.InterfaceBroken 0 (undoContext a (claimContext a ctx)) routes)
   -- routes that do not allow it
-  unrouted : (replaced routes (a .slot) (a .old) (a .pending) ≡ replace.Done → ⊥) →
+  unrouted : (replaced routes (a .args .slot .0) (a .old) (a .pending) ≡ replace.Done → ⊥) →
       ClaimEnd a ctx routes (stays answer.InterfaceBroken 0 (claimContext a ctx) routes)
   cut : {active : ℕ} {at : List ℕ} → active ≤ length (a .old) → ClaimEnd a ctx routes (stays answer.Cut active at routes)
 
 -- Routes and settings are moved exactly if the claim is accepted.
 pub record Moved (a : Claim) (routes : List ℕ) (e : End) : Type 0 where
   pub by-answer : (e .moved ≡ true) ↔ (e .answer ≡ answer.Accepted)
-  pub allowed : e .moved ≡ true → replaced routes (a .slot) (a .old) (a .pending) ≡ replace.Done
-  pub routed : e .moved ≡ true → e .routes ≡ withReplaced routes (a .slot) (a .old) (a .pending)
+  pub allowed : e .moved ≡ true → replaced routes (a .args .slot .0) (a .old) (a .pending) ≡ replace.Done
+  pub routed : e .moved ≡ true → e .routes ≡ withReplaced routes (a .args .slot .0) (a .old) (a .pending)
   pub kept : e .moved ≡ false → e .routes ≡ routes
 
 record Claimed (a : Claim) (routes : List ℕ) (e : End) : Type 0 where
@@ -156,9 +156,9 @@ module _ (a : Claim) (ctx routes o : List ℕ) where
 
   publish-phase : (n : ℕ) → Phase a ctx routes o 0 n (claimPublish a (claimContext a ctx) routes)
   unfolding claimPublish claimPublished
-  publish-phase n = go (replaced routes (a .slot) (a .old) (a .pending)) refl
+  publish-phase n = go (replaced routes (a .args .slot .0) (a .old) (a .pending)) refl
     where
-      go : (r : Replaced) → replaced routes (a .slot) (a .old) (a .pending) ≡ r →
+      go : (r : Replaced) → replaced routes (a .args .slot .0) (a .old) (a .pending) ≡ r →
           Phase a ctx routes o 0 n (ends (claimPublished r a (claimContext a ctx) routes))
       go replace.Done e = phase-ends (accepted e) accepted-cut
       go replace.InvalidEndpoint e = phase-ends (unrouted (λ d. let z : _≡_ {A = ℕ} 0 1 = cc in omega arith)) broken-cut
@@ -166,7 +166,7 @@ module _ (a : Claim) (ctx routes o : List ℕ) where
 
   undone-phase : (n code : ℕ) → Phase a ctx routes o 1 n (claimUndone a code (undoContext a (claimContext a ctx)) routes)
   unfolding claimUndone claimSwitchBack
-  undone-phase n code = go (a .held)
+  undone-phase n code = go (a .args .held)
     where
       go : (held : Bool) →
           Phase a ctx routes o 1 n
@@ -277,7 +277,7 @@ module _ (a : Claim) (ctx routes o : List ℕ) where
       result o n (claimUndo a code at routes) ≡ stays (answer.Failed code) (length (a .old)) (undoContext a at) routes
   unfolding claimUndo claimUndone claimSwitchBack result
   undo-end n code later at =
-      on-sent (P (n + 1)) (outcomeAt o n) _ _ _ (λ e. go (a .held)) (λ c e f. broken-failed f) (λ e f. cut-failed f)
+      on-sent (P (n + 1)) (outcomeAt o n) _ _ _ (λ e. go (a .args .held)) (λ c e f. broken-failed f) (λ e f. cut-failed f)
     where
       P : ℕ → Course End → Type 0
       P k c = (result o k c) .answer ≡ answer.Failed later →
@@ -299,17 +299,17 @@ module _ (a : Claim) (ctx routes o : List ℕ) where
       let p = claim-configured n e d ∙ result-sends o m _ _ _ (sent.Failed code) f in
       p ∙ undo-end (m + 1) code later (claimContext a ctx) (rw p at h)
 
-  publish-done : (n : ℕ) (at : List ℕ) → replaced routes (a .slot) (a .old) (a .pending) ≡ replace.Done →
+  publish-done : (n : ℕ) (at : List ℕ) → replaced routes (a .args .slot .0) (a .old) (a .pending) ≡ replace.Done →
       result o n (claimPublish a at routes) ≡
-      moves answer.Accepted at (withReplaced routes (a .slot) (a .old) (a .pending))
+      moves answer.Accepted at (withReplaced routes (a .args .slot .0) (a .old) (a .pending))
   unfolding claimPublish claimPublished result
   publish-done n at r = rw r
 
   -- with every outcome done and routes that allow it, it is accepted
   pub claim-accepted : (n : ℕ) → AllDone o n (length (a .old) + 2) →
-      replaced routes (a .slot) (a .old) (a .pending) ≡ replace.Done →
+      replaced routes (a .args .slot .0) (a .old) (a .pending) ≡ replace.Done →
       result o n (claimCourse a ctx routes) ≡
-      moves answer.Accepted (claimContext a ctx) (withReplaced routes (a .slot) (a .old) (a .pending))
+      moves answer.Accepted (claimContext a ctx) (withReplaced routes (a .args .slot .0) (a .old) (a .pending))
   unfolding claimSwitch stopAll onSent
   claim-accepted n h r =
       let m : ℕ = length (a .old) in
@@ -352,7 +352,7 @@ module _ (a : Claim) (routes : List ℕ) (P : List ℕ → End → Type 0) (p : 
 
   undone-cuts : (code : ℕ) (ctx : List ℕ) → CutsTo P (claimUndone a code ctx routes)
   unfolding claimUndone claimSwitchBack
-  undone-cuts code ctx = go (a .held)
+  undone-cuts code ctx = go (a .args .held)
     where
       go : (held : Bool) → CutsTo P (cond held (claimSwitchBack a code ctx routes) (ends (stays (answer.Failed code) (length (a .old)) ctx routes)))
       go true = cuts-sends _ ctx _ _ (cuts-ends _) (λ later. cuts-ends _)

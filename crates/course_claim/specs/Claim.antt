@@ -1,6 +1,6 @@
 -- The course of a claim after its checks: `_claim_interface` of the original.
 use Prim.Native.Nat.{ℕ}
-use mathlib.Core.Bool.{Bool, cond}
+use mathlib.Core.Bool.{cond}
 use mathlib.Core.List.{List}
 use lib.ListN.{length}
 use Rattle.answer.specs.declared.Answer.the-variants as answer
@@ -16,16 +16,12 @@ use Rattle.transfer.specs.Routes.{Queue, replaced, withReplaced}
 use Rattle.course_steps.specs.End.{End, stays, moves, answerOf}
 use Rattle.course_steps.specs.Arrays.{dcisIn, queuesIn}
 use Rattle.course_claim.specs.declared.ClaimArgs.{ClaimArgs}
+use Rattle.course_claim.specs.declared.ClaimPlan.{ClaimPlan}
 
--- What a claim works on: the interface's old setting, if it holds one, and the one that it is to hold.
+-- What a claim works on: the endpoint words and the queues of the interface's old setting, none where it holds none, and of the one
+-- that it is to hold.
 pub record Claim : Type 0 where
-  pub slot : ℕ
-  pub spacing : ℕ
-  pub speed : ℕ
-  pub interface : ℕ
-  pub alternate : ℕ
-  pub held : Bool
-  pub oldAlternate : ℕ
+  pub args : ClaimArgs
   pub oldWords : List ℕ
   pub newWords : List ℕ
   pub old : List Queue
@@ -36,29 +32,29 @@ pub record Claim : Type 0 where
 -- The context of the Configure that drops the old endpoints and adds the new ones, and of the one that undoes it.
 unfoldable pub claimContext : Claim → List ℕ → List ℕ
 claimContext a ctx =
-    written (a .spacing)
-    (configureWrites (a .speed) (a .interface) (a .alternate) (a .oldWords) (a .newWords) (a .pending) (a .dcis))
+    written (a .args .spacing)
+    (configureWrites (a .args .speed) (a .args .interface) (a .args .alternate) (a .oldWords) (a .newWords) (a .pending) (a .dcis))
     ctx
 
 unfoldable pub undoContext : Claim → List ℕ → List ℕ
 undoContext a ctx =
-    written (a .spacing)
-    (configureWrites (a .speed) (a .interface) (cond (a .held) (a .oldAlternate) 0) (a .newWords) (a .oldWords) (a .old) (a .dcis))
+    written (a .args .spacing)
+    (configureWrites (a .args .speed) (a .args .interface) (a .args .«old_alternate») (a .newWords) (a .oldWords) (a .old) (a .dcis))
     ctx
 
 -- Old routes out, new routes in; routes that do not allow it break the interface.
 unfoldable pub claimPublished : Replaced → Claim → List ℕ → List ℕ → End
-claimPublished replace.Done a ctx routes = moves answer.Accepted ctx (withReplaced routes (a .slot) (a .old) (a .pending))
+claimPublished replace.Done a ctx routes = moves answer.Accepted ctx (withReplaced routes (a .args .slot .0) (a .old) (a .pending))
 claimPublished replace.InvalidEndpoint a ctx routes = stays answer.InterfaceBroken 0 ctx routes
 claimPublished replace.QueueFull a ctx routes = stays answer.InterfaceBroken 0 ctx routes
 
 unfoldable pub claimPublish : Claim → List ℕ → List ℕ → Course End
-claimPublish a ctx routes = ends (claimPublished (replaced routes (a .slot) (a .old) (a .pending)) a ctx routes)
+claimPublish a ctx routes = ends (claimPublished (replaced routes (a .args .slot .0) (a .old) (a .pending)) a ctx routes)
 
 -- The device back at its old setting, after the controller is.
 unfoldable pub claimSwitchBack : Claim → ℕ → List ℕ → List ℕ → Course End
 claimSwitchBack a code ctx routes =
-    sends (command.SetInterface (a .interface) (a .oldAlternate)) ctx
+    sends (command.SetInterface (a .args .interface) (a .args .«old_alternate»)) ctx
     (λ s.
     onSent s
     (ends (stays (answer.Failed code) (length (a .old)) ctx routes))
@@ -67,7 +63,7 @@ claimSwitchBack a code ctx routes =
 
 unfoldable pub claimUndone : Claim → ℕ → List ℕ → List ℕ → Course End
 claimUndone a code ctx routes =
-    cond (a .held) (claimSwitchBack a code ctx routes) (ends (stays (answer.Failed code) (length (a .old)) ctx routes))
+    cond (a .args .held) (claimSwitchBack a code ctx routes) (ends (stays (answer.Failed code) (length (a .old)) ctx routes))
 
 -- After a failed SetInterface: new endpoints dropped, old ones added again.
 unfoldable pub claimUndo : Claim → ℕ → List ℕ → List ℕ → Course End
@@ -82,7 +78,7 @@ claimUndo a code ctx routes =
 
 unfoldable pub claimSwitch : Claim → List ℕ → List ℕ → Course End
 claimSwitch a ctx routes =
-    sends (command.SetInterface (a .interface) (a .alternate)) ctx
+    sends (command.SetInterface (a .args .interface) (a .args .alternate)) ctx
     (λ s.
     onSent s
     (claimPublish a ctx routes)
@@ -115,16 +111,10 @@ claimCourse a ctx routes =
     (ends (stays answer.Cut (r .active) ctx routes)))
 
 -- The same from the code's arrays.
-abbrev pub claimOf : ClaimArgs → List ℕ → List ℕ → Claim
+abbrev pub claimOf : ClaimPlan → List ℕ → List ℕ → Claim
 claimOf a oldWords newWords =
     record {
-      slot = a .slot .0;
-      spacing = a .spacing;
-      speed = a .speed;
-      interface = a .interface;
-      alternate = a .alternate;
-      held = a .held;
-      oldAlternate = a .«old_alternate»;
+      args = a .args;
       oldWords = oldWords;
       newWords = newWords;
       old = queuesIn (a .old);

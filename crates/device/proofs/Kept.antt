@@ -48,7 +48,7 @@ pub record ClaimPassed (d : Device) (i a : ℕ) (rings : List ℕ) : Type 0 wher
   pub free : addressesFree (settingWords (listOf d) i a) i (cellsIn d) ≡ true
   pub offer : Offered (length (settingWords (listOf d) i a)) rings ((cellsIn d) .rings) (d .control) (quarantinedOf d)
 
-pub claim-passed : (d : Device) (i a : ℕ) (rings : List ℕ) → claimCheck d i a rings ≡ Pass → ClaimPassed d i a rings
+pub claim-passed : (d : Device) (i a : ℕ) (rings : List ℕ) → claimCheck d i a rings Pass ≡ Pass → ClaimPassed d i a rings
 unfolding claimCheck
 claim-passed d i a rings e =
     let words = settingWords (listOf d) i a in
@@ -63,12 +63,12 @@ claim-passed d i a rings e =
 
 -- A claim that moves its settings.
 pub claim-moves :
-    (d : Device) (ctx routes log i a : ℕ) (rings : List ℕ) → recordCheck d ctx routes log (claimCheck d i a rings) ≡ Pass →
+    (d : Device) (ctx routes log i a : ℕ) (rings : List ℕ) → recordCheck d ctx routes log (claimCheck d i a rings Pass) ≡ Pass →
     (e : End) → e .moved ≡ true →
     Made d (claimRecord d i a rings e) (withSetting i a (heldOf d)) (claimedCells i (pendingOf d i a rings) (cellsIn d)) (isLost (e .answer))
 unfolding claimRecord pendingOf
 claim-moves d ctx routes log i a rings k e m =
-    let t = passed d ctx routes log (claimCheck d i a rings) k in
+    let t = passed d ctx routes log (claimCheck d i a rings Pass) k in
     let p : ClaimPassed d i a rings = claim-passed d i a rings (t .1) in
     let f : SoundFacts d = t .0 .facts in
     let words = settingWords (listOf d) i a in
@@ -86,12 +86,12 @@ claim-moves d ctx routes log i a rings k e m =
 
 -- A claim that does not.
 pub claim-stays :
-    (d : Device) (ctx routes log i a : ℕ) (rings : List ℕ) → recordCheck d ctx routes log (claimCheck d i a rings) ≡ Pass →
+    (d : Device) (ctx routes log i a : ℕ) (rings : List ℕ) → recordCheck d ctx routes log (claimCheck d i a rings Pass) ≡ Pass →
     (e : End) → e .moved ≡ false →
     Made d (claimRecord d i a rings e) (heldOf d) (withActive (Interface i) (e .active) (cellsIn d)) (isLost (e .answer))
 unfolding claimRecord pendingOf
 claim-stays d ctx routes log i a rings k e m =
-    let t = passed d ctx routes log (claimCheck d i a rings) k in
+    let t = passed d ctx routes log (claimCheck d i a rings Pass) k in
     let o = claim-passed d i a rings (t .1) .offer in
     let words = settingWords (listOf d) i a in
     let live = (cellsIn d) .rings in
@@ -161,12 +161,12 @@ stays-rings {d} who n m = (
 
 -- After 14 the pending rings of a claim are quarantined.
 pub claim-quarantined :
-    (d : Device) (ctx routes log i a : ℕ) (rings : List ℕ) → recordCheck d ctx routes log (claimCheck d i a rings) ≡ Pass →
+    (d : Device) (ctx routes log i a : ℕ) (rings : List ℕ) → recordCheck d ctx routes log (claimCheck d i a rings Pass) ≡ Pass →
     (e : End) → e .moved ≡ false → isBroken (e .answer) ≡ true →
     quarantinedOf (claimRecord d i a rings e) ≡ queueRings (queuesOf (pendingOf d i a rings))
 unfolding claimRecord marked quarantines unusable withCells quarantinedOf
 claim-quarantined d ctx routes log i a rings k e m b =
-    let t = passed d ctx routes log (claimCheck d i a rings) k in
+    let t = passed d ctx routes log (claimCheck d i a rings Pass) k in
     let c = withActive (Interface i) (e .active) (cellsIn d) in
     let by = queueRings (queuesOf (pendingOf d i a rings)) in
     rw (m, b)
@@ -206,7 +206,7 @@ pub claim-sound :
     Returned d ((claim d ctx routes log outcomes i a rings) .device)
 unfolding claim
 claim-sound d ctx routes log outcomes i a rings =
-    returned d (recordCheck d (length ctx) (length routes) (length log) (claimCheck d i a rings)) (claimRecord d i a rings) _ ctx routes log
+    returned d (recordCheck d (length ctx) (length routes) (length log) (claimCheck d i a rings Pass)) (claimRecord d i a rings) _ ctx routes log
     (λ k e m. inr (claim-moves d _ _ _ i a rings k e m .is-sound))
     (λ k e m. inr (claim-stays d _ _ _ i a rings k e m .is-sound))
 

@@ -1,16 +1,15 @@
 -- The claim of an interface's alternate setting, with the rings offered for its endpoint words.
 use Prim.Native.Nat.{ℕ}
-use mathlib.Core.Path.{_≡_}
 use mathlib.Core.Bool.{cond}
 use mathlib.Core.List.{List, []}
 use lib.ListN.{length}
 use Rattle.answer.specs.declared.Answer.{Answer}
 use Rattle.answer.specs.declared.Check.{Check}
+use Rattle.answer.specs.declared.Check.the-variants.{Pass}
 use Rattle.answer.specs.Answer.{isBroken}
 use Rattle.command.specs.Course.{played}
-use Rattle.record_endpoint.specs.declared.cells.Cells.{Cells}
 use Rattle.record_endpoint.specs.declared.cells.Owner.the-variants.{Interface}
-use Rattle.record_endpoint.specs.Cells.{ownedRings, queuesOf, queueDcis, queueRings, pendingRings, claimedCells, withActive, QueuesAs}
+use Rattle.record_endpoint.specs.Cells.{ownedRings, queuesOf, queueDcis, queueRings, pendingRings, claimedCells, withActive}
 use Rattle.record_settings.specs.Held.{isHeld, alternateOf, settingWords, withSetting}
 use Rattle.record_checks.specs.Offer.{offerCheck}
 use Rattle.course_steps.specs.End.{End}
@@ -22,29 +21,34 @@ use Rattle.device.specs.Left.{Left, refused, marked, ended}
 use Rattle.device.specs.Check.{recordCheck}
 use Rattle.device.specs.Calls.{onCheck}
 
--- 8, 9, 10.
-unfoldable pub claimCheck : Device → ℕ → ℕ → List ℕ → Check
-claimCheck d interface alternate rings =
-    offerCheck (listOf d) interface alternate (cellsIn d) rings (d .control) (quarantinedOf d)
+-- 8, 9, 10, and then what follows.
+unfoldable pub claimCheck : Device → ℕ → ℕ → List ℕ → Check → Check
+claimCheck d interface alternate rings next =
+    offerCheck (listOf d) interface alternate (cellsIn d) rings (d .control) (quarantinedOf d) next
 
 -- The rings offered for the words of an alternate, by place.
 unfoldable pub pendingOf : Device → ℕ → ℕ → List ℕ → List ℕ
 pendingOf d interface alternate rings = pendingRings (settingWords (listOf d) interface alternate) rings
 
 -- What the course of a claim works on.
-unfoldable pub claimIn : Device → ℕ → ℕ → List ℕ → Claim
-claimIn d interface alternate rings =
-    let held = isHeld interface (heldOf d) in
-    let old = alternateOf interface (heldOf d) in
+abbrev pub argsIn : Device → ℕ → ℕ → ClaimArgs
+argsIn d interface alternate =
     record {
-      slot = d .slot .0;
+      slot = d .slot;
       spacing = d .spacing;
       speed = d .«port_speed»;
       interface = interface;
       alternate = alternate;
-      held = held;
-      oldAlternate = old;
-      oldWords = cond held (settingWords (listOf d) interface old) [];
+      held = isHeld interface (heldOf d);
+      «old_alternate» = alternateOf interface (heldOf d);
+    }
+
+unfoldable pub claimIn : Device → ℕ → ℕ → List ℕ → Claim
+claimIn d interface alternate rings =
+    let held = isHeld interface (heldOf d) in
+    record {
+      args = argsIn d interface alternate;
+      oldWords = cond held (settingWords (listOf d) interface (alternateOf interface (heldOf d))) [];
       newWords = settingWords (listOf d) interface alternate;
       old = queuesOf (ownedRings (Interface interface) (cellsIn d));
       pending = queuesOf (pendingOf d interface alternate rings);
@@ -64,21 +68,13 @@ claimRecord d interface alternate rings e =
     (withHeld (withSetting interface alternate (heldOf d)) (withCells (claimedCells interface pending (cellsIn d)) d))
     (quarantines (e .answer) (queueRings (queuesOf pending)) (withCells (withActive (Interface interface) (e .active) (cellsIn d)) d)))
 
+-- The course with some rings, and the record that its end makes; the checks have passed.
+abbrev pub claimRun : Device → List ℕ → List ℕ → List ℕ → List ℕ → ℕ → ℕ → List ℕ → Left
+claimRun d ctx routes log outcomes interface alternate rings =
+    ended (claimRecord d interface alternate rings) (played outcomes 0 (claimCourse (claimIn d interface alternate rings) ctx routes) log)
+
 unfoldable pub claim : Device → List ℕ → List ℕ → List ℕ → List ℕ → ℕ → ℕ → List ℕ → Left
 claim d ctx routes log outcomes interface alternate rings =
-    onCheck (recordCheck d (length ctx) (length routes) (length log) (claimCheck d interface alternate rings))
-    (ended (claimRecord d interface alternate rings) (played outcomes 0 (claimCourse (claimIn d interface alternate rings) ctx routes) log))
+    onCheck (recordCheck d (length ctx) (length routes) (length log) (claimCheck d interface alternate rings Pass))
+    (claimRun d ctx routes log outcomes interface alternate rings)
     (λ a. refused d a ctx routes log)
-
--- What the code's arguments hold: those of a claim with some rings pending.
-pub record ClaimAs (a : ClaimArgs) (d : Device) (c : Cells) (i alt : ℕ) (by : List ℕ) : Type 0 where
-  pub slot : a .slot ≡ d .slot
-  pub spacing : a .spacing ≡ d .spacing
-  pub speed : a .speed ≡ d .«port_speed»
-  pub interface : a .interface ≡ i
-  pub alternate : a .alternate ≡ alt
-  pub held : a .held ≡ isHeld i (heldOf d)
-  pub oldAlternate : a .«old_alternate» ≡ alternateOf i (heldOf d)
-  pub old : QueuesAs (a .old) (ownedRings (Interface i) c)
-  pub pending : QueuesAs (a .pending) by
-  pub all : QueuesAs (a .all) (c .rings)

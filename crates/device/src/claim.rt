@@ -6,32 +6,65 @@ use super::update;
 use answer::Answer;
 use answer::Check;
 use course_claim::ClaimArgs;
+use course_claim::ClaimPlan;
 use course_steps::Ended;
+use record_checks::Checked;
 use record_endpoint::Cells;
 use record_endpoint::Owner;
 use record_endpoint::Queues;
 ghost use mathlib.Core.Path.{_≡_};
-ghost use mathlib.Core.Bool.{true};
 ghost use mathlib.Core.List.{List, []};
 ghost use Prim.Native.Nat.{ℕ, _≤_};
 ghost use lib.ListN.{length};
+ghost use Rattle.answer.specs.declared.Check.the-variants.{Pass};
+ghost use Rattle.descriptor_list.specs.declared.Found.the-variants.{Endpoints};
+ghost use Rattle.descriptor_list.specs.Lookup.{findEndpoints};
 ghost use Rattle.record_endpoint.specs.Cells.{QueuesAs};
 ghost use Rattle.record_settings.specs.Held.{withSetting};
+ghost use Rattle.record_checks.specs.Offer.{CheckedAs};
 ghost use Rattle.course_steps.specs.Arrays as arrays;
-ghost use Rattle.device.specs.Device.{cellsIn, heldOf, quarantinedOf};
-ghost use Rattle.device.specs.Sound.{countsFit};
+ghost use Rattle.device.specs.Device.{listOf, cellsIn, heldOf, quarantinedOf};
+ghost use Rattle.device.specs.Check.{recordCheck};
 ghost use Rattle.device.specs.Left.{leaves, ended};
-ghost use Rattle.device.specs.Claim.{pendingOf, ClaimAs, claimRecord, claim};
+ghost use Rattle.device.specs.Claim.{claimCheck, pendingOf, argsIn, claimRecord, claimRun, claim};
 
-fn claim_args(d: Device, c: Cells, interface: u8, alternate: u8, pending: [u64; 30]) -> ClaimArgs
-    requires { ⌜ countsFit d ≡ true ⌝ }
-    ensures { λ r. ⌜ ClaimAs r d c interface alternate pending ⌝ }
+// 12, 1, 2, 3, and then 8, 9, 10: it needs the lengths of what is lent, and hands on where the setting's endpoint words stand.
+fn claim_check(
+    d: Device,
+    ctx: usize,
+    routes: usize,
+    log: usize,
+    interface: u8,
+    alternate: u8,
+    rings: &[u64],
+) -> Checked
+    ensures { λ r. ⌜ CheckedAs r (recordCheck d ctx routes log (claimCheck d interface alternate (now (rings .entry)) Pass)) (findEndpoints (listOf d) interface alternate) ⌝ }
+{
+    let check = d.record_check(ctx, routes, log);
+    if let Check::Refuse(a) = check {
+        return Checked::Refuse(a);
+    }
+    let list = d.list;
+    let c = cells::cells_in(d);
+    // A usable record has no ring in quarantine.
+    record_checks::offer_check(
+        &list[..d.list_len],
+        interface,
+        alternate,
+        c,
+        rings,
+        d.control,
+        &[0u64; 0],
+    )
+}
+
+fn claim_args(d: Device, interface: u8, alternate: u8) -> ClaimArgs
+    requires { ⌜ d .«held_count» ≤ 32 ⌝ }
+    ensures { λ r. ⌜ r ≡ argsIn d interface alternate ⌝ }
 {
     let interfaces = d.interfaces;
     let alternates = d.alternates;
     let slot = d.slot;
-    let rings = c.rings;
-    let own = record_endpoint::owned_rings(Owner::Interface(interface), c);
     ClaimArgs {
         slot: slot,
         spacing: d.spacing,
@@ -45,9 +78,6 @@ fn claim_args(d: Device, c: Cells, interface: u8, alternate: u8, pending: [u64; 
             d.held_count,
             interface,
         ),
-        old: record_endpoint::queues_of(own),
-        pending: record_endpoint::queues_of(pending),
-        all: record_endpoint::queues_of(rings),
     }
 }
 
@@ -87,6 +117,46 @@ fn claim_end(
     update::at_end(d, c, e, Owner::Interface(interface), claimed, held)
 }
 
+// The course of a claim whose checks have passed, with some rings for the setting's endpoint words, which stand at start in the list.
+fn run_claim(
+    d: Device,
+    ctx: &mut [u8],
+    routes: &mut [u64],
+    log: &mut [u32],
+    outcomes: &[u8],
+    interface: u8,
+    alternate: u8,
+    start: usize,
+    count: usize,
+    rings: &[u64],
+) -> Called
+    requires { ⌜ recordCheck d (length (now ctx)) (length (now routes)) (length (now log)) (claimCheck d interface alternate (now rings) Pass) ≡ Pass ⌝ }
+    requires { ⌜ findEndpoints (listOf d) interface alternate ≡ Endpoints start count ⌝ }
+    ensures { λ r. ⌜ leaves r (now (ctx .exit)) (now (routes .exit)) (now (log .exit)) ≡ claimRun d (now (ctx .entry)) (now (routes .entry)) (now (log .entry)) (now (outcomes .entry)) interface alternate (now (rings .entry)) ⌝ }
+{
+    let list = d.list;
+    let args = claim_args(d, interface, alternate);
+    let words = &list[..d.list_len];
+    let old_words = if args.held {
+        record_settings::setting_words(words, interface, args.old_alternate)
+    } else {
+        &words[0..0]
+    };
+    let new_words = &words[start..start + count];
+    let pending = record_endpoint::pending_rings(new_words, rings);
+    let c = cells::cells_in(d);
+    let all = c.rings;
+    let own = record_endpoint::owned_rings(Owner::Interface(interface), c);
+    let plan = ClaimPlan {
+        args: args,
+        old: record_endpoint::queues_of(own),
+        pending: record_endpoint::queues_of(pending),
+        all: record_endpoint::queues_of(all),
+    };
+    let e = course_claim::claim_interface(ctx, routes, log, outcomes, plan, old_words, new_words);
+    claim_end(d, c, interface, alternate, pending, plan.pending, e)
+}
+
 impl Device {
     // The old endpoints are stopped and dropped, those of the setting added with the rings offered, and the device switched.
     pub fn claim(
@@ -101,39 +171,29 @@ impl Device {
     ) -> Called
         ensures { λ r. ⌜ leaves r (now (ctx .exit)) (now (routes .exit)) (now (log .exit)) ≡ claim self (now (ctx .entry)) (now (routes .entry)) (now (log .entry)) (now (outcomes .entry)) interface alternate (now (rings .entry)) ⌝ }
     {
-        let check = self.record_check(ctx.len(), routes.len(), log.len());
-        if let Check::Refuse(a) = check {
-            return update::refused(self, a);
-        }
-        let list = self.list;
-        let quarantined = self.quarantined;
-        let c = cells::cells_in(self);
-        // 8, 9, 10.
-        let offer = record_checks::list_check(
-            list,
-            self.list_len,
+        let checked = claim_check(
+            self,
+            ctx.len(),
+            routes.len(),
+            log.len(),
             interface,
             alternate,
-            c,
             rings,
-            self.control,
-            quarantined,
-            self.quarantined_count,
         );
-        if let Check::Refuse(a) = offer {
-            return update::refused(self, a);
+        match checked {
+            Checked::Words { start, count } => run_claim(
+                self,
+                ctx,
+                routes,
+                log,
+                outcomes,
+                interface,
+                alternate,
+                start,
+                count,
+                rings,
+            ),
+            Checked::Refuse(a) => update::refused(self, a),
         }
-        let pending = record_checks::list_rings(list, self.list_len, interface, alternate, rings);
-        let args = claim_args(self, c, interface, alternate, pending);
-        let e = course_claim::claim_interface(
-            ctx,
-            routes,
-            log,
-            outcomes,
-            args,
-            list,
-            self.list_len,
-        );
-        claim_end(self, c, interface, alternate, pending, args.pending, e)
     }
 }

@@ -12,10 +12,24 @@ use lib.ListN.{length, getD, set, take, drop, length-append, length-set, length-
 use lib.Seq.{take-suc, take-suc-set, take-set-le, length-take-le}
 use Rattle.laws.proofs.Cases.{Decided, decided}
 use Rattle.laws.proofs.Distinct.{elem, distinct}
-use Rattle.record_ring.specs.Rings.{ringOk, ringsOk}
+use Rattle.answer.specs.declared.Answer.{Answer}
+use Rattle.answer.specs.declared.Answer.the-variants as answer
+use Rattle.answer.specs.declared.Check.{Check}
+use Rattle.answer.specs.declared.Check.the-variants as check
+use Rattle.descriptor_list.specs.declared.Found.{Found}
+use Rattle.descriptor_list.specs.declared.Found.the-variants.{Endpoints, NotFound}
+use Rattle.descriptor_list.specs.Lookup.{findEndpoints}
+use Rattle.descriptor_list.proofs.Laws.{found-inside}
+use Rattle.record_ring.specs.Rings.{ringOk, ringsOk, offerOk}
 use Rattle.record_endpoint.specs.declared.entry.Endpoint.{Endpoint}
+use Rattle.record_endpoint.specs.declared.cells.Cells.{Cells}
 use Rattle.record_endpoint.specs.Endpoint.{blank, ringsOf, padded}
 use Rattle.record_endpoint.proofs.Laws.{padded-next}
+use Rattle.record_settings.specs.Held.{isFound, foundWords, settingWords}
+use Rattle.record_settings.specs.Match.{addressesFree}
+use Rattle.record_checks.specs.declared.offer.Checked.{Checked}
+use Rattle.record_checks.specs.declared.offer.Checked.the-variants as checked
+use Rattle.record_checks.specs.Offer.{offerCheck, checkOf, CheckedAs}
 use Rattle.record_checks.specs.Rings.{ringsFit, soundRings}
 
 pub rings-length : (es : List Endpoint) → length (ringsOf es) ≡ length es
@@ -180,3 +194,34 @@ fill-next {rings} {out} {i} f h =
 -- A part of a list is as long as it is said to be.
 pub part-count : (l : List ℕ) (start count : ℕ) → start + count ≤ length l → length (take count (drop start l)) ≡ count
 part-count l start count h = length-take-le count (drop start l) (rw (length-drop start l) (omega arith))
+
+-- `offer_check`
+refused-as : (a : Answer) (k : Check) (f : Found) → check.Refuse a ≡ k → CheckedAs (checked.Refuse a) k f
+unfolding checkOf
+refused-as a k f e =
+    record { check = e; words = λ start count p. let z : _≡_ {A = ℕ} 0 1 = cc in absurd (omega arith) }
+
+module _ (list : List ℕ) (i a : ℕ) (c : Cells) (rings : List ℕ) (control : ℕ) (quarantined : List ℕ) where
+  abbrev Offered : Checked → Type 0
+  Offered r = CheckedAs r (offerCheck list i a c rings control quarantined check.Pass) (findEndpoints list i a)
+
+  pub not-found : findEndpoints list i a ≡ NotFound → Offered (checked.Refuse answer.NotFound)
+  unfolding isFound
+  not-found e = refused-as _ _ _ (sym (rw e))
+
+  module _ (start count : ℕ) (e : findEndpoints list i a ≡ Endpoints start count) where
+    pub not-free : addressesFree (take count (drop start list)) i c ≡ false → Offered (checked.Refuse answer.InvalidParameter)
+    unfolding settingWords foundWords isFound
+    not-free n = refused-as _ _ _ (sym (rw (e, n)))
+
+    module _ (free : addressesFree (take count (drop start list)) i c ≡ true) where
+      counted : length (take count (drop start list)) ≡ count
+      counted = part-count list start count (found-inside list i a start count e)
+
+      pub not-fit : offerOk count rings (c .rings) control quarantined ≡ false → Offered (checked.Refuse answer.Rings)
+      unfolding settingWords foundWords isFound
+      not-fit n = refused-as _ _ _ (sym (rw (e, free, counted, n)))
+
+      pub passes : offerOk count rings (c .rings) control quarantined ≡ true → Offered (checked.Words start count)
+      unfolding settingWords foundWords isFound checkOf
+      passes n = record { check = sym (rw (e, free, counted, n)); words = λ s t p. cc }

@@ -8,8 +8,8 @@ mod think;
 
 pub use held::held_check;
 pub use lengths::lengths_check;
-pub use offer::list_check;
-pub use offer::list_rings;
+pub use offer::Checked;
+pub use offer::offer_check;
 pub use rings::quarantined_rings;
 pub use rings::rings_sound;
 pub use sound::counts_fit;

@@ -27,7 +27,7 @@ use Rattle.record_endpoint.specs.declared.cells.Cells.{Cells}
 use Rattle.record_endpoint.specs.declared.cells.Owner.{Owner}
 use Rattle.record_endpoint.specs.declared.cells.Owner.the-variants.{Interface}
 use Rattle.record_endpoint.proofs.Laws.{word-place, wordDcis, word-at, pending-some, claimed-ring, claimed-owner}
-use Rattle.record_settings.specs.Match.{hasPlace, same, eachFrom, eachPlace, ownsPlaces, allOwn, ownersHeld, endpointsMatch, addressesFree}
+use Rattle.record_settings.specs.Match.{hasPlace, same, eachFrom, eachPlace, ownsPlaces, allOwn, ownersHeld, endpointsMatch, addressFree, addressesFree}
 use Rattle.record_settings.specs.declared.held.Settings.{Settings}
 use Rattle.record_settings.specs.Held.{Held, heldIn, interfacesOf, alternatesOf, isHeld, alternateOf, withoutSetting, withSetting, foundWords, settingWords, isFound, eachSetting, allFound, settingsSound, SettingsAs}
 
@@ -602,13 +602,32 @@ free-other ring owner i j n e = go (or-cases (eqb ring 0) (eqb owner i) e)
     go (inr p) =
         rw (ne-eqb owner j (λ q. n (sym (eqb-true owner i p) ∙ q))) (and-false (not (eqb ring 0)))
 
+-- By place: where a word's address is there is no endpoint, or the interface's.
+pub free-at :
+    (words : List ℕ) (i : ℕ) (c : Cells) (p : ℕ) → addressesFree words i c ≡ true → hasPlace p words ≡ true →
+    (eqb (getD (c .rings) p 0) 0 || eqb (getD (c .owners) p 0) i) ≡ true
+unfolding addressesFree addressFree hasPlace
+free-at [] i c p f h = not-both false h refl
+free-at (w ∷ ws) i c p f h =
+    go (or-cases (eqb place p) (hasPlace p ws) h) (λ t. free-at ws i c p (and-right (free place) (addressesFree ws i c) f) t)
+  where
+    place : ℕ
+    place = placeOf ((endpointDescriptor w) .address)
+
+    free : ℕ → Bool
+    free q = eqb (getD (c .rings) q 0) 0 || eqb (getD (c .owners) q 0) i
+
+    go : (eqb place p ≡ true) ⊎ (hasPlace p ws ≡ true) → (hasPlace p ws ≡ true → free p ≡ true) → free p ≡ true
+    go (inl e) t = ap free (sym (eqb-true place p e)) ∙ and-left (free place) (addressesFree ws i c) f
+    go (inr e) t = t e
+
 -- At a free address no other interface has an endpoint.
 pub free-apart :
     (words : List ℕ) (i j : ℕ) (c : Cells) (p : ℕ) → addressesFree words i c ≡ true → p < 30 → hasPlace p words ≡ true →
     (i ≡ j → ⊥) → isOwned (Interface j) c p ≡ false
-unfolding addressesFree isOwned owns
+unfolding isOwned owns
 free-apart words i j c p free l h n =
-    free-other (getD (c .rings) p 0) (getD (c .owners) p 0) i j n (rw h at (each-at _ free p l))
+    free-other (getD (c .rings) p 0) (getD (c .owners) p 0) i j n (free-at words i c p free h)
 
 claimed-cell :
     (pending ring owner i j : ℕ) (own : Bool) →
@@ -740,7 +759,7 @@ module _ (list : List ℕ) (hs : List Held) (i : ℕ) (pending : List ℕ) (c : 
   match-released none =
       match-if list (withoutSetting i hs) (claimedCells i pending c) (distinct-without-setting i hs (sound-distinct list hs sound))
       (matches-after list hs (withoutSetting i hs) i [] pending c (match-facts list hs c m)
-      (λ p l. eq-eqb (getD pending p 0) 0 (none p l)) (each-if _ (λ p l. refl))
+      (λ p l. eq-eqb (getD pending p 0) 0 (none p l)) refl
       (λ j n. held-without-other i j hs n) (λ j n. alternate-without-other i j hs n)
       (λ h. not-both (isHeld i (withoutSetting i hs)) h (held-without i hs))
       (λ p h. not-both false h refl))

@@ -10,7 +10,7 @@ use native.Mathlib.Omega.{arith}
 use native.Mathlib.Decide.{decLt}
 use borrow.Author.Tests.{eq-eqb, ne-eqb, eqb-true, eqb-false}
 use lib.Dec.{eqb}
-use lib.ListN.{length, getD, set, drop, length-append, drop-of-length-le}
+use lib.ListN.{length, getD, set, drop, length-append, drop-of-length-le, List·getD-eq-default}
 use lib.Seq.{drop-drop, getD-drop, getD-set-same, getD-set-other, set-append-seam, drop-cons, ext-getD}
 use Rattle.laws.proofs.Tests.{and-left, and-right, not-both}
 use Rattle.laws.proofs.Cases.{Decided, decided, false-if}
@@ -25,8 +25,8 @@ use Rattle.record_endpoint.specs.declared.cells.Cells.{Cells}
 use Rattle.record_endpoint.proofs.Laws.{tabulated-at, tabulated-length}
 use Rattle.record_settings.specs.declared.held.Settings.{Settings}
 use Rattle.record_settings.specs.Held.{Held, heldIn, interfacesOf, alternatesOf, isHeld, withoutSetting, isFound, eachSetting, allFound, settingsSound, SettingsAs}
-use Rattle.record_settings.specs.Match.{hasPlace, placesOf, same, eachFrom, eachPlace, ownsPlaces, allOwn, ownersHeld, endpointsMatch, addressesFree}
-use Rattle.record_settings.proofs.Laws.{eqb-turned, passed-append, held-elem, interfaces-any, interfaces-length, alternates-length, interfaces-append, alternates-append, each-same, each-at, each-if}
+use Rattle.record_settings.specs.Match.{hasPlace, placesOf, same, eachFrom, eachPlace, ownsPlaces, allOwn, ownersHeld, endpointsMatch, addressFree, addressesFree}
+use Rattle.record_settings.proofs.Laws.{eqb-turned, passed-append, held-elem, interfaces-any, interfaces-length, alternates-length, interfaces-append, alternates-append, each-same}
 
 abbrev pub heldAt : List ℕ → List ℕ → ℕ → Held
 heldAt is alts i = record { interface = getD is i 0; alternate = getD alts i 0 }
@@ -305,77 +305,22 @@ unfolding ownsPlaces
 owns-same places words i c e = each-same _ _ (λ p h. rw (e, place-at words p h))
 
 -- `addresses_free`
-each-and-from :
-    (f g : ℕ → Bool) (k a : ℕ) → eachFrom (λ p. f p && g p) k a ≡ (eachFrom f k a && eachFrom g k a)
-unfolding eachFrom
-each-and-from f g zero a = refl
-each-and-from f g (suc k) a =
-    rw (each-and-from f g k (a + 1)) (go (f a) (g a) (eachFrom f k (a + 1)) (eachFrom g k (a + 1)))
-  where
-    go : (x y u v : Bool) → ((x && y) && (u && v)) ≡ ((x && u) && (y && v))
-    go false y u v = refl
-    go true true u v = refl
-    go true false true v = refl
-    go true false false v = refl
-
-each-and : (f g : ℕ → Bool) → eachPlace (λ p. f p && g p) ≡ (eachPlace f && eachPlace g)
-unfolding eachPlace
-each-and f g = each-and-from f g 30 0
-
--- a test of one place alone
-module _ (q : ℕ) (t : ℕ → Bool) where
-  one-in : q < 30 → eachPlace (λ p. not (eqb q p) || t p) ≡ t q
-  one-in h = go (decided (t q))
-    where
-      pass : t q ≡ true → (p : ℕ) → Decided (eqb q p) → not (eqb q p) || t p ≡ true
-      pass e p (inl s) = let r : p ≡ q = sym (eqb-true q p s) in rw (r, e) (or-true (not (eqb q q)))
-      pass e p (inr s) = rw s
-
-      go : Decided (t q) → eachPlace (λ p. not (eqb q p) || t p) ≡ t q
-      go (inl e) = each-if (λ p. not (eqb q p) || t p) (λ p l. pass e p (decided (eqb q p))) ∙ sym e
-      go (inr e) =
-          false-if (eachPlace (λ p. not (eqb q p) || t p))
-          (λ f. not-both (t q) (rw (eq-eqb q q refl) at (each-at (λ p. not (eqb q p) || t p) f q h)) e)
-          ∙ sym e
-
-  one-out : 30 ≤ q → eachPlace (λ p. not (eqb q p) || t p) ≡ true
-  one-out h = each-if (λ p. not (eqb q p) || t p) (λ p l. rw (ne-eqb q p (λ s. absurd (omega arith))))
-
-module _ (words : List ℕ) (i : ℕ) (c : Cells) (k q : ℕ) where
-  abbrev free : ℕ → Bool
-  free p = eqb (getD (c .rings) p 0) 0 || eqb (getD (c .owners) p 0) i
-
-  free-split :
-      k < length words → q ≡ placeOf ((endpointDescriptor (getD words k 0)) .address) →
-      addressesFree (drop k words) i c ≡ (eachPlace (λ p. not (eqb q p) || free p) && addressesFree (drop (k + 1) words) i c)
-  unfolding addressesFree
-  free-split h e =
-      each-same _ (λ p. (not (eqb q p) || free p) && (not (hasPlace p (drop (k + 1) words)) || free p))
-      (λ p l. rw (next-word words k p h, ← e) (go (eqb q p) (hasPlace p (drop (k + 1) words)) (free p)))
-      ∙ each-and (λ p. not (eqb q p) || free p) (λ p. not (hasPlace p (drop (k + 1) words)) || free p)
-    where
-      go : (a b t : Bool) → not (a || b) || t ≡ ((not a || t) && (not b || t))
-      go true true true = refl
-      go true true false = refl
-      go true false true = refl
-      go true false false = refl
-      go false b t = refl
-
+module _ (words : List ℕ) (i : ℕ) (c : Cells) (k q : ℕ) (h : k < length words)
+    (e : q ≡ placeOf ((endpointDescriptor (getD words k 0)) .address)) where
   pub free-next :
-      k < length words → q ≡ placeOf ((endpointDescriptor (getD words k 0)) .address) → q < 30 →
       addressesFree (drop k words) i c
       ≡ ((eqb (getD (c .rings) q 0) 0 || eqb (getD (c .owners) q 0) i) && addressesFree (drop (k + 1) words) i c)
-  free-next h e l = free-split h e ∙ rw (one-in q free l)
+  unfolding addressesFree addressFree
+  free-next = rw (e, add-one k, drop-cons words k 0)
 
-  pub free-skip :
-      k < length words → q ≡ placeOf ((endpointDescriptor (getD words k 0)) .address) → 30 ≤ q →
-      addressesFree (drop k words) i c ≡ addressesFree (drop (k + 1) words) i c
-  free-skip h e l = free-split h e ∙ rw (one-out q free l)
+  -- a word that no endpoint can have
+  pub free-skip : length (c .rings) ≡ 30 → 30 ≤ q → addressesFree (drop k words) i c ≡ addressesFree (drop (k + 1) words) i c
+  free-skip l o = let z : length (c .rings) ≤ q = rw l o in free-next ∙ rw (List·getD-eq-default (c .rings) 0 z)
 
 pub free-none :
     (words : List ℕ) (i : ℕ) (c : Cells) (k : ℕ) → length words ≤ k → addressesFree (drop k words) i c ≡ true
-unfolding addressesFree hasPlace
-free-none words i c k h = rw (drop-of-length-le words h) (each-if _ (λ p l. refl))
+unfolding addressesFree
+free-none words i c k h = rw (drop-of-length-le words h)
 
 -- `endpoints_match`: first the endpoints of each setting, then the owners.
 module _ (list : List ℕ) (hs : List Held) (c : Cells) where

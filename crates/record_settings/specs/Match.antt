@@ -47,7 +47,13 @@ ownersHeld hs c = eachPlace (λ p. eqb (getD (c .rings) p 0) 0 || isHeld (getD (
 unfoldable pub endpointsMatch : List ℕ → List Held → Cells → Bool
 endpointsMatch list hs c = allOwn list hs c && ownersHeld hs c
 
--- For a claim: no word's address has an endpoint of another interface. Otherwise 01's answer 9.
+-- For a claim: a word's address has no endpoint of another interface.
+unfoldable pub addressFree : ℕ → ℕ → Cells → Bool
+addressFree w i c =
+    let place = placeOf ((endpointDescriptor w) .address) in
+    eqb (getD (c .rings) place 0) 0 || eqb (getD (c .owners) place 0) i
+
+-- The same for each word. Otherwise 01's answer 9.
 unfoldable pub addressesFree : List ℕ → ℕ → Cells → Bool
-addressesFree words i c =
-    eachPlace (λ p. not (hasPlace p words) || (eqb (getD (c .rings) p 0) 0 || eqb (getD (c .owners) p 0) i))
+addressesFree [] i c = true
+addressesFree (w ∷ ws) i c = addressFree w i c && addressesFree ws i c

@@ -121,7 +121,7 @@ unfolding wordDci
 word-dci w h = place-dci ((endpointDescriptor w) .address) h
 
 module _ (d : Device) (ctx routes log o : List ℕ) (i a : ℕ) (rings : List ℕ)
-    (g : Ready d ctx routes log o (claimCheck d i a rings)) where
+    (g : Ready d ctx routes log o (claimCheck d i a rings Pass)) where
   abbrev claimedWords : List ℕ
   claimedWords = settingWords (listOf d) i a
 
@@ -140,7 +140,7 @@ module _ (d : Device) (ctx routes log o : List ℕ) (i a : ℕ) (rings : List �
       (routeOf ((claim d ctx routes log o i a rings) .routes) (d .slot .0) (wordDci w) ≡ getD rings (length xs) 0)
       × (getD rings (length xs) 0 ≡ 0 → ⊥)
   word-route xs ys w e s =
-      let v = passed d (length ctx) (length routes) (length log) (claimCheck d i a rings) (g .passes) .0 .facts .list in
+      let v = passed d (length ctx) (length routes) (length log) (claimCheck d i a rings Pass) (g .passes) .0 .facts .list in
       let p = placeOf ((endpointDescriptor w) .address) in
       let k : length xs < length claimedWords = rw (e, length-append xs (w ∷ ys)) (omega arith) in
       let at : getD claimedWords (length xs) 0 ≡ w = rw e (getD-append-seam xs w ys 0) in
@@ -220,7 +220,7 @@ module _ (d : Device) (routes : List ℕ) (hs : List Held) (c : Cells) (x y : Li
 
 -- A claim of an interface that holds nothing, and then its release.
 module _ (d : Device) (ctx routes log o : List ℕ) (i a : ℕ) (rings : List ℕ)
-    (g : Ready d ctx routes log o (claimCheck d i a rings))
+    (g : Ready d ctx routes log o (claimCheck d i a rings Pass))
     (unheld : isHeld i (heldOf d) ≡ false)
     (ctx₂ log₂ o₂ : List ℕ) (enough : Enough d ctx₂ log₂ o₂) where
   abbrev pending : List ℕ
@@ -255,19 +255,19 @@ module _ (d : Device) (ctx routes log o : List ℕ) (i a : ℕ) (rings : List �
 
   unowned : (p : ℕ) → p < 30 → isOwned (Interface i) (cellsIn d) p ≡ false
   unowned p h =
-      let f = passed d (length ctx) (length routes) (length log) (claimCheck d i a rings) (g .passes) .0 .facts in
+      let f = passed d (length ctx) (length routes) (length log) (claimCheck d i a rings Pass) (g .passes) .0 .facts in
       match-unheld (listOf d) (heldOf d) (cellsIn d) (match-facts (listOf d) (heldOf d) (cellsIn d) (f .endpoints)) i p unheld h
 
   unringed : (p : ℕ) → p < 30 → eqb (getD pending p 0) 0 ≡ false → getD ((cellsIn d) .rings) p 0 ≡ 0
   unringed p h e =
       let words = settingWords (listOf d) i a in
-      let t = passed d (length ctx) (length routes) (length log) (claimCheck d i a rings) (g .passes) .1 in
+      let t = passed d (length ctx) (length routes) (length log) (claimCheck d i a rings Pass) (g .passes) .1 in
       free-ring words i (cellsIn d) p (claim-passed d i a rings t .free) h
       (not-false (hasPlace p words) (sym (offer-places d ctx routes log o i a rings g p h) ∙ e)) (unowned p h)
 
   last-cells : cellsIn (last .device) ≡ cellsIn d
   last-cells =
-      let s = passed d (length ctx) (length routes) (length log) (claimCheck d i a rings) (g .passes) .0 .is-sound in
+      let s = passed d (length ctx) (length routes) (length log) (claimCheck d i a rings Pass) (g .passes) .0 .is-sound in
       release-ran (first .device) ctx₂ (first .routes) log₂ o₂ i last-ready .made .cells
       ∙ ap (claimedCells i (replicate 30 0)) (claim-ran d ctx routes log o i a rings g .made .cells)
       ∙ cells-back i pending (cellsIn d) (sound-clean d s) unowned unringed

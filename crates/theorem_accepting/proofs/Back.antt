@@ -20,7 +20,7 @@ use Rattle.record_endpoint.proofs.Laws.{claimed-whole, claimed-ring, claimed-ow
 use Rattle.record_endpoint.proofs.Clean.{CleanCells}
 use Rattle.record_settings.specs.Held.{Held, isHeld, withoutSetting, withSetting}
 use Rattle.record_settings.specs.Match.{hasPlace, addressesFree}
-use Rattle.record_settings.proofs.Laws.{each-at, without-unheld, claimed-owned}
+use Rattle.record_settings.proofs.Laws.{free-at, without-unheld, claimed-owned}
 
 -- A table that agrees with another outside a slot and at each of its Dcis is the same.
 pub same-words :
@@ -121,9 +121,9 @@ module _ (i : ℕ) (pending : List ℕ) (c : Cells) (clean : CleanCells c)
 pub free-ring :
     (words : List ℕ) (i : ℕ) (c : Cells) (p : ℕ) → addressesFree words i c ≡ true → p < 30 → hasPlace p words ≡ true →
     isOwned (Interface i) c p ≡ false → getD (c .rings) p 0 ≡ 0
-unfolding addressesFree isOwned owns
+unfolding isOwned owns
 free-ring words i c p f h w o =
-    go (decided (eqb (getD (c .rings) p 0) 0)) (rw w at (each-at _ f p h))
+    go (decided (eqb (getD (c .rings) p 0) 0)) (free-at words i c p f w)
   where
     go : Decided (eqb (getD (c .rings) p 0) 0) → (eqb (getD (c .rings) p 0) 0 || eqb (getD (c .owners) p 0) i) ≡ true → getD (c .rings) p 0 ≡ 0
     go (inl e) t = eqb-true (getD (c .rings) p 0) 0 e

@@ -79,9 +79,9 @@ in-table : (d : Device) (ctx routes log : ℕ) (l : List ℕ) → Passed d ctx r
 in-table d ctx routes log l p e = omega (arith, p .facts .place .slot-high, p .table)
 
 module _ (d : Device) (ctx routes log o : List ℕ) (i a : ℕ) (rings : List ℕ)
-    (g : Ready d ctx routes log o (claimCheck d i a rings)) where
-  claim-check : Passed d (length ctx) (length routes) (length log) × (claimCheck d i a rings ≡ Pass)
-  claim-check = passed d (length ctx) (length routes) (length log) (claimCheck d i a rings) (g .passes)
+    (g : Ready d ctx routes log o (claimCheck d i a rings Pass)) where
+  claim-check : Passed d (length ctx) (length routes) (length log) × (claimCheck d i a rings Pass ≡ Pass)
+  claim-check = passed d (length ctx) (length routes) (length log) (claimCheck d i a rings Pass) (g .passes)
 
   claim-facts : ClaimPassed d i a rings
   claim-facts = claim-passed d i a rings (claim-check .1)

@@ -92,7 +92,7 @@ pub record Claimed (d : Device) (interface alternate : ℕ) (rings : List ℕ) (
 abbrev pub ClaimAccepted : Type 0
 ClaimAccepted =
     (d : Device) (ctx routes log outcomes : List ℕ) (interface alternate : ℕ) (rings : List ℕ) →
-    Ready d ctx routes log outcomes (claimCheck d interface alternate rings) →
+    Ready d ctx routes log outcomes (claimCheck d interface alternate rings Pass) →
     Claimed d interface alternate rings (claim d ctx routes log outcomes interface alternate rings)
 
 -- A release: the interface holds nothing, and the routes of its endpoints are out.
@@ -119,7 +119,7 @@ pub record Back (d : Device) (routes : List ℕ) (l : Left) : Type 0 where
 abbrev pub ReleaseBack : Type 0
 ReleaseBack =
     (d : Device) (ctx routes log outcomes : List ℕ) (interface alternate : ℕ) (rings : List ℕ) →
-    Ready d ctx routes log outcomes (claimCheck d interface alternate rings) →
+    Ready d ctx routes log outcomes (claimCheck d interface alternate rings Pass) →
     isHeld interface (heldOf d) ≡ false →
     (ctx₂ log₂ outcomes₂ : List ℕ) →
     Enough d ctx₂ log₂ outcomes₂ →

@@ -33,7 +33,7 @@ use Rattle.record_endpoint.specs.Cells.{noCells, withCell, isActive, handleOf, 
 use Rattle.record_endpoint.specs.Endpoint.{addresses, ringsOf, addressesFit, padded}
 use Rattle.record_endpoint.specs.Order.{addressAt, dciAt, placeOf}
 use Rattle.record_settings.specs.Held.{heldIn, interfacesOf, alternatesOf, isHeld, alternateOf, withoutSetting, withSetting, foundWords, settingWords, heldWords, isFound, eachSetting, allFound, settingsSound}
-use Rattle.record_settings.specs.Match.{hasPlace, placesOf, same, eachFrom, eachPlace, ownsPlaces, allOwn, ownersHeld, endpointsMatch, addressesFree}
+use Rattle.record_settings.specs.Match.{hasPlace, placesOf, same, eachFrom, eachPlace, ownsPlaces, allOwn, ownersHeld, endpointsMatch, addressFree, addressesFree}
 use Rattle.course_steps.specs.End.{answerOf, configureFailed}
 use Rattle.course_release.specs.Release.{releaseContext, releasePublished, releasePublish, releaseResume, releaseConfigure, releaseCourse}
 use Rattle.course_claim.specs.Claim.{claimContext, undoContext, claimPublished, claimPublish, claimSwitchBack, claimUndone, claimUndo, claimSwitch, claimResume, claimConfigure, claimCourse}
@@ -209,5 +209,5 @@ allHold [] = true
 allHold (c ∷ cs) = holds c && allHold cs
 
 pub all-hold : (ring : ℕ) → (allHold (cases ring) && allListed lists) ≡ true
-unfolding hub-route.routeOf speedKnown hubInfo hubAt hubFits chainFrom chainOk ports clamp routeOf routeString thinkTime directionIn endpointNumber typeNumber transferType endpointDescriptor dciOf endpointType periodicInterval xhciInterval isPeriodic periodicBurst esitPayload wordAt putWord readField withBits writeField queues ringFor changed ringSettings errorCount periodicSettings burstOf basicSettings endpointSettings wordDci dropFlags inBlock onPart writeAt written blockAt readAt addWrites addAll highestDci wordDcis contextEntries configureWrites firstPacketSize headerPacketSize kind configurationValue interfaceNumber alternateSetting endpointOk wordOk endpointRun ofInterface isAlternate findFrom findEndpoints beginsWithConfiguration wordsOk runFits runsFit configurations hasInterface lastAlternate interfaces validList routeIndex withRoute registered withRegistered names oldMatch isFree newFree replaced cleared published moved withReplaced commandWord outcomeAt onSent then words result played resumeFrom resumeAll orCode undoStops stopFrom stopAll number codeOf ringOk ringsOk disjoint offerOk noCells withCell isActive handleOf cellsFrom cellsOf gathered endpointAt endpointsOf ownersOf owns isOwned tabulated ownedRings queuesOf pendingFrom pendingRings claimedRing claimedOwner claimedActive claimedCells activeFrom withActive queueDcis queueRings addresses addressesFit padded addressAt dciAt placeOf heldIn interfacesOf alternatesOf isHeld alternateOf withoutSetting withSetting foundWords settingWords heldWords isFound eachSetting allFound settingsSound hasPlace placesOf same eachFrom eachPlace ownsPlaces allOwn ownersHeld endpointsMatch addressesFree answerOf configureFailed releaseContext releasePublished releasePublish releaseResume releaseConfigure releaseCourse claimContext undoContext claimPublished claimPublish claimSwitchBack claimUndone claimUndo claimSwitch claimResume claimConfigure claimCourse dropContext restoreContext valueContext setEvaluate setPublished setPublish setRestored setRestore setSwitch setResume setConfigure setCourse onCheck thinkValue hubContext hubCourse hubLeft hubUpdate recordCheck isThought hubCheck claimCheck pendingOf claimIn quarantines claimRecord claim listOf cellsIn heldOf quarantinedOf withCells withHeld withConfiguration withQuarantined unusable refused marked ended releaseCheck releaseIn releaseRecord release settingsIn bare setRecord setConfiguration placeSound countsFit listsSound ringsOf allRings ringsSound sound spacingOf bringUpCheck step firstConfigurations nothingRead readUpTo bringUpSettings bringUpSet bringUpConfigs bringUpDevice bringUpHeader bringUpCourse broughtRecord noDevice broughtLeft bringUp elem distinct left controller.configured isDone controlled enabledAfter doneWord heldQueues plainRoute isHeldDci without hasSetting settingOf effectOf heldAfter isLoose begun anew observed cutAt contextCut called after start slotCheck deviceCheck queueCheck bringUpConfiguration bringUpPacket bringUpAddress seen
+unfolding hub-route.routeOf speedKnown hubInfo hubAt hubFits chainFrom chainOk ports clamp routeOf routeString thinkTime directionIn endpointNumber typeNumber transferType endpointDescriptor dciOf endpointType periodicInterval xhciInterval isPeriodic periodicBurst esitPayload wordAt putWord readField withBits writeField queues ringFor changed ringSettings errorCount periodicSettings burstOf basicSettings endpointSettings wordDci dropFlags inBlock onPart writeAt written blockAt readAt addWrites addAll highestDci wordDcis contextEntries configureWrites firstPacketSize headerPacketSize kind configurationValue interfaceNumber alternateSetting endpointOk wordOk endpointRun ofInterface isAlternate findFrom findEndpoints beginsWithConfiguration wordsOk runFits runsFit configurations hasInterface lastAlternate interfaces validList routeIndex withRoute registered withRegistered names oldMatch isFree newFree replaced cleared published moved withReplaced commandWord outcomeAt onSent then words result played resumeFrom resumeAll orCode undoStops stopFrom stopAll number codeOf ringOk ringsOk disjoint offerOk noCells withCell isActive handleOf cellsFrom cellsOf gathered endpointAt endpointsOf ownersOf owns isOwned tabulated ownedRings queuesOf pendingFrom pendingRings claimedRing claimedOwner claimedActive claimedCells activeFrom withActive queueDcis queueRings addresses addressesFit padded addressAt dciAt placeOf heldIn interfacesOf alternatesOf isHeld alternateOf withoutSetting withSetting foundWords settingWords heldWords isFound eachSetting allFound settingsSound hasPlace placesOf same eachFrom eachPlace ownsPlaces allOwn ownersHeld endpointsMatch addressesFree answerOf configureFailed releaseContext releasePublished releasePublish releaseResume releaseConfigure releaseCourse claimContext undoContext claimPublished claimPublish claimSwitchBack claimUndone claimUndo claimSwitch claimResume claimConfigure claimCourse dropContext restoreContext valueContext setEvaluate setPublished setPublish setRestored setRestore setSwitch setResume setConfigure setCourse onCheck thinkValue hubContext hubCourse hubLeft hubUpdate recordCheck isThought hubCheck claimCheck pendingOf claimIn quarantines claimRecord claim listOf cellsIn heldOf quarantinedOf withCells withHeld withConfiguration withQuarantined unusable refused marked ended releaseCheck releaseIn releaseRecord release settingsIn bare setRecord setConfiguration placeSound countsFit listsSound ringsOf allRings ringsSound sound spacingOf bringUpCheck step firstConfigurations nothingRead readUpTo bringUpSettings bringUpSet bringUpConfigs bringUpDevice bringUpHeader bringUpCourse broughtRecord noDevice broughtLeft bringUp elem distinct left controller.configured isDone controlled enabledAfter doneWord heldQueues plainRoute isHeldDci without hasSetting settingOf effectOf heldAfter isLoose begun anew observed cutAt contextCut called after start slotCheck deviceCheck queueCheck bringUpConfiguration bringUpPacket bringUpAddress seen addressFree
 all-hold ring = refl

@@ -28,7 +28,7 @@ use Rattle.record_endpoint.specs.declared.cells.Owner.{Owner}
 use Rattle.record_endpoint.specs.declared.cells.Owner.the-variants.{Interface}
 use Rattle.record_endpoint.proofs.Laws.{dci-place, dci-low, dci-high, owned-at, owned-zero, claimed-ring, pending-at, word-at, wordDcis as endpointDcis, queues-name, queues-other, queues-ring, queues-small}
 use Rattle.record_settings.specs.Match.{hasPlace, addressesFree}
-use Rattle.record_settings.proofs.Laws.{each-at, each-if, pending-place}
+use Rattle.record_settings.proofs.Laws.{each-at, each-if, free-at, pending-place}
 use Rattle.theorem_routing.specs.Routing.{InTable, RoutedBy, NamedBy, Rerouted}
 
 -- What holds of the Dci at each place holds of each Dci of a device context but 0 and control's.
@@ -137,9 +137,9 @@ owned-part who c p h z = go (decided (isOwned who c p))
 free-none :
     (words : List ℕ) (i : ℕ) (c : Cells) (p : ℕ) → addressesFree words i c ≡ true → p < 30 → hasPlace p words ≡ true →
     getD (ownedRings (Interface i) c) p 0 ≡ 0 → getD (c .rings) p 0 ≡ 0
-unfolding addressesFree isOwned owns
+unfolding isOwned owns
 free-none words i c p f h w z =
-    go (or-cases (eqb ring 0) (eqb owner i) (rw w at (each-at _ f p h))) (decided (eqb ring 0))
+    go (or-cases (eqb ring 0) (eqb owner i) (free-at words i c p f w)) (decided (eqb ring 0))
   where
     ring : ℕ
     ring = getD (c .rings) p 0
@@ -211,8 +211,8 @@ unfolding queuesOf gathered
 no-queues = refl
 
 no-words : (i : ℕ) (c : Cells) → addressesFree [] i c ≡ true
-unfolding addressesFree hasPlace
-no-words i c = each-if _ (λ p l. refl)
+unfolding addressesFree
+no-words i c = refl
 
 -- Queues taken out, where they are routed.
 module _ (routes : List ℕ) (slot : ℕ) (c : Cells) (n : NamedBy routes slot c) where

@@ -62,7 +62,7 @@ record Passes (d : Device) (i a : ℕ) (rings : List ℕ) : Type 0 where
   pub free : addressesFree (settingWords (listOf d) i a) i (cellsIn d) ≡ true
   pub offer : offerOk (length (settingWords (listOf d) i a)) rings ((cellsIn d) .rings) (d .control) (quarantinedOf d) ≡ true
 
-passes : (d : Device) (i a : ℕ) (rings : List ℕ) → claimCheck d i a rings ≡ Pass → Passes d i a rings
+passes : (d : Device) (i a : ℕ) (rings : List ℕ) → claimCheck d i a rings Pass ≡ Pass → Passes d i a rings
 unfolding claimCheck
 passes d i a rings e =
     let words = settingWords (listOf d) i a in
@@ -104,7 +104,7 @@ module _ (slot : ℕ) (before : List ℕ) (s : State) (buffers : Buffers) (i a :
   refuse x = refused d x (buffers .ctx) (s .routes) (buffers .log)
 
   -- The checks passed.
-  module _ (k : recordCheck d (length (buffers .ctx)) (length (s .routes)) (length (buffers .log)) (claimCheck d i a rings) ≡ Pass)
+  module _ (k : recordCheck d (length (buffers .ctx)) (length (s .routes)) (length (buffers .log)) (claimCheck d i a rings Pass) ≡ Pass)
       (l : Live slot d p) where
     pass : Passed d (length (buffers .ctx)) (length (s .routes)) (length (buffers .log))
     pass = passed d _ _ _ _ k .0
@@ -181,7 +181,7 @@ module _ (slot : ℕ) (before : List ℕ) (s : State) (buffers : Buffers) (i a :
         (l .fits))
         (rw (← l .list) (fits-own (listOf d) (pass .facts .list) i a rings (cellsIn d) places alternate-byte-new), tt)
 
-    spaced : Spaced ((claimIn d i a rings) .spacing) (length (buffers .ctx))
+    spaced : Spaced ((claimIn d i a rings) .args .spacing) (length (buffers .ctx))
     unfolding claimIn
     spaced = pass .spaced
 
@@ -294,7 +294,7 @@ module _ (slot : ℕ) (before : List ℕ) (s : State) (buffers : Buffers) (i a :
       (λ k. run-good k (live-here slot before s g (passed d _ _ _ _ k .0 .is-sound)))
 
   -- With every outcome done it is accepted.
-  module _ (k : recordCheck d (length (buffers .ctx)) (length (s .routes)) (length (buffers .log)) (claimCheck d i a rings) ≡ Pass)
+  module _ (k : recordCheck d (length (buffers .ctx)) (length (s .routes)) (length (buffers .log)) (claimCheck d i a rings Pass) ≡ Pass)
       (done : (n : ℕ) → n < 32 → outcomeAt (buffers .outcomes) n ≡ sent.Done) where
     claimed : left (claims i a rings) buffers d (s .routes) ≡ run (buffers .outcomes)
     unfolding left claim run course onCheck

@@ -19,7 +19,7 @@ use Rattle.record_endpoint.specs.declared.cells.Owner.the-variants.{Interface}
 use Rattle.record_endpoint.proofs.Laws.{claimed-ring}
 use Rattle.record_settings.specs.Held.{settingWords}
 use Rattle.record_settings.specs.Match.{hasPlace, addressesFree}
-use Rattle.record_settings.proofs.Laws.{setting-word, claimed-owned, free-apart, each-at}
+use Rattle.record_settings.proofs.Laws.{setting-word, claimed-owned, free-at, free-apart}
 use Rattle.theorem_routing.proofs.Laws.{words-dci, words-name, words-ring, words-low-name}
 use Rattle.theorem_slot.specs.Plain.{Setting, settingOf}
 use Rattle.theorem_slot.proofs.Settings.{Fits}
@@ -49,9 +49,9 @@ one-owner i j c p n o =
 pub free-ring :
     (words : List ℕ) (i : ℕ) (c : Cells) (p : ℕ) → addressesFree words i c ≡ true → p < 30 → hasPlace p words ≡ true →
     isOwned (Interface i) c p ≡ false → eqb (getD (c .rings) p 0) 0 ≡ true
-unfolding addressesFree isOwned owns
+unfolding isOwned owns
 free-ring words i c p free h w o =
-    go (or-cases (eqb ring 0) (eqb owner i) (rw w at (each-at _ free p h))) (decided (eqb ring 0))
+    go (or-cases (eqb ring 0) (eqb owner i) (free-at words i c p free w)) (decided (eqb ring 0))
   where
     ring : ℕ
     ring = getD (c .rings) p 0

@@ -113,7 +113,7 @@ sound-while-usable b l routes calls empty accepted all u =
 claimed-good :
     (slot : ℕ) (before : List ℕ) (s : State) → Unrouted before slot → Good slot before s → (i a : ℕ) (rings : List ℕ) (l : Buffers) →
     i < 256 → a < 256 →
-    recordCheck (s .device) (length (l .ctx)) (length (s .routes)) (length (l .log)) (claimCheck (s .device) i a rings) ≡ Pass →
+    recordCheck (s .device) (length (l .ctx)) (length (s .routes)) (length (l .log)) (claimCheck (s .device) i a rings Pass) ≡ Pass →
     ((k : ℕ) → k < 32 → outcomeAt (l .outcomes) k ≡ Done) →
     Claimed slot (settingWords (s .plain .list) i a) rings (call.left (claims i a rings) l (s .device) (s .routes))
 claimed-good slot before s u g i a rings l x y k done =

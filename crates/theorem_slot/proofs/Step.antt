@@ -89,7 +89,7 @@ mild-hub d ctx routes log ns = mild-record d ctx routes log _ (go (eqb (d .«por
 
 pub mild-claim :
     (d : Device) (ctx routes log i a : ℕ) (rings : List ℕ) →
-    MildCheck (recordCheck d ctx routes log (claimCheck d i a rings))
+    MildCheck (recordCheck d ctx routes log (claimCheck d i a rings Pass))
 unfolding claimCheck number
 mild-claim d ctx routes log i a rings =
     let ws = settingWords (listOf d) i a in

@@ -95,7 +95,7 @@ ClaimsAccepted =
     AfterBringUp
     (λ slot before s.
     (i a : ℕ) (rings : List ℕ) (l : Buffers) → i < 256 → a < 256 →
-    recordCheck (s .device) (length (l .ctx)) (length (s .routes)) (length (l .log)) (claimCheck (s .device) i a rings) ≡ Pass →
+    recordCheck (s .device) (length (l .ctx)) (length (s .routes)) (length (l .log)) (claimCheck (s .device) i a rings Pass) ≡ Pass →
     ((k : ℕ) → k < 32 → outcomeAt (l .outcomes) k ≡ Done) →
     Claimed slot (settingWords (s .plain .list) i a) rings (left (claims i a rings) l (s .device) (s .routes)))
 

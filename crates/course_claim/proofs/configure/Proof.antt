@@ -19,13 +19,13 @@ use Rattle.course_steps.specs.declared.Ended.{Ended}
 use Rattle.course_steps.specs.End.{End, stays, answerOf}
 use Rattle.course_steps.specs.Arrays.{dcisIn, queuesIn, leaves}
 use Rattle.course_steps.proofs.Laws.{dcis-in}
-use Rattle.course_claim.specs.declared.ClaimArgs.{ClaimArgs}
+use Rattle.course_claim.specs.declared.ClaimPlan.{ClaimPlan}
 use Rattle.course_claim.specs.Claim.{claimOf, claimContext, claimSwitch, claimResume, claimConfigure}
 use borrow.Author.Needs.{needs}
 use Rattle.course_claim.proofs.configure.Statement.{statement}
 use Rattle.course_claim.proofs.configure.Tie as tie
 
-module _ (a : ClaimArgs) (old new ctx next routes o log left : List ℕ) (n : ℕ) (s : Sent) where
+module _ (a : ClaimPlan) (old new ctx next routes o log left : List ℕ) (n : ℕ) (s : Sent) where
   -- the Configure is sent, with the old endpoints dropped and the new ones added
   Configured : Type 0
   Configured =
@@ -38,7 +38,7 @@ module _ (a : ClaimArgs) (old new ctx next routes o log left : List ℕ) (n : �
       left
 
   configured :
-      next ≡ written (a .spacing) (configureWrites (a .speed) (a .interface) (a .alternate) old new (queuesIn (a .pending)) (dcisIn (a .all))) ctx →
+      next ≡ written (a .args .spacing) (configureWrites (a .args .speed) (a .args .interface) (a .args .alternate) old new (queuesIn (a .pending)) (dcisIn (a .all))) ctx →
       s ≡ outcomeAt o n → left ≡ set log n (commandWord command.Configure) → Configured
   unfolding Configured claimConfigure claimContext
   configured p e l = rw (played-sends, ← l, ← e, ← p)

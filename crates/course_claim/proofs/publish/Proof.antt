@@ -20,7 +20,7 @@ abbrev keys : List ℕ
 keys = 1 ∷ 2 ∷ []
 
 kept : (a : Claim) (ctx routes : List ℕ) (r : Replaced) → OneOf keys (tagOf the-type r) →
-    claimPublished r a ctx routes ≡ stays answer.InterfaceBroken 0 ctx (moved r routes (a .slot) (a .old) (a .pending))
+    claimPublished r a ctx routes ≡ stays answer.InterfaceBroken 0 ctx (moved r routes (a .args .slot .0) (a .old) (a .pending))
 unfolding claimPublished moved
 kept a ctx routes replace.Done h = absurd (miss keys 0 tt h)
 kept a ctx routes replace.InvalidEndpoint h = refl

@@ -13,14 +13,14 @@ use Rattle.command.proofs.Laws.{played-ends, played-sends}
 use Rattle.course_steps.specs.declared.Ended.{Ended}
 use Rattle.course_steps.specs.End.{End}
 use Rattle.course_steps.specs.Arrays.{leaves}
-use Rattle.course_claim.specs.declared.ClaimArgs.{ClaimArgs}
+use Rattle.course_claim.specs.declared.ClaimPlan.{ClaimPlan}
 use Rattle.course_claim.specs.Claim.{claimOf, claimPublish, claimUndo, claimSwitch}
 use borrow.Author.Needs.{needs}
 use Rattle.course_claim.proofs.switch.Statement.{statement}
 use Rattle.course_claim.proofs.switch.Tie as tie
 
-module _ (a : ClaimArgs) (old new ctx routes o log left : List ℕ) (n : ℕ) (s : Sent) (e : s ≡ outcomeAt o n)
-    (l : left ≡ set log n (commandWord (command.SetInterface (a .interface) (a .alternate)))) where
+module _ (a : ClaimPlan) (old new ctx routes o log left : List ℕ) (n : ℕ) (s : Sent) (e : s ≡ outcomeAt o n)
+    (l : left ≡ set log n (commandWord (command.SetInterface (a .args .interface) (a .args .alternate)))) where
   -- the device is switched
   done : {x : Played End} → s ≡ sent.Done → x ≡ played o (n + 1) (claimPublish (claimOf a old new) ctx routes) left →
       x ≡ played o n (claimSwitch (claimOf a old new) ctx routes) log

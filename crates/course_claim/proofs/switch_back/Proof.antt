@@ -12,7 +12,7 @@ stays-requires c κs = search needs
 returns : tie.Need-returns
 unfolding claimUndone
 returns c =
-    λ old new ctx routes. rw (not-true (c .before .before .before .before .before .args .a .held) (c .before .if1 .taken), played-ends, c .before .before .before .before .before .pre .0, c .stays .ensures)
+    λ old new ctx routes. rw (not-true (c .before .before .before .before .before .args .a .args .held) (c .before .if1 .taken), played-ends, c .before .before .before .before .before .pre .0, c .stays .ensures)
 
 send-requires : tie.Need-send-requires
 send-requires c κs = search needs
@@ -48,7 +48,7 @@ returns-2 c =
     let c7 = c5 .before .before in
     let c11 = c7 .before .before .before .before in
     λ old new ctx routes. rw (
-      not-false (c11 .args .a .held) (c7 .if1 .left),
+      not-false (c11 .args .a .args .held) (c7 .if1 .left),
       played-sends,
       ← c5 .send .ensures .1,
       ←
@@ -69,7 +69,7 @@ returns-3 c =
     let c7 = c5 .before .before in
     let c11 = c7 .before .before .before .before in
     λ old new ctx routes. rw (
-      not-false (c11 .args .a .held) (c7 .if1 .left),
+      not-false (c11 .args .a .args .held) (c7 .if1 .left),
       played-sends,
       ← c5 .send .ensures .1,
       ←
@@ -89,7 +89,7 @@ returns-4 c =
     let c7 = c5 .before .before in
     let c11 = c7 .before .before .before .before in
     λ old new ctx routes. rw (
-      not-false (c11 .args .a .held) (c7 .if1 .left),
+      not-false (c11 .args .a .args .held) (c7 .if1 .left),
       played-sends,
       ← c5 .send .ensures .1,
       ←

@@ -1,8 +1,7 @@
 use Prim.Native.Nat.{ℕ, _+_}
 use mathlib.Core.Path.{_≡_}
-use mathlib.Core.Bool.{cond, false}
+use mathlib.Core.Bool.{false}
 use mathlib.Core.List.{List}
-use mathlib.Core.Logic.{⊎-elim}
 use lib.ListN.{set}
 use Rattle.answer.specs.declared.Answer.the-variants as answer
 use Rattle.command.specs.declared.Command.the-variants as command
@@ -16,13 +15,13 @@ use Rattle.context.specs.Steps.{configureWrites}
 use Rattle.course_steps.specs.declared.Ended.{Ended}
 use Rattle.course_steps.specs.End.{End, stays}
 use Rattle.course_steps.specs.Arrays.{dcisIn, queuesIn, leaves}
-use Rattle.course_claim.specs.declared.ClaimArgs.{ClaimArgs}
+use Rattle.course_claim.specs.declared.ClaimPlan.{ClaimPlan}
 use Rattle.course_claim.specs.Claim.{claimOf, undoContext, claimUndone, claimUndo}
 use borrow.Author.Needs.{needs}
 use Rattle.course_claim.proofs.undo.Statement.{statement}
 use Rattle.course_claim.proofs.undo.Tie as tie
 
-module _ (a : ClaimArgs) (alternate : ℕ) (old new ctx next routes o log left : List ℕ) (n code : ℕ) (s : Sent) where
+module _ (a : ClaimPlan) (old new ctx next routes o log left : List ℕ) (n code : ℕ) (s : Sent) where
   -- the Configure is sent, with the new endpoints dropped and the old ones added
   Configured : Type 0
   Configured =
@@ -34,11 +33,10 @@ module _ (a : ClaimArgs) (alternate : ℕ) (old new ctx next routes o log left :
       (ends (stays answer.Cut 0 next routes)))
       left
 
-  configured : alternate ≡ cond (a .held) (a .«old_alternate») 0 →
-      next ≡ written (a .spacing) (configureWrites (a .speed) (a .interface) alternate new old (queuesIn (a .old)) (dcisIn (a .all))) ctx →
+  configured : next ≡ written (a .args .spacing) (configureWrites (a .args .speed) (a .args .interface) (a .args .«old_alternate») new old (queuesIn (a .old)) (dcisIn (a .all))) ctx →
       s ≡ outcomeAt o n → left ≡ set log n (commandWord command.Configure) → Configured
   unfolding Configured claimUndo undoContext
-  configured q p e l = let made = rw q at p in rw (played-sends, ← l, ← e, ← made)
+  configured p e l = rw (played-sends, ← l, ← e, ← p)
 
   done : {x : Played End} → Configured → s ≡ sent.Done → x ≡ played o (n + 1) (claimUndone (claimOf a old new) code next routes) left →
       x ≡ played o n (claimUndo (claimOf a old new) code ctx routes) log
@@ -55,10 +53,6 @@ module _ (a : ClaimArgs) (alternate : ℕ) (old new ctx next routes o log left :
       leaves r next routes left ≡ played o n (claimUndo (claimOf a old new) code ctx routes) log
   unfolding Configured onSent
   cut g d r = rw (g, d, played-ends, r)
-
--- the alternate of an interface that holds none is 0
-rolled : (c : tie.Joined1) → c .if1 .alternate ≡ cond (c .before .before .before .before .before .before .args .a .held) (c .before .before .before .before .before .before .args .a .«old_alternate») 0
-rolled c = ⊎-elim (λ w. rw (w .0 .taken) (w .1)) (λ w. rw (w .0 .left) (w .1)) (c .if1 .came)
 
 prepare-configure-requires : tie.Need-prepare-configure-requires
 prepare-configure-requires c κs = search needs
@@ -98,8 +92,7 @@ returns c =
     let c4 = c .before .before .before .before in
     let c8 = c4 .before .before .before .before in
     let c12 = c8 .before .before .before .before in
-    let c14 = c12 .before .before in
-    λ routes. done _ _ _ _ _ _ _ _ _ _ _ _ _ (configured _ _ _ _ _ _ _ _ _ _ _ _ _ (rolled (c14))
+    λ routes. done _ _ _ _ _ _ _ _ _ _ _ _ (configured _ _ _ _ _ _ _ _ _ _ _ _
     (c12 .prepare-configure .ensures) (c8 .send .ensures .0) (c8 .send .ensures .1)) (c4 .enum-told .given .1)
     (c .before .before .switch-back .ensures _ _ _ _)
 
@@ -113,8 +106,7 @@ returns-2 : tie.Need-returns-2
 returns-2 c =
     let c5 = c .before .before .before .before .before in
     let c9 = c5 .before .before .before .before in
-    let c11 = c9 .before .before in
-    λ routes. failed _ _ _ _ _ _ _ _ _ _ _ _ _ _ (configured _ _ _ _ _ _ _ _ _ _ _ _ _ (rolled (c11))
+    λ routes. failed _ _ _ _ _ _ _ _ _ _ _ _ _ (configured _ _ _ _ _ _ _ _ _ _ _ _
     (c9 .prepare-configure .ensures) (c5 .send .ensures .0) (c5 .send .ensures .1)) (c .before .enum-told2 .given .1)
     (c .stays .ensures)
 
@@ -128,8 +120,7 @@ returns-3 : tie.Need-returns-3
 returns-3 c =
     let c5 = c .before .before .before .before .before in
     let c9 = c5 .before .before .before .before in
-    let c11 = c9 .before .before in
-    λ routes. cut _ _ _ _ _ _ _ _ _ _ _ _ _ (configured _ _ _ _ _ _ _ _ _ _ _ _ _ (rolled (c11))
+    λ routes. cut _ _ _ _ _ _ _ _ _ _ _ _ (configured _ _ _ _ _ _ _ _ _ _ _ _
     (c9 .prepare-configure .ensures) (c5 .send .ensures .0) (c5 .send .ensures .1)) (c .before .enum-told3 .given .1)
     (c .stays2 .ensures)
 

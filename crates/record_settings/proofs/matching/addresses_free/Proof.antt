@@ -18,6 +18,9 @@ Inv-loop words interface c i₀ i =
 abbrev μ-loop : tie.MeasureT-loop
 μ-loop words interface c i₀ i = length words - i
 
+whole : (c : tie.Start Inv-loop μ-loop) → length (c .args .t3 .rings) ≡ 30
+whole c = search needs
+
 loop-holds : tie.Need-loop-holds Inv-loop μ-loop
 loop-holds c = search needs
 
@@ -56,7 +59,7 @@ returns c =
     let c11 = c9 .before .before in
     let own = eqb (getD (c11 .args .t3 .owners) (c5 .place-of .result) 0) (c11 .args .interface) in let e : own ≡ false =
     not-true own (c .if3 .taken) in sym (c9 .loop .inv ∙ free-next _ _ _ (c9 .loop .i) (c5 .place-of .result)
-    (c8 .loop-test .taken) (c5 .place-of .ensures .0 ∙ rw (c6 .endpoint-descriptor .ensures)) (c4 .if1 .taken) ∙ rw (
+    (c8 .loop-test .taken) (c5 .place-of .ensures .0 ∙ rw (c6 .endpoint-descriptor .ensures)) ∙ rw (
       ne-eqb
           _ _ (c .before .before .if2 .taken),
       e,
@@ -74,7 +77,7 @@ loop-again c =
     let c9 = c7 .before .before in
     let own = eqb (getD (c9 .args .t3 .owners) (c3 .place-of .result) 0) (c9 .args .interface) in let n = c7 .loop .inv ∙
     free-next _ _ _ (c7 .loop .i) (c3 .place-of .result) (c6 .loop-test .taken) (c3 .place-of .ensures .0 ∙ rw
-    (c4 .endpoint-descriptor .ensures)) (c .before .before .if1 .taken) in ⊎-elim (λ w. let e : own ≡ true = not-false own
+    (c4 .endpoint-descriptor .ensures)) in ⊎-elim (λ w. let e : own ≡ true = not-false own
     (w .2 .left) in n ∙ rw (ne-eqb _ _ (w .0 .taken), e)) (λ w. n ∙ rw (eq-eqb _ _ (w .left))) (c .if2 .came)
 
 loop-less-2 : tie.Need-loop-less-2 Inv-loop μ-loop
@@ -85,7 +88,8 @@ loop-again-2 c =
     let c4 = c .before .before .before .before in
     let c5 = c4 .before in
     c5 .loop .inv ∙ free-skip _ _ _ (c5 .loop .i) (c .before .place-of .result) (c4 .loop-test .taken)
-    (c .before .place-of .ensures .0 ∙ rw (c .before .before .endpoint-descriptor .ensures)) (c .if1 .left)
+    (c .before .place-of .ensures .0 ∙ rw (c .before .before .endpoint-descriptor .ensures))
+    (whole (c5 .before .before)) (c .if1 .left)
 
 returns-2 : tie.Need-returns-2 Inv-loop μ-loop
 returns-2 c = sym (c .before .loop .inv ∙ free-none _ _ _ (c .before .loop .i) (c .loop-test .left))

@@ -1,0 +1,95 @@
+use mathlib.Core.Path.{sym, _∙_}
+use native.Mathlib.Omega.{arith}
+use native.Mathlib.Nat.{add-sub-cancel-left}
+use borrow.Author.Tests.{not-true, not-false}
+use Rattle.descriptor_list.proofs.Laws.{found-inside}
+use Rattle.record_checks.proofs.Steps.{not-found, not-free, not-fit, passes}
+use borrow.Author.Needs.{needs}
+use Rattle.record_checks.proofs.offer.offer_check.Statement.{statement}
+use Rattle.record_checks.proofs.offer.offer_check.Tie as tie
+
+find-interface-endpoints-requires : tie.Need-find-interface-endpoints-requires
+find-interface-endpoints-requires c κs = search needs
+
+enum-known-found : tie.Need-enum-known-found
+enum-known-found c = search needs
+
+add-words : tie.Need-add-words
+add-words c =
+    let h = found-inside _ _ _ _ _ (sym (c .before .before .before .find-interface-endpoints .ensures) ∙ c .before .found .given .1) in
+    omega (arith, h)
+
+mul-words : tie.Need-mul-words
+mul-words c =
+    let h = found-inside _ _ _ _ _ (sym (c .before .before .before .find-interface-endpoints .ensures) ∙ c .before .found .given .1) in
+    omega (arith, h)
+
+sub-words : tie.Need-sub-words
+sub-words c = search needs
+
+part-words-start : tie.Need-part-words-start
+part-words-start c = search needs
+
+part-words-end : tie.Need-part-words-end
+part-words-end c =
+    let h = found-inside _ _ _ _ _ (sym (c .before .before .before .find-interface-endpoints .ensures) ∙ c .before .found .given .1) in
+    omega (arith, h)
+
+addresses-free-requires : tie.Need-addresses-free-requires
+addresses-free-requires c κs = search needs
+
+returns : tie.Need-returns
+returns c =
+    let c4 = c .before .before .before .before in
+    let c6 = c4 .before .before in
+    not-free _ _ _ _ _ _ _ _ _ (sym (c6 .find-interface-endpoints .ensures) ∙ c4 .found .given .1)
+    (sym (rw add-sub-cancel-left at (c .before .addresses-free .ensures)) ∙ not-true (c .before .addresses-free .result) (c .if1 .taken))
+
+offer-ok-requires : tie.Need-offer-ok-requires
+offer-ok-requires c κs = search needs
+
+returns-2 : tie.Need-returns-2
+returns-2 c =
+    let c5 = c .before .before .before .before .before in
+    let c6 = c5 .before in
+    let c9 = c6 .before .before .before in
+    let c11 = c9 .before .before in
+    passes _ _ _ _ _ _ _ _ _ (sym (c11 .find-interface-endpoints .ensures) ∙ c9 .found .given .1)
+    (sym (rw add-sub-cancel-left at (c6 .addresses-free .ensures)) ∙ not-false (c6 .addresses-free .result) (c5 .if1 .left))
+    (sym (c .before .offer-ok .ensures) ∙ c .if2 .taken)
+
+enum-told : tie.Need-enum-told
+enum-told c = search needs
+
+returns-3 : tie.Need-returns-3
+returns-3 c =
+    let c5 = c .before .before .before .before .before in
+    let c6 = c5 .before in
+    let c9 = c6 .before .before .before in
+    let c11 = c9 .before .before in
+    not-fit _ _ _ _ _ _ _ _ _ (sym (c11 .find-interface-endpoints .ensures) ∙ c9 .found .given .1)
+    (sym (rw add-sub-cancel-left at (c6 .addresses-free .ensures)) ∙ not-false (c6 .addresses-free .result) (c5 .if1 .left))
+    (sym (c .before .offer-ok .ensures) ∙ c .if2 .left)
+
+returns-4 : tie.Need-returns-4
+returns-4 c =
+    not-found _ _ _ _ _ _ _ (sym (c .before .before .find-interface-endpoints .ensures) ∙ c .enum-told .given .1)
+
+pub offer-check-spec : {M : Type 1} → statement M
+offer-check-spec =
+    tie.close
+    (tie.spec
+    find-interface-endpoints-requires
+    enum-known-found
+    add-words
+    mul-words
+    sub-words
+    part-words-start
+    part-words-end
+    addresses-free-requires
+    returns
+    offer-ok-requires
+    returns-2
+    enum-told
+    returns-3
+    returns-4)
