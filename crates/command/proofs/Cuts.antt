@@ -12,7 +12,7 @@ use lib.Seq.{getD-take, take-length}
 use Rattle.command.specs.declared.Sent.{Sent}
 use Rattle.command.specs.declared.Sent.the-variants.{Done, Failed, Cut}
 use Rattle.command.specs.Command.{commandWord, outcomeAt}
-use Rattle.command.specs.Course.{Course, ends, sends, onSent, then, words, result, contextAt, Ended, CutsTo, CutEnds, Uncut}
+use Rattle.command.specs.Course.{Course, ends, sends, onSent, then, words, result, contextAt, EndsWith, CutsTo, CutEnds, Uncut}
 
 -- done is not cut
 pub done-cut : {P : Type 0} → Done ≡ Cut → P
@@ -81,14 +81,14 @@ on-sent P Cut done failed cut d f c = c refl
 
 -- a course that has ended and then another
 pub ended-then : {A B : Type 0} (P : A → Type 0) (Q : B → Type 0) (c : Course A) (f : A → Course B) →
-    Ended P c → ((a : A) → P a → Ended Q (f a)) → Ended Q (then c f)
-unfolding Ended then
+    EndsWith P c → ((a : A) → P a → EndsWith Q (f a)) → EndsWith Q (then c f)
+unfolding EndsWith then
 ended-then P Q (ends a) f h g = g a h
 ended-then P Q (sends c ctx k) f h g = absurd h
 
 -- cuts of one course after the other: those of the first are passed on
 pub cuts-then : {A B : Type 0} (P : List ℕ → A → Type 0) (Q : List ℕ → B → Type 0) (c : Course A) (f : A → Course B) →
-    CutsTo P c → ((ctx : List ℕ) (a : A) → P ctx a → Ended (Q ctx) (f a)) → ((a : A) → CutsTo Q (f a)) →
+    CutsTo P c → ((ctx : List ℕ) (a : A) → P ctx a → EndsWith (Q ctx) (f a)) → ((a : A) → CutsTo Q (f a)) →
     CutsTo Q (then c f)
 unfolding CutsTo then
 cuts-then P Q (ends a) f h g r = r a
@@ -114,13 +114,13 @@ uncut-result P o n (sends c ctx k) u h =
 pub cut-short : {A : Type 0} (P : List ℕ → A → Type 0) (o : List ℕ) (n i : ℕ) (c : Course A) → CutsTo P c →
     i < length (words o n c) →
     P (contextAt o n i c) (result (take (n + i) o) n c) × (words (take (n + i) o) n c ≡ take (i + 1) (words o n c))
-unfolding CutsTo Ended words result contextAt
+unfolding CutsTo EndsWith words result contextAt
 cut-short P o n i (ends a) t h = absurd (omega arith)
 cut-short {A} P o n zero (sends c ctx k) t h =
     let e : outcomeAt (take (n + zero) o) n ≡ Cut = outcome-take-past o n (n + zero) (omega arith) in
     rw e (cut (k Cut) (t .0))
   where
-    cut : (d : Course A) → Ended (P ctx) d →
+    cut : (d : Course A) → EndsWith (P ctx) d →
         P ctx (result (take (n + zero) o) (n + 1) d) ×
         (commandWord c ∷ words (take (n + zero) o) (n + 1) d ≡ commandWord c ∷ [])
     cut (ends a) p = (p, refl)

@@ -11,7 +11,7 @@ use Rattle.command.specs.declared.Sent.{Sent}
 use Rattle.command.specs.declared.Sent.the-variants as sent
 use Rattle.command.specs.Command.{outcomeAt}
 use Rattle.command.specs.Course.{Course, ends, sends, onSent, result}
-use Rattle.command.specs.Sweep.{Sweep, swept, undoStops, stopFrom, stopAll}
+use Rattle.command.specs.Sweep.{Sweep, swept, undoStops, stopFrom, stopEndpoints}
 
 -- a byte 0 is done
 pub outcome-done : (o : List ℕ) (k : ℕ) → k < length o → getD o k 0 ≡ 0 → outcomeAt o k ≡ sent.Done
@@ -38,6 +38,6 @@ stops-done o ctx stopped (d ∷ ds) n h =
     ∙ stops-done o ctx (stopped ++ (d ∷ [])) ds (n + 1) (λ i l m. h i (omega arith) (omega arith))
 
 -- stopping ends done where every outcome is
-pub stop-all-done : (o ctx ds : List ℕ) (n : ℕ) → AllDone o n (length ds) → (result o n (stopAll ctx ds)) .sent ≡ sent.Done
-unfolding stopAll
+pub stop-all-done : (o ctx ds : List ℕ) (n : ℕ) → AllDone o n (length ds) → (result o n (stopEndpoints ctx ds)) .sent ≡ sent.Done
+unfolding stopEndpoints
 stop-all-done o ctx ds n h = ap (λ s. s .sent) (stops-done o ctx [] ds n h)

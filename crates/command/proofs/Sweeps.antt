@@ -11,8 +11,8 @@ use Rattle.command.specs.declared.Sent.{Sent}
 use Rattle.command.specs.declared.Sent.the-variants.{Done, Failed, Cut}
 use Rattle.command.specs.declared.Swept.{Swept}
 use Rattle.command.specs.Command.{commandWord, outcomeAt}
-use Rattle.command.specs.Course.{Course, ends, onSent, then, words, result, played, Ended, CutsTo, CutEnds, Uncut}
-use Rattle.command.specs.Sweep.{Sweep, swept, resumeFrom, resumeAll, orCode, undoStops, stopFrom, stopAll, SweptAs}
+use Rattle.command.specs.Course.{Course, ends, onSent, then, words, result, played, EndsWith, CutsTo, CutEnds, Uncut}
+use Rattle.command.specs.Sweep.{Sweep, swept, resumeFrom, resumeStoppedEndpoints, orCode, undoStops, stopFrom, stopEndpoints, SweptAs}
 use Rattle.command.proofs.Laws.{words-then, result-then}
 use Rattle.command.proofs.Cuts.{done-cut, failed-cut, failed-done, on-sent, cuts-then, uncut-then, uncut-result, cut-last}
 use Rattle.command.proofs.Operations.{EachCommand, each-then}
@@ -48,19 +48,19 @@ resumed-from o ctx (d ∷ ds) n a = go (outcomeAt o n) (resumed-from o ctx ds (n
 
 module _ (o ctx ds : List ℕ) (n : ℕ) where
   -- resuming sends at most one word for each endpoint
-  pub words-length-resume : length (words o n (resumeAll ctx ds)) ≤ length ds
-  unfolding resumeAll
+  pub words-length-resume : length (words o n (resumeStoppedEndpoints ctx ds)) ≤ length ds
+  unfolding resumeStoppedEndpoints
   words-length-resume = resumed-from o ctx ds n 0 .short
 
   -- and makes no more of them active than there are
-  pub active-resume : (result o n (resumeAll ctx ds)) .active ≤ length ds
-  unfolding resumeAll
+  pub active-resume : (result o n (resumeStoppedEndpoints ctx ds)) .active ≤ length ds
+  unfolding resumeStoppedEndpoints
   active-resume = omega (arith, resumed-from o ctx ds n 0 .some)
 
   -- where it ends done, it has sent a word for each, and each is active
-  pub resume-done : (result o n (resumeAll ctx ds)) .sent ≡ Done →
-      (length (words o n (resumeAll ctx ds)) ≡ length ds) × ((result o n (resumeAll ctx ds)) .active ≡ length ds)
-  unfolding resumeAll
+  pub resume-done : (result o n (resumeStoppedEndpoints ctx ds)) .sent ≡ Done →
+      (length (words o n (resumeStoppedEndpoints ctx ds)) ≡ length ds) × ((result o n (resumeStoppedEndpoints ctx ds)) .active ≡ length ds)
+  unfolding resumeStoppedEndpoints
   resume-done e = let f = resumed-from o ctx ds n 0 .all e in (f .0, omega (arith, f .1))
 
 -- a failed stop never ends done
@@ -78,14 +78,14 @@ code-cut code (Failed later) e = failed-cut e
 code-cut code Cut e = refl
 
 -- undoing stops sends what resuming sends
-pub undo-words : (o ctx ds : List ℕ) (n code : ℕ) → words o n (undoStops ctx ds code) ≡ words o n (resumeAll ctx ds)
+pub undo-words : (o ctx ds : List ℕ) (n code : ℕ) → words o n (undoStops ctx ds code) ≡ words o n (resumeStoppedEndpoints ctx ds)
 unfolding undoStops words
 undo-words o ctx ds n code = rw (words-then, append-nil)
 
 -- and ends as that does, a code for done
 pub undo-result : (o ctx ds : List ℕ) (n code : ℕ) →
     result o n (undoStops ctx ds code) ≡
-    swept (orCode code ((result o n (resumeAll ctx ds)) .sent)) ((result o n (resumeAll ctx ds)) .active)
+    swept (orCode code ((result o n (resumeStoppedEndpoints ctx ds)) .sent)) ((result o n (resumeStoppedEndpoints ctx ds)) .active)
 unfolding undoStops result
 undo-result o ctx ds n code = rw result-then
 
@@ -129,33 +129,33 @@ stopped-from o ctx stopped (d ∷ ds) n = go (outcomeAt o n) (stopped-from o ctx
 
 module _ (o ctx ds : List ℕ) (n : ℕ) where
   -- stopping sends at most two words for each endpoint
-  pub words-length-stop : length (words o n (stopAll ctx ds)) ≤ 2 * length ds
-  unfolding stopAll
+  pub words-length-stop : length (words o n (stopEndpoints ctx ds)) ≤ 2 * length ds
+  unfolding stopEndpoints
   words-length-stop = omega (arith, stopped-from o ctx [] ds n .short)
 
   -- and makes no more of them active than there are
-  pub active-stop : (result o n (stopAll ctx ds)) .active ≤ length ds
-  unfolding stopAll
+  pub active-stop : (result o n (stopEndpoints ctx ds)) .active ≤ length ds
+  unfolding stopEndpoints
   active-stop = omega (arith, stopped-from o ctx [] ds n .some)
 
   -- where it ends done, it has sent a word for each
-  pub stop-done : (result o n (stopAll ctx ds)) .sent ≡ Done → length (words o n (stopAll ctx ds)) ≡ length ds
-  unfolding stopAll
+  pub stop-done : (result o n (stopEndpoints ctx ds)) .sent ≡ Done → length (words o n (stopEndpoints ctx ds)) ≡ length ds
+  unfolding stopEndpoints
   stop-done e = stopped-from o ctx [] ds n .all e
 
 module _ (o ctx ds log left : List ℕ) (n : ℕ) (r : Swept) where
   -- the count that resuming leaves
-  pub resume-count : SweptAs r left (played o n (resumeAll ctx ds) log) → r .count ≤ n + length ds
+  pub resume-count : SweptAs r left (played o n (resumeStoppedEndpoints ctx ds) log) → r .count ≤ n + length ds
   unfolding played
   resume-count a = omega (arith, a .count, words-length-resume o ctx ds n)
 
   -- the count that stopping leaves
-  pub stop-count : SweptAs r left (played o n (stopAll ctx ds) log) → r .count ≤ n + 2 * length ds
+  pub stop-count : SweptAs r left (played o n (stopEndpoints ctx ds) log) → r .count ≤ n + 2 * length ds
   unfolding played
   stop-count a = omega (arith, a .count, words-length-stop o ctx ds n)
 
   -- and that it leaves where it ends done
-  pub stop-done-count : SweptAs r left (played o n (stopAll ctx ds) log) → r .sent ≡ Done → r .count ≡ n + length ds
+  pub stop-done-count : SweptAs r left (played o n (stopEndpoints ctx ds) log) → r .sent ≡ Done → r .count ≡ n + length ds
   unfolding played
   stop-done-count a e = omega (arith, a .count, stop-done o ctx ds n (sym (a .sent) ∙ e))
 
@@ -168,7 +168,7 @@ abbrev pub UncutSweep : Sweep → Type 0
 UncutSweep r = r .sent ≡ Cut → ⊥
 
 resume-cuts-from : (ctx ds : List ℕ) (a : ℕ) → CutsTo (CutSweep ctx) (resumeFrom ctx a ds)
-unfolding CutsTo Ended resumeFrom onSent
+unfolding CutsTo EndsWith resumeFrom onSent
 resume-cuts-from ctx [] a = tt
 resume-cuts-from ctx (d ∷ ds) a = (
   (refl, refl),
@@ -182,27 +182,27 @@ resume-uncut-from ctx (d ∷ ds) a = λ s u.
     on-sent (Uncut UncutSweep) s _ _ _ (λ e. resume-uncut-from ctx ds (a + 1)) (λ code e. failed-cut) (λ e. absurd (u e))
 
 -- resuming passes a cut on
-pub resume-cuts : (ctx ds : List ℕ) → CutsTo (CutSweep ctx) (resumeAll ctx ds)
-unfolding resumeAll
+pub resume-cuts : (ctx ds : List ℕ) → CutsTo (CutSweep ctx) (resumeStoppedEndpoints ctx ds)
+unfolding resumeStoppedEndpoints
 resume-cuts ctx ds = resume-cuts-from ctx ds 0
 
 -- and reports no other
-pub resume-uncut : (ctx ds : List ℕ) → Uncut UncutSweep (resumeAll ctx ds)
-unfolding resumeAll
+pub resume-uncut : (ctx ds : List ℕ) → Uncut UncutSweep (resumeStoppedEndpoints ctx ds)
+unfolding resumeStoppedEndpoints
 resume-uncut ctx ds = resume-uncut-from ctx ds 0
 
 undo-cuts : (ctx ds : List ℕ) (code : ℕ) → CutsTo (CutSweep ctx) (undoStops ctx ds code)
-unfolding CutsTo Ended undoStops orCode
+unfolding CutsTo EndsWith undoStops orCode
 undo-cuts ctx ds code =
-    cuts-then (CutSweep ctx) (CutSweep ctx) (resumeAll ctx ds) _ (resume-cuts ctx ds) (λ at r p. (p .0, rw (p .1))) (λ r. tt)
+    cuts-then (CutSweep ctx) (CutSweep ctx) (resumeStoppedEndpoints ctx ds) _ (resume-cuts ctx ds) (λ at r p. (p .0, rw (p .1))) (λ r. tt)
 
 undo-uncut : (ctx ds : List ℕ) (code : ℕ) → Uncut UncutSweep (undoStops ctx ds code)
 unfolding Uncut undoStops
 undo-uncut ctx ds code =
-    uncut-then UncutSweep UncutSweep (resumeAll ctx ds) _ (resume-uncut ctx ds) (λ r u e. u (code-cut code (r .sent) e))
+    uncut-then UncutSweep UncutSweep (resumeStoppedEndpoints ctx ds) _ (resume-uncut ctx ds) (λ r u e. u (code-cut code (r .sent) e))
 
 stop-cuts-from : (ctx stopped ds : List ℕ) → CutsTo (CutSweep ctx) (stopFrom ctx stopped ds)
-unfolding CutsTo Ended stopFrom onSent
+unfolding CutsTo EndsWith stopFrom onSent
 stop-cuts-from ctx stopped [] = tt
 stop-cuts-from ctx stopped (d ∷ ds) = (
   (refl, refl),
@@ -221,18 +221,18 @@ stop-uncut-from ctx stopped (d ∷ ds) = λ s u.
     (λ e. absurd (u e))
 
 -- stopping passes a cut on
-pub stop-cuts : (ctx ds : List ℕ) → CutsTo (CutSweep ctx) (stopAll ctx ds)
-unfolding stopAll
+pub stop-cuts : (ctx ds : List ℕ) → CutsTo (CutSweep ctx) (stopEndpoints ctx ds)
+unfolding stopEndpoints
 stop-cuts ctx ds = stop-cuts-from ctx [] ds
 
 -- and reports no other
-pub stop-uncut : (ctx ds : List ℕ) → Uncut UncutSweep (stopAll ctx ds)
-unfolding stopAll
+pub stop-uncut : (ctx ds : List ℕ) → Uncut UncutSweep (stopEndpoints ctx ds)
+unfolding stopEndpoints
 stop-uncut ctx ds = stop-uncut-from ctx [] ds
 
 -- a sweep that passes cuts on, and then a course that ends with the sweep's context if it was cut
 pub sweep-cut-ends : {A : Type 0} (contextOf : A → List ℕ) (ctx : List ℕ) (c : Course Sweep) (f : Sweep → Course A) →
-    CutsTo (CutSweep ctx) c → ((r : Sweep) → r .sent ≡ Cut → Ended (λ a. contextOf a ≡ ctx) (f r)) →
+    CutsTo (CutSweep ctx) c → ((r : Sweep) → r .sent ≡ Cut → EndsWith (λ a. contextOf a ≡ ctx) (f r)) →
     ((r : Sweep) → CutEnds contextOf (f r)) → CutEnds contextOf (then c f)
 sweep-cut-ends contextOf ctx c f t h r =
     cuts-then (CutSweep ctx) (λ at a. contextOf a ≡ at) c f t (λ at b p. rw (p .0) at (h b (p .1))) r
@@ -267,8 +267,8 @@ module _ (P : Command → Type 0) (ctx : List ℕ) where
   )
 
   -- resuming sends resumes
-  pub resume-each : (ds : List ℕ) → ((k : ℕ) → P (command.Resume (getD ds k 0))) → EachCommand P (resumeAll ctx ds)
-  unfolding resumeAll
+  pub resume-each : (ds : List ℕ) → ((k : ℕ) → P (command.Resume (getD ds k 0))) → EachCommand P (resumeStoppedEndpoints ctx ds)
+  unfolding resumeStoppedEndpoints
   resume-each ds h = resume-each-from ds 0 h
 
   stop-each-from : (stopped ds : List ℕ) → ((k : ℕ) → P (command.Resume (getD stopped k 0))) →
@@ -280,14 +280,14 @@ module _ (P : Command → Type 0) (ctx : List ℕ) where
     λ s.
         on-sent (EachCommand P) s _ _ _
         (λ e. stop-each-from (stopped ++ (d ∷ [])) ds (one-more (λ x. P (command.Resume x)) stopped d b (h zero .1)) (λ k. h (suc k)))
-        (λ code e. each-then P (resumeAll ctx stopped) _ (resume-each stopped b) (λ r. tt))
+        (λ code e. each-then P (resumeStoppedEndpoints ctx stopped) _ (resume-each stopped b) (λ r. tt))
         (λ e. tt),
   )
 
   -- stopping sends stops and resumes
   pub stop-each : (ds : List ℕ) → ((k : ℕ) → P (command.Stop (getD ds k 0)) × P (command.Resume (getD ds k 0))) →
-      EachCommand P (stopAll ctx ds)
-  unfolding stopAll
+      EachCommand P (stopEndpoints ctx ds)
+  unfolding stopEndpoints
   stop-each ds h =
       let e : getD ds (length ds) 0 ≡ 0 = List·getD-eq-default ds 0 (omega arith) in
       stop-each-from [] ds (λ k. rw e at (h (length ds) .1)) h

@@ -55,14 +55,14 @@ contextAt outcomes n zero (sends c ctx k) = ctx
 contextAt outcomes n (suc i) (sends c ctx k) = contextAt outcomes (n + 1) i (k (outcomeAt outcomes n))
 
 -- It has ended, with a value of which P holds.
-unfoldable pub Ended : {A : Type 0} → (A → Type 0) → Course A → Type 0
-Ended P (ends a) = P a
-Ended P (sends c ctx k) = ⊥
+unfoldable pub EndsWith : {A : Type 0} → (A → Type 0) → Course A → Type 0
+EndsWith P (ends a) = P a
+EndsWith P (sends c ctx k) = ⊥
 
 -- Wherever a command is cut, the course ends, with a value of which P holds at the command's context.
 unfoldable pub CutsTo : {A : Type 0} → (List ℕ → A → Type 0) → Course A → Type 0
 CutsTo P (ends a) = Unit {0}
-CutsTo P (sends c ctx k) = Ended (P ctx) (k Cut) × ((s : Sent) → CutsTo P (k s))
+CutsTo P (sends c ctx k) = EndsWith (P ctx) (k Cut) × ((s : Sent) → CutsTo P (k s))
 
 -- Wherever a command is cut, the course ends with a value that has the command's context.
 abbrev pub CutEnds : {A : Type 0} → (A → List ℕ) → Course A → Type 0

@@ -23,8 +23,8 @@ resumeFrom ctx active (d ∷ ds) =
     sends (command.Resume d) ctx
     (λ s. onSent s (resumeFrom ctx (active + 1) ds) (λ code. ends (swept (Failed code) active)) (ends (swept Cut active)))
 
-unfoldable pub resumeAll : List ℕ → List ℕ → Course Sweep
-resumeAll ctx dcis = resumeFrom ctx 0 dcis
+unfoldable pub resumeStoppedEndpoints : List ℕ → List ℕ → Course Sweep
+resumeStoppedEndpoints ctx dcis = resumeFrom ctx 0 dcis
 
 -- The code of a failed resume counts before the one that was to be answered.
 unfoldable pub orCode : ℕ → Sent → Sent
@@ -35,7 +35,7 @@ orCode code Cut = Cut
 -- Those already stopped are resumed after a stop failed with this code.
 unfoldable pub undoStops : List ℕ → List ℕ → ℕ → Course Sweep
 undoStops ctx stopped code =
-    then (resumeAll ctx stopped) (λ r. ends (swept (orCode code (r .sent)) (r .active)))
+    then (resumeStoppedEndpoints ctx stopped) (λ r. ends (swept (orCode code (r .sent)) (r .active)))
 
 -- Endpoints are stopped in order, until one fails: then those already stopped are resumed. `stopped` were stopped before.
 unfoldable pub stopFrom : List ℕ → List ℕ → List ℕ → Course Sweep
@@ -44,8 +44,8 @@ stopFrom ctx stopped (d ∷ ds) =
     sends (command.Stop d) ctx
     (λ s. onSent s (stopFrom ctx (stopped ++ (d ∷ [])) ds) (undoStops ctx stopped) (ends (swept Cut 0)))
 
-unfoldable pub stopAll : List ℕ → List ℕ → Course Sweep
-stopAll ctx dcis = stopFrom ctx [] dcis
+unfoldable pub stopEndpoints : List ℕ → List ℕ → Course Sweep
+stopEndpoints ctx dcis = stopFrom ctx [] dcis
 
 -- What a sweep's code leaves: its result, and the log.
 pub record SweptAs (r : Swept) (left : List ℕ) (p : Played Sweep) : Type 0 where

@@ -12,11 +12,11 @@ use Rattle.descriptor.specs.Word.{endpointDescriptor}
 use Rattle.transfer.specs.Routes.{Queue, ringFor}
 use Rattle.context_block.specs.Fields.{DROP-FLAG, ADD-FLAG, INTERFACE-NUMBER, ALTERNATE-SETTING, CONTEXT-ENTRIES, apartFromAll}
 use Rattle.context_field.specs.Field.{apart}
-use Rattle.context_block.specs.Setting.{Setting, _:=_, settled, inside, allInside}
-use Rattle.context_block.specs.Blocks.{changed, dropFlags, endpointSettings, wordDci}
+use Rattle.context_block.specs.FieldWrite.{FieldWrite, _:=_, fieldsWritten, inside, allInside}
+use Rattle.context_block.specs.Blocks.{changed, dropFlags, endpointFields, wordDci}
 use Rattle.context_block.specs.Promises.{fieldsOf, someDci}
-use Rattle.context_block.proofs.Laws.{settled-append}
-use Rattle.context.specs.Place.{Write, CONTROL, SLOT, inBlock, ofBlock, written, blockAt, readAt, Outside, Spaced}
+use Rattle.context_block.proofs.Laws.{fields-written-append}
+use Rattle.context.specs.Place.{Write, CONTROL, SLOT, inBlock, ofBlock, written, blockAt, readAt, OutsideBlock, Spaced}
 use Rattle.context.specs.Steps.{addWrites, addAll, contextEntries, configureWrites}
 use Rattle.context.proofs.Laws.{of-block-append, of-block-same, of-block-other, block-written, block-length, Untouched, untouched-append, untouched-block}
 use Rattle.context.proofs.Control.{flag, flags, drop-flags-are, end-drop, end-add}
@@ -42,11 +42,11 @@ some-in (x ∷ xs) ys w = some-rest (wordDci w) x (xs ++ (w ∷ ys)) (some-in xs
 
 module _ (speed : ℕ) (qs : List Queue) where
   -- The settings that an added word makes in the control block, and in its own.
-  flagOf : ℕ → List Setting
+  flagOf : ℕ → List FieldWrite
   flagOf w = (ADD-FLAG (wordDci w) := 1) ∷ []
 
-  unfoldable pub endpointOf : ℕ → List Setting
-  endpointOf w = endpointSettings speed (endpointDescriptor w) (ringFor (wordDci w) qs 0)
+  unfoldable pub endpointOf : ℕ → List FieldWrite
+  endpointOf w = endpointFields speed (endpointDescriptor w) (ringFor (wordDci w) qs 0)
 
   add-at :
       (b w : ℕ) →
@@ -106,13 +106,13 @@ module _ (speed : ℕ) (qs : List Queue) where
 
   added-untouched :
       (s k : ℕ) (ws : List ℕ) →
-      Outside s CONTROL k →
-      ((d : ℕ) → someDci d ws ≡ true → Outside s (d + 1) k) →
+      OutsideBlock s CONTROL k →
+      ((d : ℕ) → someDci d ws ≡ true → OutsideBlock s (d + 1) k) →
       Untouched s k (addAll speed qs ws)
   unfolding addAll addWrites Untouched flagOf endpointOf
   added-untouched s k [] c h = tt
   added-untouched s k (w ∷ ws) c h =
-      let own : Outside s (wordDci w + 1) k = h (wordDci w) (some-first w ws) in
+      let own : OutsideBlock s (wordDci w + 1) k = h (wordDci w) (some-first w ws) in
       untouched-append s k (addWrites speed qs w) (addAll speed qs ws)
       (untouched-append s k (inBlock CONTROL (flagOf w)) (inBlock (wordDci w + 1) (endpointOf w))
       (untouched-block s k CONTROL (flagOf w) c) (untouched-block s k (wordDci w + 1) (endpointOf w) own))
@@ -123,14 +123,14 @@ module _ (speed interface alternate : ℕ) (dropped added : List ℕ) (qs : List
   writes = configureWrites speed interface alternate dropped added qs dcis
 
   -- The interface and its alternate setting.
-  abbrev pub chosen : List Setting
+  abbrev pub chosen : List FieldWrite
   chosen = (INTERFACE-NUMBER := interface) ∷ (ALTERNATE-SETTING := alternate) ∷ []
 
   -- Context Entries.
-  abbrev pub entries : List Setting
+  abbrev pub entries : List FieldWrite
   entries = (CONTEXT-ENTRIES := contextEntries dcis added) ∷ []
 
-  abbrev controls : List Setting
+  abbrev controls : List FieldWrite
   controls = changed ++ ((INTERFACE-NUMBER := interface) ∷ (ALTERNATE-SETTING := alternate) ∷ dropFlags dropped)
 
   configure-at :
@@ -163,11 +163,11 @@ module _ (speed interface alternate : ℕ) (dropped added : List ℕ) (qs : List
     pub control-after :
         32 ≤ s →
         blockAt s (written s writes ctx) CONTROL
-        ≡ settled (flags 1 added) (settled (flags 0 dropped) (settled (changed ++ chosen) (blockAt s ctx CONTROL)))
-    unfolding settled changed
+        ≡ fieldsWritten (flags 1 added) (fieldsWritten (flags 0 dropped) (fieldsWritten (changed ++ chosen) (blockAt s ctx CONTROL)))
+    unfolding fieldsWritten changed
     control-after wide =
         block-written s wide writes ctx CONTROL
-        ∙ rw (configure-control, settled-append controls (flags 1 added), drop-flags-are)
+        ∙ rw (configure-control, fields-written-append controls (flags 1 added), drop-flags-are)
 
     -- The block of a word that is the last of its Dci: over what the words before it left.
     pub last-after :
@@ -177,7 +177,7 @@ module _ (speed interface alternate : ℕ) (dropped added : List ℕ) (qs : List
         someDci (wordDci w) ys ≡ false →
         1 ≤ wordDci w →
         let b = wordDci w + 1 in
-        blockAt s (written s writes ctx) b ≡ settled (endpointOf speed qs w) (blockAt s (written s (addAll speed qs xs) ctx) b)
+        blockAt s (written s writes ctx) b ≡ fieldsWritten (endpointOf speed qs w) (blockAt s (written s (addAll speed qs xs) ctx) b)
     last-after wide xs ys w e n one =
         let b = wordDci w + 1 in
         block-written s wide writes ctx b
@@ -185,15 +185,15 @@ module _ (speed interface alternate : ℕ) (dropped added : List ℕ) (qs : List
           configure-endpoint (wordDci w) one,
           e,
           added-last speed qs xs ys w n,
-          settled-append (ofBlock b (addAll speed qs xs)),
+          fields-written-append (ofBlock b (addAll speed qs xs)),
           block-written s wide (addAll speed qs xs) ctx b,
         )
 
     pub configure-untouched :
         (k : ℕ) →
-        Outside s CONTROL k →
-        Outside s SLOT k →
-        ((d : ℕ) → someDci d added ≡ true → Outside s (d + 1) k) →
+        OutsideBlock s CONTROL k →
+        OutsideBlock s SLOT k →
+        ((d : ℕ) → someDci d added ≡ true → OutsideBlock s (d + 1) k) →
         Untouched s k writes
     unfolding configureWrites
     configure-untouched k c sl h =

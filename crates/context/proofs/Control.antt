@@ -15,10 +15,10 @@ use Rattle.context_field.specs.declared.Field.{Field}
 use Rattle.context_field.specs.Field.{readField, writeField, InBlock, apart, within}
 use Rattle.context_field.proofs.Laws.{length-writeField, read-apart, within-self}
 use Rattle.context_block.specs.Fields.{DROP-FLAGS, ADD-FLAGS, DROP-FLAG, ADD-FLAG, apartFromAll}
-use Rattle.context_block.specs.Setting.{Setting, _:=_, settled, inside, allInside}
+use Rattle.context_block.specs.FieldWrite.{FieldWrite, _:=_, fieldsWritten, inside, allInside}
 use Rattle.context_block.specs.Blocks.{changed, dropFlags, wordDci}
 use Rattle.context_block.specs.Promises.{Holds, fieldsOf, someDci}
-use Rattle.context_block.proofs.Laws.{settled-append, settled-length, inside-true, apart-from, apart-part, flag-set}
+use Rattle.context_block.proofs.Laws.{fields-written-append, fields-written-length, inside-true, apart-from, apart-part, flag-set}
 use Rattle.context_block.proofs.Promises.{changed-flag-promise, control-packet-promise}
 use Rattle.context.specs.Promises.{Endpoints, ControlReads}
 
@@ -34,12 +34,12 @@ apart-sym f g a = apart-part g f g a (within-self g)
 pub kept :
     (g : Field) →
     InBlock g →
-    (ss : List Setting) (b : List ℕ) →
+    (ss : List FieldWrite) (b : List ℕ) →
     length b ≡ 32 →
     allInside ss ≡ true →
     apartFromAll g (fieldsOf ss) ≡ true →
-    readField (settled ss b) g ≡ readField b g
-unfolding settled allInside apartFromAll fieldsOf
+    readField (fieldsWritten ss b) g ≡ readField b g
+unfolding fieldsWritten allInside apartFromAll fieldsOf
 kept g in-g [] b size i a = refl
 kept g in-g (s ∷ ss) b size i a =
     let f = s .field in
@@ -52,7 +52,7 @@ kept g in-g (s ∷ ss) b size i a =
 unfoldable pub flag : ℕ → ℕ → Field
 flag word d = record { word = word; low = d; width = 1 }
 
-unfoldable pub flags : ℕ → List ℕ → List Setting
+unfoldable pub flags : ℕ → List ℕ → List FieldWrite
 flags word [] = []
 flags word (w ∷ ws) = (flag word (wordDci w) := 1) ∷ flags word ws
 
@@ -67,8 +67,8 @@ module _ (word : ℕ) (low : word < 8) where
       length b ≡ 32 →
       (d : ℕ) →
       d < 32 →
-      readField (settled (flags word ws) b) (flag word d) ≡ cond (someDci d ws) 1 (readField b (flag word d))
-  unfolding settled flags flag someDci
+      readField (fieldsWritten (flags word ws) b) (flag word d) ≡ cond (someDci d ws) 1 (readField b (flag word d))
+  unfolding fieldsWritten flags flag someDci
   flags-set [] b size d h = refl
   flags-set (w ∷ ws) b size d h =
       flags-set ws (writeField b (flag word (wordDci w)) 1) (length-writeField b (flag word (wordDci w)) 1 ∙ size) d h
@@ -111,7 +111,7 @@ module _ (word : ℕ) (low : word < 8) where
 pub drop-flags-are : (ws : List ℕ) → dropFlags ws ≡ flags 0 ws
 unfolding flags flag dropFlags
 drop-flags-are [] = refl
-drop-flags-are (w ∷ ws) = ap (λ (l : List Setting). (DROP-FLAG (wordDci w) := 1) ∷ l) (drop-flags-are ws)
+drop-flags-are (w ∷ ws) = ap (λ (l : List FieldWrite). (DROP-FLAG (wordDci w) := 1) ∷ l) (drop-flags-are ws)
 
 drop-lies : (d : ℕ) → 2 ≤ d → d < 32 → within (flag 0 d) DROP-FLAGS ≡ true
 unfolding flag within
@@ -122,25 +122,25 @@ unfolding flag within
 add-lies d two h = rw (le-leb 0 d (omega arith), le-leb (d + 1) 32 (omega arith))
 
 -- Fields that are apart from every flag.
-abbrev OffFlags : List Setting → Type 0
+abbrev OffFlags : List FieldWrite → Type 0
 OffFlags listed =
     (d : ℕ) → (apartFromAll (DROP-FLAG d) (fieldsOf listed) ≡ true) × (apartFromAll (ADD-FLAG d) (fieldsOf listed) ≡ true)
 
 -- The flags cleared, and some fields set.
-module _ (b : List ℕ) (size : length b ≡ 32) (listed : List Setting) (in-listed : allInside listed ≡ true) where
+module _ (b : List ℕ) (size : length b ≡ 32) (listed : List FieldWrite) (in-listed : allInside listed ≡ true) where
   abbrev start : List ℕ
-  start = settled (changed ++ listed) b
+  start = fieldsWritten (changed ++ listed) b
 
   start-size : length start ≡ 32
-  start-size = settled-length (changed ++ listed) b ∙ size
+  start-size = fields-written-length (changed ++ listed) b ∙ size
 
   start-flag :
       (g : Field) →
       InBlock g →
       apartFromAll g (fieldsOf listed) ≡ true →
-      readField start g ≡ readField (settled changed b) g
+      readField start g ≡ readField (fieldsWritten changed b) g
   start-flag g in-g a =
-      rw (settled-append changed listed b) (kept g in-g listed (settled changed b) (settled-length changed b ∙ size) in-listed a)
+      rw (fields-written-append changed listed b) (kept g in-g listed (fieldsWritten changed b) (fields-written-length changed b ∙ size) in-listed a)
 
   start-drop :
       (d : ℕ) →
@@ -179,15 +179,15 @@ module _ (b : List ℕ) (size : length b ≡ 32) (listed : List Setting) (in-lis
   -- And then the flags of words.
   module _ (dropped added : List ℕ) where
     abbrev end : List ℕ
-    end = settled (flags 1 added) (settled (flags 0 dropped) start)
+    end = fieldsWritten (flags 1 added) (fieldsWritten (flags 0 dropped) start)
 
-    dropped-size : length (settled (flags 0 dropped) start) ≡ 32
-    dropped-size = settled-length (flags 0 dropped) start ∙ start-size
+    dropped-size : length (fieldsWritten (flags 0 dropped) start) ≡ 32
+    dropped-size = fields-written-length (flags 0 dropped) start ∙ start-size
 
     pub end-drop : OffFlags listed → (d : ℕ) → 2 ≤ d → d < 32 → readField end (DROP-FLAG d) ≡ cond (someDci d dropped) 1 0
     unfolding flag
     end-drop off d two h =
-        kept (DROP-FLAG d) (lit< tt, omega arith) (flags 1 added) (settled (flags 0 dropped) start) dropped-size
+        kept (DROP-FLAG d) (lit< tt, omega arith) (flags 1 added) (fieldsWritten (flags 0 dropped) start) dropped-size
         (flags-inside 1 (lit< tt) added) (flags-elsewhere 1 (lit< tt) (DROP-FLAG d) (omega arith) added)
         ∙ flags-set 0 (lit< tt) dropped start start-size d h
         ∙ rw (start-drop d (off d .0) two h)
@@ -195,7 +195,7 @@ module _ (b : List ℕ) (size : length b ≡ 32) (listed : List Setting) (in-lis
     pub end-add : OffFlags listed → (d : ℕ) → d < 32 → readField end (ADD-FLAG d) ≡ cond (eqb d 0 || someDci d added) 1 0
     unfolding flag
     end-add off d h =
-        flags-set 1 (lit< tt) added (settled (flags 0 dropped) start) dropped-size d h
+        flags-set 1 (lit< tt) added (fieldsWritten (flags 0 dropped) start) dropped-size d h
         ∙ rw (
           kept (ADD-FLAG d) (lit< tt, omega arith) (flags 0 dropped) start start-size (flags-inside 0 (lit< tt) dropped)
               (flags-elsewhere 0 (lit< tt) (ADD-FLAG d) (omega arith) dropped),
@@ -206,7 +206,7 @@ module _ (b : List ℕ) (size : length b ≡ 32) (listed : List Setting) (in-lis
     -- A field of another doubleword.
     pub end-else : (g : Field) → InBlock g → 2 ≤ g .word → readField end g ≡ readField start g
     end-else g in-g h =
-        kept g in-g (flags 1 added) (settled (flags 0 dropped) start) dropped-size (flags-inside 1 (lit< tt) added)
+        kept g in-g (flags 1 added) (fieldsWritten (flags 0 dropped) start) dropped-size (flags-inside 1 (lit< tt) added)
         (flags-elsewhere 1 (lit< tt) g (omega arith) added)
         ∙ kept g in-g (flags 0 dropped) start start-size (flags-inside 0 (lit< tt) dropped)
         (flags-elsewhere 0 (lit< tt) g (omega arith) dropped)
@@ -221,7 +221,7 @@ module _ (b : List ℕ) (size : length b ≡ 32) (listed : List Setting) (in-lis
     unfolding apartFromAll
     end-others e-d e-a g in-g a =
         let rest : apartFromAll g (ADD-FLAGS ∷ fieldsOf listed) ≡ true = and-right (apart g DROP-FLAGS) _ a in
-        kept g in-g (flags 1 added) (settled (flags 0 dropped) start) dropped-size (flags-inside 1 (lit< tt) added)
+        kept g in-g (flags 1 added) (fieldsWritten (flags 0 dropped) start) dropped-size (flags-inside 1 (lit< tt) added)
         (flags-within 1 (lit< tt) g ADD-FLAGS (and-left (apart g ADD-FLAGS) (apartFromAll g (fieldsOf listed)) rest)
         add-lies added e-a)
         ∙ kept g in-g (flags 0 dropped) start start-size (flags-inside 0 (lit< tt) dropped)
@@ -242,7 +242,7 @@ module _ (b : List ℕ) (size : length b ≡ 32) (listed : List Setting) (in-lis
 pub packet-reads :
     (b : List ℕ) →
     length b ≡ 32 →
-    ControlReads (settled (changed ++ ((ADD-FLAG 1 := 1) ∷ [])) b) b (λ d. false) (λ d. ltb d 2) []
+    ControlReads (fieldsWritten (changed ++ ((ADD-FLAG 1 := 1) ∷ [])) b) b (λ d. false) (λ d. ltb d 2) []
 unfolding Holds apart apartFromAll fieldsOf allInside inside within
 packet-reads b size =
     let listed = (ADD-FLAG 1 := 1) ∷ [] in

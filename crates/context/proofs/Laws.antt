@@ -14,9 +14,9 @@ use lib.Seq.{length-take-le}
 use Rattle.context_field.specs.declared.Field.{Field}
 use Rattle.context_field.specs.Field.{writeField, InBlock}
 use Rattle.context_field.proofs.Laws.{length-writeField}
-use Rattle.context_block.specs.Setting.{Setting, settled, afterSettings, allInside, clearCut}
-use Rattle.context_block.proofs.Laws.{read-settled, bit-settled}
-use Rattle.context.specs.Place.{Write, SLOT, inBlock, ofBlock, onPart, writeAt, written, blockAt, readAt, Outside, Spaced}
+use Rattle.context_block.specs.FieldWrite.{FieldWrite, fieldsWritten, afterFieldWrites, allInside, clearCut}
+use Rattle.context_block.proofs.Laws.{read-fields-written, bit-fields-written}
+use Rattle.context.specs.Place.{Write, SLOT, inBlock, ofBlock, onPart, writeAt, written, blockAt, readAt, OutsideBlock, Spaced}
 use Rattle.context.proofs.Parts.{part-length, part-same, part-above, part-below, part-other, part-twice, part-none}
 
 -- Writes.
@@ -28,11 +28,11 @@ written-append s [] b ctx = refl
 written-append s (w ∷ a) b ctx = written-append s a b (writeAt s w ctx)
 
 made : Write → List ℕ → List ℕ
-made w b = writeField b (w .setting .field) (w .setting .value)
+made w b = writeField b (w .write .field) (w .write .value)
 
 made-length : (w : Write) (b : List ℕ) → length (made w b) ≡ length b
 unfolding made
-made-length w b = length-writeField b (w .setting .field) (w .setting .value)
+made-length w b = length-writeField b (w .write .field) (w .write .value)
 
 write-made : (s : ℕ) (w : Write) (ctx : List ℕ) → writeAt s w ctx ≡ onPart (s * w .block) 32 (made w) ctx
 unfolding made writeAt onPart
@@ -47,25 +47,25 @@ written-length s (w ∷ ws) ctx =
 
 -- The settings of one block are its part settled.
 pub written-block :
-    (s b : ℕ) (ss : List Setting) (ctx : List ℕ) →
-    written s (inBlock b ss) ctx ≡ onPart (s * b) 32 (settled ss) ctx
-unfolding written inBlock settled onPart made
+    (s b : ℕ) (ss : List FieldWrite) (ctx : List ℕ) →
+    written s (inBlock b ss) ctx ≡ onPart (s * b) 32 (fieldsWritten ss) ctx
+unfolding written inBlock fieldsWritten onPart made
 written-block s b [] ctx = sym (part-none (s * b) 32 ctx)
 written-block s b (t ∷ ss) ctx =
-    let w : Write = record { block = b; setting = t } in
+    let w : Write = record { block = b; write = t } in
     written-block s b ss (writeAt s w ctx)
-    ∙ rw (write-made s w ctx) (part-twice (s * b) 32 (made w) ctx (made-length w) (settled ss))
+    ∙ rw (write-made s w ctx) (part-twice (s * b) 32 (made w) ctx (made-length w) (fieldsWritten ss))
 
-pub in-block-append : (b : ℕ) (x y : List Setting) → inBlock b (x ++ y) ≡ inBlock b x ++ inBlock b y
+pub in-block-append : (b : ℕ) (x y : List FieldWrite) → inBlock b (x ++ y) ≡ inBlock b x ++ inBlock b y
 unfolding inBlock
 in-block-append b [] y = refl
-in-block-append b (t ∷ x) y = ap (λ (l : List Write). record { block = b; setting = t } ∷ l) (in-block-append b x y)
+in-block-append b (t ∷ x) y = ap (λ (l : List Write). record { block = b; write = t } ∷ l) (in-block-append b x y)
 
 -- In the slot's block.
 pub written-slot :
-    (s : ℕ) (ss : List Setting) (ctx : List ℕ) →
-    written s (inBlock SLOT ss) ctx ≡ onPart s 32 (settled ss) ctx
-written-slot s ss ctx = written-block s 1 ss ctx ∙ ap (λ (a : ℕ). onPart a 32 (settled ss) ctx) (mul-one s)
+    (s : ℕ) (ss : List FieldWrite) (ctx : List ℕ) →
+    written s (inBlock SLOT ss) ctx ≡ onPart s 32 (fieldsWritten ss) ctx
+written-slot s ss ctx = written-block s 1 ss ctx ∙ ap (λ (a : ℕ). onPart a 32 (fieldsWritten ss) ctx) (mul-one s)
 
 -- What some writes set in one block.
 
@@ -77,23 +77,23 @@ of-block-append b (w ∷ x) y = go (eqb (w .block) b) (of-block-append b x y)
     go :
         (t : Bool) →
         ofBlock b (x ++ y) ≡ ofBlock b x ++ ofBlock b y →
-        cond t (w .setting ∷ ofBlock b (x ++ y)) (ofBlock b (x ++ y))
-        ≡ cond t (w .setting ∷ ofBlock b x) (ofBlock b x) ++ ofBlock b y
-    go true e = ap (λ (l : List Setting). w .setting ∷ l) e
+        cond t (w .write ∷ ofBlock b (x ++ y)) (ofBlock b (x ++ y))
+        ≡ cond t (w .write ∷ ofBlock b x) (ofBlock b x) ++ ofBlock b y
+    go true e = ap (λ (l : List FieldWrite). w .write ∷ l) e
     go false e = e
 
-pub of-block-same : (b : ℕ) (ss : List Setting) → ofBlock b (inBlock b ss) ≡ ss
+pub of-block-same : (b : ℕ) (ss : List FieldWrite) → ofBlock b (inBlock b ss) ≡ ss
 unfolding ofBlock inBlock
 of-block-same b [] = refl
 of-block-same b (t ∷ ss) = rw (eq-eqb b b refl, of-block-same b ss)
 
-pub of-block-other : (b c : ℕ) (ss : List Setting) → eqb c b ≡ false → ofBlock b (inBlock c ss) ≡ []
+pub of-block-other : (b c : ℕ) (ss : List FieldWrite) → eqb c b ≡ false → ofBlock b (inBlock c ss) ≡ []
 unfolding ofBlock inBlock
 of-block-other b c [] n = refl
 of-block-other b c (t ∷ ss) n = rw n (of-block-other b c ss n)
 
 pub of-block-skip :
-    (b c : ℕ) (ss : List Setting) (ws : List Write) → eqb c b ≡ false → ofBlock b (inBlock c ss ++ ws) ≡ ofBlock b ws
+    (b c : ℕ) (ss : List FieldWrite) (ws : List Write) → eqb c b ≡ false → ofBlock b (inBlock c ss ++ ws) ≡ ofBlock b ws
 of-block-skip b c ss ws n = rw (of-block-append b (inBlock c ss) ws, of-block-other b c ss n)
 
 -- Blocks lie apart, each of them inside the context.
@@ -133,18 +133,18 @@ module _ (s : ℕ) (wide : 32 ≤ s) where
   -- Each block of a context is settled by the writes of that block, and by no others.
   pub block-written :
       (ws : List Write) (ctx : List ℕ) (b : ℕ) →
-      blockAt s (written s ws ctx) b ≡ settled (ofBlock b ws) (blockAt s ctx b)
-  unfolding written ofBlock settled made
+      blockAt s (written s ws ctx) b ≡ fieldsWritten (ofBlock b ws) (blockAt s ctx b)
+  unfolding written ofBlock fieldsWritten made
   block-written [] ctx b = refl
   block-written (w ∷ ws) ctx b = block-written ws (writeAt s w ctx) b ∙ go (eqb (w .block) b) refl
     where
       go :
           (t : Bool) →
           eqb (w .block) b ≡ t →
-          settled (ofBlock b ws) (blockAt s (writeAt s w ctx) b)
-          ≡ settled (cond t (w .setting ∷ ofBlock b ws) (ofBlock b ws)) (blockAt s ctx b)
-      go true e = let q : w .block ≡ b = eqb-true (w .block) b e in ap (settled (ofBlock b ws)) (rw (← q) (write-same w ctx))
-      go false e = ap (settled (ofBlock b ws)) (write-other w b ctx (eqb-false (w .block) b e))
+          fieldsWritten (ofBlock b ws) (blockAt s (writeAt s w ctx) b)
+          ≡ fieldsWritten (cond t (w .write ∷ ofBlock b ws) (ofBlock b ws)) (blockAt s ctx b)
+      go true e = let q : w .block ≡ b = eqb-true (w .block) b e in ap (fieldsWritten (ofBlock b ws)) (rw (← q) (write-same w ctx))
+      go false e = ap (fieldsWritten (ofBlock b ws)) (write-other w b ctx (eqb-false (w .block) b e))
 
 -- What a field of a block reads after some writes.
 
@@ -155,11 +155,11 @@ module _ (s : ℕ) (ctx : List ℕ) (spaced : Spaced s (length ctx)) (ws : List 
       InBlock g →
       allInside (ofBlock b ws) ≡ true →
       clearCut (ofBlock b ws) g ≡ true →
-      readAt s (written s ws ctx) b g ≡ afterSettings (ofBlock b ws) g (readAt s ctx b g)
+      readAt s (written s ws ctx) b g ≡ afterFieldWrites (ofBlock b ws) g (readAt s ctx b g)
   unfolding readAt
   read-written g in-g i c =
       rw (block-written s (spaced .wide) ws ctx b)
-      (read-settled g in-g (ofBlock b ws) (blockAt s ctx b) (block-length s b ctx spaced low) i c)
+      (read-fields-written g in-g (ofBlock b ws) (blockAt s ctx b) (block-length s b ctx spaced low) i c)
 
   -- A single bit.
   pub bit-written :
@@ -167,11 +167,11 @@ module _ (s : ℕ) (ctx : List ℕ) (spaced : Spaced s (length ctx)) (ws : List 
       InBlock g →
       allInside (ofBlock b ws) ≡ true →
       g .width ≡ 1 →
-      readAt s (written s ws ctx) b g ≡ afterSettings (ofBlock b ws) g (readAt s ctx b g)
+      readAt s (written s ws ctx) b g ≡ afterFieldWrites (ofBlock b ws) g (readAt s ctx b g)
   unfolding readAt
   bit-written g in-g i e =
       rw (block-written s (spaced .wide) ws ctx b)
-      (bit-settled g in-g (ofBlock b ws) (blockAt s ctx b) (block-length s b ctx spaced low) i e)
+      (bit-fields-written g in-g (ofBlock b ws) (blockAt s ctx b) (block-length s b ctx spaced low) i e)
 
 -- A block of which there are no writes is as before.
 pub other-block :
@@ -180,20 +180,20 @@ pub other-block :
     (ws : List Write) (ctx : List ℕ) (b : ℕ) →
     ofBlock b ws ≡ [] →
     blockAt s (written s ws ctx) b ≡ blockAt s ctx b
-unfolding settled
+unfolding fieldsWritten
 other-block s wide ws ctx b e = block-written s wide ws ctx b ∙ rw e
 
 -- A byte that is none of the blocks' of some writes.
 unfoldable pub Untouched : ℕ → ℕ → List Write → Type 0
 Untouched s k [] = Unit {0}
-Untouched s k (w ∷ ws) = Outside s (w .block) k × Untouched s k ws
+Untouched s k (w ∷ ws) = OutsideBlock s (w .block) k × Untouched s k ws
 
 pub untouched-append : (s k : ℕ) (a b : List Write) → Untouched s k a → Untouched s k b → Untouched s k (a ++ b)
 unfolding Untouched
 untouched-append s k [] b p q = q
 untouched-append s k (w ∷ a) b p q = (p .0, untouched-append s k a b (p .1) q)
 
-pub untouched-block : (s k b : ℕ) (ss : List Setting) → Outside s b k → Untouched s k (inBlock b ss)
+pub untouched-block : (s k b : ℕ) (ss : List FieldWrite) → OutsideBlock s b k → Untouched s k (inBlock b ss)
 unfolding Untouched inBlock
 untouched-block s k b [] h = tt
 untouched-block s k b (t ∷ ss) h = (h, untouched-block s k b ss h)
@@ -207,10 +207,10 @@ other-byte s k (w ∷ ws) ctx h =
     ∙ rw (write-made s w ctx) (part-other (s * w .block) 32 (made w) ctx (made-length w) k (h .0))
 
 -- Byte 32 on of each spacing lies in no block: at a spacing of 64 the upper halves.
-pub between-blocks : (s b k : ℕ) → 32 ≤ s → 32 ≤ k % s → Outside s b k
+pub between-blocks : (s b k : ℕ) → 32 ≤ s → 32 ≤ k % s → OutsideBlock s b k
 between-blocks s b k wide h = go (decLt (k / s) b)
   where
-    go : Dec (k / s < b) → Outside s b k
+    go : Dec (k / s < b) → OutsideBlock s b k
     go (yes l) = inl (omega (arith, div-add-mod k s, mod-lt k {m = s} (omega arith), next-block s (k / s) b l))
     go (no l) = inr (omega (arith, div-add-mod k s, mul-le-mul-left {m = b} {n = k / s} s (omega arith)))
 

@@ -15,20 +15,20 @@ use Rattle.transfer.specs.Routes.{ringFor}
 use Rattle.context_field.specs.declared.Field.{Field}
 use Rattle.context_field.specs.Field.{readField, wordAt, InBlock, apart}
 use Rattle.context_block.specs.Fields.{ADD-FLAGS, ADD-FLAG, CONFIGURATION-VALUE, INTERFACE-NUMBER, ALTERNATE-SETTING, CONTEXT-ENTRIES, MAX-PACKET-SIZE, apartFromAll}
-use Rattle.context_block.specs.Setting.{Setting, _:=_, settled, allInside, inside}
-use Rattle.context_block.specs.Blocks.{changed, addressSlot, addressEndpoint, hubSettings, wordDci, endpointSettings}
+use Rattle.context_block.specs.FieldWrite.{FieldWrite, _:=_, fieldsWritten, allInside, inside}
+use Rattle.context_block.specs.Blocks.{changed, addressSlot, addressEndpoint, hubFields, wordDci, endpointFields}
 use Rattle.context_block.specs.Promises.{Holds, fieldsOf, Leaves, someDci, endpointReads}
 use Rattle.context_block.proofs.Promises as block
-use Rattle.context.specs.Place.{Write, CONTROL, SLOT, inBlock, ofBlock, written, blockAt, readAt, Outside}
+use Rattle.context.specs.Place.{Write, CONTROL, SLOT, inBlock, ofBlock, written, blockAt, readAt, OutsideBlock}
 use Rattle.context.specs.Steps.{addressWrites, addressContext, maxPacketWrites, addAll, contextEntries, configureWrites, configurationWrites, hubWrites}
-use Rattle.context.specs.Promises.{Reads, ControlReads, blank, AddressPromise, MaxPacketPromise, ConfigurationPromise, HubPromise, Endpoints, ConfigurePromise}
+use Rattle.context.specs.Promises.{Reads, ControlReads, zeroField, AddressPromise, MaxPacketPromise, ConfigurationPromise, HubPromise, Endpoints, ConfigurePromise}
 use Rattle.context.proofs.Laws.{written-length, of-block-skip, of-block-append, of-block-same, of-block-other, block-length, block-written, other-block, Untouched, untouched-append, untouched-block, other-byte}
 use Rattle.context.proofs.Added.{some-in, endpointOf, added-none, configure-slot, configure-endpoint, control-after, last-after, configure-untouched}
 use Rattle.context.proofs.Control.{word-dci-small, flags, cleared-reads, end-else, flagged-reads, packet-reads}
 
 -- A block's promise, of a block of the context.
 reads-of :
-    (s : ℕ) (ctx : List ℕ) (ws : List Write) (b : ℕ) (ss listed : List Setting) →
+    (s : ℕ) (ctx : List ℕ) (ws : List Write) (b : ℕ) (ss listed : List FieldWrite) →
     32 ≤ s →
     ofBlock b ws ≡ ss →
     Leaves (blockAt s ctx b) ss listed →
@@ -38,14 +38,14 @@ reads-of s ctx ws b ss listed wide e l =
     rw (block-written s wide ws ctx b, e) (record { named = l .named; others = l .others })
 
 -- What is set in either of two blocks, and the bytes outside both.
-first-of : (b c : ℕ) (x y : List Setting) → eqb c b ≡ false → ofBlock b (inBlock b x ++ inBlock c y) ≡ x
+first-of : (b c : ℕ) (x y : List FieldWrite) → eqb c b ≡ false → ofBlock b (inBlock b x ++ inBlock c y) ≡ x
 first-of b c x y n = rw (of-block-append b (inBlock b x) (inBlock c y), of-block-same b x, of-block-other b c y n, append-nil)
 
-second-of : (b c : ℕ) (x y : List Setting) → eqb b c ≡ false → ofBlock c (inBlock b x ++ inBlock c y) ≡ y
+second-of : (b c : ℕ) (x y : List FieldWrite) → eqb b c ≡ false → ofBlock c (inBlock b x ++ inBlock c y) ≡ y
 second-of b c x y n = of-block-skip c b x (inBlock c y) n ∙ of-block-same c y
 
 two-untouched :
-    (s k b c : ℕ) (x y : List Setting) → Outside s b k → Outside s c k → Untouched s k (inBlock b x ++ inBlock c y)
+    (s k b c : ℕ) (x y : List FieldWrite) → OutsideBlock s b k → OutsideBlock s c k → Untouched s k (inBlock b x ++ inBlock c y)
 two-untouched s k b c x y p q =
     untouched-append s k (inBlock b x) (inBlock c y) (untouched-block s k b x p) (untouched-block s k c y q)
 
@@ -96,13 +96,13 @@ address-promise s speed route translator rootPort ring ctx spaced h-speed h-rout
           ∙ zero-at (length ctx) k;
     }
   where
-    both : List Setting
+    both : List FieldWrite
     both = (ADD-FLAGS := 3) ∷ []
 
-    slot : List Setting
+    slot : List FieldWrite
     slot = addressSlot speed route translator rootPort
 
-    endpoint : List Setting
+    endpoint : List FieldWrite
     endpoint = addressEndpoint speed ring
 
     rest-writes : List Write
@@ -121,20 +121,20 @@ address-promise s speed route translator rootPort ring ctx spaced h-speed h-rout
     size b h = block-length s b clean (rw (length-replicate {A = ℕ} (length ctx) 0) spaced) h
 
     made :
-        (b : ℕ) (ss listed : List Setting) →
+        (b : ℕ) (ss listed : List FieldWrite) →
         ofBlock b ws ≡ ss →
         Leaves (blockAt s clean b) ss listed →
-        Reads (blockAt s (written s ws clean) b) listed blank
+        Reads (blockAt s (written s ws clean) b) listed zeroField
     made b ss listed e l =
         let r = reads-of s clean ws b ss listed (spaced .wide) e l in
         record { named = r .named; others = λ g in-g a. r .others g in-g a ∙ zero-reads s (length ctx) b g in-g }
 
 -- The control block of the other steps.
 control-of :
-    (s : ℕ) (ctx : List ℕ) (ws : List Write) (ss : List Setting) (drop add : ℕ → Bool) (listed : List Setting) →
+    (s : ℕ) (ctx : List ℕ) (ws : List Write) (ss : List FieldWrite) (drop add : ℕ → Bool) (listed : List FieldWrite) →
     32 ≤ s →
     ofBlock CONTROL ws ≡ ss →
-    ControlReads (settled ss (blockAt s ctx CONTROL)) (blockAt s ctx CONTROL) drop add listed →
+    ControlReads (fieldsWritten ss (blockAt s ctx CONTROL)) (blockAt s ctx CONTROL) drop add listed →
     ControlReads (blockAt s (written s ws ctx) CONTROL) (blockAt s ctx CONTROL) drop add listed
 control-of s ctx ws ss drop add listed wide e r = rw (block-written s wide ws ctx CONTROL, e) r
 
@@ -160,10 +160,10 @@ max-packet-promise s byte ctx spaced h =
       rest = λ k p q. other-byte s k ws ctx (two-untouched s k CONTROL 2 flag size p q);
     }
   where
-    flag : List Setting
+    flag : List FieldWrite
     flag = changed ++ ((ADD-FLAG 1 := 1) ∷ [])
 
-    size : List Setting
+    size : List FieldWrite
     size = (MAX-PACKET-SIZE := headerPacketSize byte) ∷ []
 
     ws : List Write
@@ -184,7 +184,7 @@ configuration-promise s value ctx spaced h =
       rest = λ k p. other-byte s k (inBlock CONTROL (changed ++ listed)) ctx (untouched-block s k CONTROL (changed ++ listed) p);
     }
   where
-    listed : List Setting
+    listed : List FieldWrite
     listed = (CONFIGURATION-VALUE := value) ∷ []
 
     size : length (blockAt s ctx CONTROL) ≡ 32
@@ -203,8 +203,8 @@ hub-promise s speed ports multi think ctx spaced h-ports h-think =
       rest = λ k p q. other-byte s k ws ctx (two-untouched s k CONTROL SLOT changed settings p q);
     }
   where
-    settings : List Setting
-    settings = hubSettings speed ports multi think
+    settings : List FieldWrite
+    settings = hubFields speed ports multi think
 
     ws : List Write
     ws = inBlock CONTROL changed ++ inBlock SLOT settings
@@ -222,7 +222,7 @@ none-0 ws e = go (someDci 0 ws) refl
 -- A word's block, over what it was.
 endpoint-from :
     (now was : List ℕ) (speed w ring : ℕ) →
-    now ≡ settled (endpointSettings speed (endpointDescriptor w) ring) was →
+    now ≡ fieldsWritten (endpointFields speed (endpointDescriptor w) ring) was →
     length was ≡ 32 →
     ring < 2 ^ 64 →
     Reads now (endpointReads was speed (endpointDescriptor w) ring) (readField was)
@@ -268,7 +268,7 @@ configure-promise s speed interface alternate dropped added qs dcis ctx spaced h
     after : List ℕ
     after = written s ws ctx
 
-    listed : List Setting
+    listed : List FieldWrite
     listed = (INTERFACE-NUMBER := interface) ∷ (ALTERNATE-SETTING := alternate) ∷ []
 
     was : List ℕ
@@ -278,7 +278,7 @@ configure-promise s speed interface alternate dropped added qs dcis ctx spaced h
     size = block-length s CONTROL ctx spaced (omega arith)
 
     end : List ℕ
-    end = settled (flags 1 added) (settled (flags 0 dropped) (settled (changed ++ listed) was))
+    end = fieldsWritten (flags 1 added) (fieldsWritten (flags 0 dropped) (fieldsWritten (changed ++ listed) was))
 
     control : blockAt s after CONTROL ≡ end
     control = control-after speed interface alternate dropped added qs dcis s ctx wide
@@ -299,7 +299,7 @@ configure-promise s speed interface alternate dropped added qs dcis ctx spaced h
         added ≡ xs ++ (w ∷ ys) →
         someDci (wordDci w) ys ≡ false →
         let b = wordDci w + 1 in
-        blockAt s after b ≡ settled (endpointOf speed qs w) (blockAt s (written s (addAll speed qs xs) ctx) b)
+        blockAt s after b ≡ fieldsWritten (endpointOf speed qs w) (blockAt s (written s (addAll speed qs xs) ctx) b)
     last xs ys w e m =
         let two : 2 ≤ wordDci w = e-a (wordDci w) (rw e (some-in xs ys w)) in
         last-after speed interface alternate dropped added qs dcis s ctx wide xs ys w e m (omega arith)

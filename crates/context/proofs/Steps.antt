@@ -9,7 +9,7 @@ use lib.Dec.{eqb}
 use lib.ListN.{length, drop, getD, set, replicate, length-replicate, replicate-append-replicate, drop-of-length-le}
 use lib.Seq.{drop-cons, drop-length, set-at}
 use Rattle.context_block.specs.Fields.{INTERFACE-NUMBER, ALTERNATE-SETTING, CONTEXT-ENTRIES}
-use Rattle.context_block.specs.Setting.{_:=_}
+use Rattle.context_block.specs.FieldWrite.{_:=_}
 use Rattle.context_block.specs.Blocks.{changed, dropFlags, wordDci}
 use Rattle.transfer.specs.Routes.{Queue, queues, ringFor}
 use Rattle.context.specs.Place.{CONTROL, SLOT, inBlock, written}

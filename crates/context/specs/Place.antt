@@ -7,16 +7,16 @@ use lib.Dec.{eqb}
 use lib.ListN.{take, drop}
 use Rattle.context_field.specs.declared.Field.{Field}
 use Rattle.context_field.specs.Field.{readField, writeField}
-use Rattle.context_block.specs.Setting.{Setting}
+use Rattle.context_block.specs.FieldWrite.{FieldWrite}
 
--- A setting in a block of a context.
+-- A field write in a block of a context.
 pub record Write : Type 0 where
   pub block : ℕ
-  pub setting : Setting
+  pub write : FieldWrite
 
-unfoldable pub inBlock : ℕ → List Setting → List Write
+unfoldable pub inBlock : ℕ → List FieldWrite → List Write
 inBlock b [] = []
-inBlock b (s ∷ ss) = record { block = b; setting = s } ∷ inBlock b ss
+inBlock b (s ∷ ss) = record { block = b; write = s } ∷ inBlock b ss
 
 abbrev pub CONTROL : ℕ
 CONTROL = 0
@@ -30,7 +30,7 @@ onPart a k f l = take a l ++ (f (take k (drop a l)) ++ drop k (drop a l))
 
 unfoldable pub writeAt : ℕ → Write → List ℕ → List ℕ
 writeAt spacing w ctx =
-    onPart (spacing * w .block) 32 (λ b. writeField b (w .setting .field) (w .setting .value)) ctx
+    onPart (spacing * w .block) 32 (λ b. writeField b (w .write .field) (w .write .value)) ctx
 
 -- A context after some writes, in order.
 unfoldable pub written : ℕ → List Write → List ℕ → List ℕ
@@ -44,14 +44,14 @@ blockAt spacing ctx block = take 32 (drop (spacing * block) ctx)
 unfoldable pub readAt : ℕ → List ℕ → ℕ → Field → ℕ
 readAt spacing ctx block f = readField (blockAt spacing ctx block) f
 
--- The settings that some writes make in one block.
-unfoldable pub ofBlock : ℕ → List Write → List Setting
+-- The field writes that some writes make in one block.
+unfoldable pub ofBlock : ℕ → List Write → List FieldWrite
 ofBlock b [] = []
-ofBlock b (w ∷ ws) = cond (eqb (w .block) b) (w .setting ∷ ofBlock b ws) (ofBlock b ws)
+ofBlock b (w ∷ ws) = cond (eqb (w .block) b) (w .write ∷ ofBlock b ws) (ofBlock b ws)
 
 -- A byte that is none of a block's.
-abbrev pub Outside : ℕ → ℕ → ℕ → Type 0
-Outside spacing block k = (k < spacing * block) ⊎ (spacing * block + 32 ≤ k)
+abbrev pub OutsideBlock : ℕ → ℕ → ℕ → Type 0
+OutsideBlock spacing block k = (k < spacing * block) ⊎ (spacing * block + 32 ≤ k)
 
 -- A context with room for 33 blocks that do not overlap: 1,056 bytes at spacing 32, 2,112 at 64.
 pub record Spaced (spacing len : ℕ) : Type 0 where

@@ -12,20 +12,20 @@ use Rattle.transfer.specs.Routes.{Queue, ringFor}
 use Rattle.context_field.specs.declared.Field.{Field}
 use Rattle.context_field.specs.Field.{readField, InBlock}
 use Rattle.context_block.specs.Fields.{DROP-FLAGS, ADD-FLAGS, DROP-FLAG, ADD-FLAG, CONFIGURATION-VALUE, INTERFACE-NUMBER, ALTERNATE-SETTING, MTT, HUB, CONTEXT-ENTRIES, NUMBER-OF-PORTS, TT-THINK-TIME, CERR, EP-TYPE, MAX-PACKET-SIZE, AVERAGE-TRB-LENGTH, apartFromAll}
-use Rattle.context_block.specs.Setting.{Setting, _:=_}
+use Rattle.context_block.specs.FieldWrite.{FieldWrite, _:=_}
 use Rattle.context_block.specs.Blocks.{addressSlot, wordDci}
 use Rattle.context_block.specs.Promises.{Holds, fieldsOf, someDci, ringReads, endpointReads}
-use Rattle.context.specs.Place.{CONTROL, SLOT, written, blockAt, readAt, Outside, Spaced}
+use Rattle.context.specs.Place.{CONTROL, SLOT, written, blockAt, readAt, OutsideBlock, Spaced}
 use Rattle.context.specs.Steps.{addressContext, maxPacketWrites, addAll, contextEntries, configureWrites, configurationWrites, hubWrites}
 
 -- The listed fields of a block read the values beside them, and every field apart from these reads as `old` has it.
-pub record Reads (block : List ℕ) (listed : List Setting) (old : Field → ℕ) : Type 0 where
+pub record Reads (block : List ℕ) (listed : List FieldWrite) (old : Field → ℕ) : Type 0 where
   pub named : Holds block listed
   pub others : (g : Field) → InBlock g → apartFromAll g (fieldsOf listed) ≡ true → readField block g ≡ old g
 
 -- The control block of each step but Address: drop flags 2 to 31 and the add flags are as told, the listed fields read the values
 -- beside them, and every field apart from these reads as in the block before.
-pub record ControlReads (block was : List ℕ) (drop add : ℕ → Bool) (listed : List Setting) : Type 0 where
+pub record ControlReads (block was : List ℕ) (drop add : ℕ → Bool) (listed : List FieldWrite) : Type 0 where
   pub drops : (d : ℕ) → 2 ≤ d → d < 32 → readField block (DROP-FLAG d) ≡ cond (drop d) 1 0
   pub adds : (d : ℕ) → d < 32 → readField block (ADD-FLAG d) ≡ cond (add d) 1 0
   pub named : Holds block listed
@@ -36,17 +36,17 @@ pub record ControlReads (block was : List ℕ) (drop add : ℕ → Bool) (listed
       readField block g ≡ readField was g
 
 -- `address_context`: block 2 is the control endpoint's, and what is not named is 0.
-abbrev pub blank : Field → ℕ
-blank g = 0
+abbrev pub zeroField : Field → ℕ
+zeroField g = 0
 
 pub record AddressReads (s speed route : ℕ) (translator : Translator) (rootPort ring : ℕ) (ctx : List ℕ) : Type 0 where
-  pub control : Reads (blockAt s ctx CONTROL) ((ADD-FLAGS := 3) ∷ []) blank
-  pub slot : Reads (blockAt s ctx SLOT) (addressSlot speed route translator rootPort) blank
+  pub control : Reads (blockAt s ctx CONTROL) ((ADD-FLAGS := 3) ∷ []) zeroField
+  pub slot : Reads (blockAt s ctx SLOT) (addressSlot speed route translator rootPort) zeroField
   pub endpoint :
       Reads (blockAt s ctx 2)
       ((CERR := 3) ∷ (EP-TYPE := 4) ∷ (MAX-PACKET-SIZE := firstPacketSize speed) ∷ (AVERAGE-TRB-LENGTH := 8) ∷ ringReads ring)
-      blank
-  pub rest : (k : ℕ) → Outside s CONTROL k → Outside s SLOT k → Outside s 2 k → getD ctx k 0 ≡ 0
+      zeroField
+  pub rest : (k : ℕ) → OutsideBlock s CONTROL k → OutsideBlock s SLOT k → OutsideBlock s 2 k → getD ctx k 0 ≡ 0
 
 abbrev pub AddressPromise : Type 0
 AddressPromise =
@@ -64,7 +64,7 @@ AddressPromise =
 pub record MaxPacketReads (s byte : ℕ) (was ctx : List ℕ) : Type 0 where
   pub control : ControlReads (blockAt s ctx CONTROL) (blockAt s was CONTROL) (λ d. false) (λ d. ltb d 2) []
   pub endpoint : Reads (blockAt s ctx 2) ((MAX-PACKET-SIZE := headerPacketSize byte) ∷ []) (readAt s was 2)
-  pub rest : (k : ℕ) → Outside s CONTROL k → Outside s 2 k → getD ctx k 0 ≡ getD was k 0
+  pub rest : (k : ℕ) → OutsideBlock s CONTROL k → OutsideBlock s 2 k → getD ctx k 0 ≡ getD was k 0
 
 abbrev pub MaxPacketPromise : Type 0
 MaxPacketPromise =
@@ -78,7 +78,7 @@ pub record ConfigurationReads (s value : ℕ) (was ctx : List ℕ) : Type 0 wher
   pub control :
       ControlReads (blockAt s ctx CONTROL) (blockAt s was CONTROL) (λ d. false) (λ d. eqb d 0)
       ((CONFIGURATION-VALUE := value) ∷ [])
-  pub rest : (k : ℕ) → Outside s CONTROL k → getD ctx k 0 ≡ getD was k 0
+  pub rest : (k : ℕ) → OutsideBlock s CONTROL k → getD ctx k 0 ≡ getD was k 0
 
 abbrev pub ConfigurationPromise : Type 0
 ConfigurationPromise =
@@ -97,7 +97,7 @@ pub record HubReads (s speed ports : ℕ) (multi : Bool) (think : ℕ) (was ctx 
       ∷ (MTT := cond multi 1 (cond (eqb speed FULL) 0 (readAt s was SLOT MTT)))
       ∷ (TT-THINK-TIME := cond (eqb speed HIGH) think (readAt s was SLOT TT-THINK-TIME)) ∷ [])
       (readAt s was SLOT)
-  pub rest : (k : ℕ) → Outside s CONTROL k → Outside s SLOT k → getD ctx k 0 ≡ getD was k 0
+  pub rest : (k : ℕ) → OutsideBlock s CONTROL k → OutsideBlock s SLOT k → getD ctx k 0 ≡ getD was k 0
 
 abbrev pub HubPromise : Type 0
 HubPromise =
@@ -147,9 +147,9 @@ pub record ConfigureReads (s speed interface alternate : ℕ) (dropped added : L
   pub idle : (d : ℕ) → 1 ≤ d → someDci d added ≡ false → blockAt s ctx (d + 1) ≡ blockAt s was (d + 1)
   pub rest :
       (k : ℕ) →
-      Outside s CONTROL k →
-      Outside s SLOT k →
-      ((d : ℕ) → someDci d added ≡ true → Outside s (d + 1) k) →
+      OutsideBlock s CONTROL k →
+      OutsideBlock s SLOT k →
+      ((d : ℕ) → someDci d added ≡ true → OutsideBlock s (d + 1) k) →
       getD ctx k 0 ≡ getD was k 0
 
 abbrev pub ConfigurePromise : Type 0

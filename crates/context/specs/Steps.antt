@@ -8,8 +8,8 @@ use Rattle.descriptor.specs.Word.{endpointDescriptor}
 use Rattle.hub.specs.declared.translator.Translator.{Translator}
 use Rattle.transfer.specs.Routes.{Queue, ringFor}
 use Rattle.context_block.specs.Fields.{ADD-FLAGS, ADD-FLAG, CONFIGURATION-VALUE, INTERFACE-NUMBER, ALTERNATE-SETTING, CONTEXT-ENTRIES, MAX-PACKET-SIZE}
-use Rattle.context_block.specs.Setting.{_:=_}
-use Rattle.context_block.specs.Blocks.{changed, addressSlot, addressEndpoint, endpointSettings, wordDci, dropFlags, hubSettings}
+use Rattle.context_block.specs.FieldWrite.{_:=_}
+use Rattle.context_block.specs.Blocks.{changed, addressSlot, addressEndpoint, endpointFields, wordDci, dropFlags, hubFields}
 use Rattle.context.specs.Place.{Write, inBlock, CONTROL, SLOT, written}
 
 -- `address`: the control block, the slot and the control endpoint.
@@ -32,7 +32,7 @@ maxPacketWrites byte =
 unfoldable pub addWrites : ℕ → List Queue → ℕ → List Write
 addWrites speed queues w =
     inBlock CONTROL ((ADD-FLAG (wordDci w) := 1) ∷ [])
-    ++ inBlock (wordDci w + 1) (endpointSettings speed (endpointDescriptor w) (ringFor (wordDci w) queues 0))
+    ++ inBlock (wordDci w + 1) (endpointFields speed (endpointDescriptor w) (ringFor (wordDci w) queues 0))
 
 unfoldable pub addAll : ℕ → List Queue → List ℕ → List Write
 addAll speed queues [] = []
@@ -63,4 +63,4 @@ configurationWrites value = inBlock CONTROL (changed ++ ((CONFIGURATION-VALUE :=
 
 -- `update_hub_inner`.
 unfoldable pub hubWrites : ℕ → ℕ → Bool → ℕ → List Write
-hubWrites speed ports multi think = inBlock CONTROL changed ++ inBlock SLOT (hubSettings speed ports multi think)
+hubWrites speed ports multi think = inBlock CONTROL changed ++ inBlock SLOT (hubFields speed ports multi think)

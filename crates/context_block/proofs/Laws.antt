@@ -12,31 +12,31 @@ use lib.ListN.{length}
 use Rattle.laws.proofs.Cases.{or-cases}
 use Rattle.laws.proofs.Tests.{and-left, and-right, and-true, not-both}
 use Rattle.context_field.specs.declared.Field.{Field}
-use Rattle.context_field.specs.Field.{readField, writeField, InBlock, apart, within, after, Bytes}
+use Rattle.context_field.specs.Field.{readField, writeField, InBlock, apart, within, readAfter, Bytes}
 use Rattle.context_field.proofs.Laws.{apart-true, within-true, bit-cases, length-writeField, bytes-writeField, read-apart, read-back, read-write}
-use Rattle.context_block.specs.Setting.{Setting, settled, afterSettings, inside, allInside, clearCut}
+use Rattle.context_block.specs.FieldWrite.{FieldWrite, fieldsWritten, afterFieldWrites, inside, allInside, clearCut}
 use Rattle.context_block.specs.Fields.{apartFromAll}
 use Rattle.context_block.specs.Promises.{Holds, fieldsOf, Leaves}
 
 -- Settings of which some come first.
-pub settled-append : (a b : List Setting) (block : List ℕ) → settled (a ++ b) block ≡ settled b (settled a block)
-unfolding settled
-settled-append [] b block = refl
-settled-append (s ∷ a) b block = settled-append a b (writeField block (s .field) (s .value))
+pub fields-written-append : (a b : List FieldWrite) (block : List ℕ) → fieldsWritten (a ++ b) block ≡ fieldsWritten b (fieldsWritten a block)
+unfolding fieldsWritten
+fields-written-append [] b block = refl
+fields-written-append (s ∷ a) b block = fields-written-append a b (writeField block (s .field) (s .value))
 
 -- The block keeps its length.
-pub settled-length : (ss : List Setting) (block : List ℕ) → length (settled ss block) ≡ length block
-unfolding settled
-settled-length [] block = refl
-settled-length (s ∷ ss) block =
-    settled-length ss (writeField block (s .field) (s .value)) ∙ length-writeField block (s .field) (s .value)
+pub fields-written-length : (ss : List FieldWrite) (block : List ℕ) → length (fieldsWritten ss block) ≡ length block
+unfolding fieldsWritten
+fields-written-length [] block = refl
+fields-written-length (s ∷ ss) block =
+    fields-written-length ss (writeField block (s .field) (s .value)) ∙ length-writeField block (s .field) (s .value)
 
 -- It stays one of bytes.
-pub settled-bytes : (ss : List Setting) (block : List ℕ) → Bytes block → Bytes (settled ss block)
-unfolding settled
-settled-bytes [] block h = h
-settled-bytes (s ∷ ss) block h =
-    settled-bytes ss (writeField block (s .field) (s .value)) (bytes-writeField block (s .field) (s .value) h)
+pub fields-written-bytes : (ss : List FieldWrite) (block : List ℕ) → Bytes block → Bytes (fieldsWritten ss block)
+unfolding fieldsWritten
+fields-written-bytes [] block h = h
+fields-written-bytes (s ∷ ss) block h =
+    fields-written-bytes ss (writeField block (s .field) (s .value)) (bytes-writeField block (s .field) (s .value) h)
 
 -- What the test of a field says.
 pub inside-true : (f : Field) → inside f ≡ true → InBlock f
@@ -48,13 +48,13 @@ inside-true f e = (
 
 -- What a field holds after settings of which some come first.
 pub after-append :
-    (a b : List Setting) (g : Field) (old : ℕ) → afterSettings (a ++ b) g old ≡ afterSettings b g (afterSettings a g old)
-unfolding afterSettings
+    (a b : List FieldWrite) (g : Field) (old : ℕ) → afterFieldWrites (a ++ b) g old ≡ afterFieldWrites b g (afterFieldWrites a g old)
+unfolding afterFieldWrites
 after-append [] b g old = refl
-after-append (s ∷ a) b g old = after-append a b g (after (s .field) (s .value) g old)
+after-append (s ∷ a) b g old = after-append a b g (readAfter (s .field) (s .value) g old)
 
 -- A single bit is apart from each field that is set, or lies in it.
-pub bit-clear : (ss : List Setting) (g : Field) → g .width ≡ 1 → clearCut ss g ≡ true
+pub bit-clear : (ss : List FieldWrite) (g : Field) → g .width ≡ 1 → clearCut ss g ≡ true
 unfolding clearCut
 bit-clear [] g e = refl
 bit-clear (s ∷ ss) g e = and-true (apart (s .field) g || within g (s .field)) (clearCut ss g) (go (bit-cases (s .field) g e)) (bit-clear ss g e)
@@ -65,63 +65,63 @@ bit-clear (s ∷ ss) g e = and-true (apart (s .field) g || within g (s .field)) 
 
 module _ (g : Field) (in-g : InBlock g) where
   -- What a field reads after some settings.
-  pub read-settled :
-      (ss : List Setting) (b : List ℕ) →
+  pub read-fields-written :
+      (ss : List FieldWrite) (b : List ℕ) →
       length b ≡ 32 →
       allInside ss ≡ true →
       clearCut ss g ≡ true →
-      readField (settled ss b) g ≡ afterSettings ss g (readField b g)
-  unfolding settled afterSettings allInside clearCut
-  read-settled [] b size i e = refl
-  read-settled (s ∷ ss) b size i e =
+      readField (fieldsWritten ss b) g ≡ afterFieldWrites ss g (readField b g)
+  unfolding fieldsWritten afterFieldWrites allInside clearCut
+  read-fields-written [] b size i e = refl
+  read-fields-written (s ∷ ss) b size i e =
       let f = s .field in
-      read-settled ss (writeField b f (s .value)) (length-writeField b f (s .value) ∙ size) (and-right (inside f) (allInside ss) i)
+      read-fields-written ss (writeField b f (s .value)) (length-writeField b f (s .value) ∙ size) (and-right (inside f) (allInside ss) i)
       (and-right (apart f g || within g f) (clearCut ss g) e)
-      ∙ ap (afterSettings ss g)
+      ∙ ap (afterFieldWrites ss g)
       (read-write b f (s .value) size (inside-true f (and-left (inside f) (allInside ss) i)) g in-g
       (or-cases (apart f g) (within g f) (and-left (apart f g || within g f) (clearCut ss g) e)))
 
   -- What a single bit reads.
-  pub bit-settled :
-      (ss : List Setting) (b : List ℕ) →
+  pub bit-fields-written :
+      (ss : List FieldWrite) (b : List ℕ) →
       length b ≡ 32 →
       allInside ss ≡ true →
       g .width ≡ 1 →
-      readField (settled ss b) g ≡ afterSettings ss g (readField b g)
-  bit-settled ss b size i e = read-settled ss b size i (bit-clear ss g e)
+      readField (fieldsWritten ss b) g ≡ afterFieldWrites ss g (readField b g)
+  bit-fields-written ss b size i e = read-fields-written ss b size i (bit-clear ss g e)
 
 -- Each listed field lies in a block, and is apart from each field that is set or lies in it.
-unfoldable pub clear : List Setting → List Setting → Bool
+unfoldable pub clear : List FieldWrite → List FieldWrite → Bool
 clear ss [] = true
 clear ss (h ∷ hs) = inside (h .field) && (clearCut ss (h .field) && clear ss hs)
 
 -- A field lies in a listed one.
-unfoldable pub liesIn : Field → List Setting → Bool
+unfoldable pub liesIn : Field → List FieldWrite → Bool
 liesIn f [] = false
 liesIn f (h ∷ hs) = within f (h .field) || liesIn f hs
 
 -- Each field that is set lies in a listed one.
-unfoldable pub covered : List Setting → List Setting → Bool
+unfoldable pub covered : List FieldWrite → List FieldWrite → Bool
 covered [] hs = true
 covered (s ∷ ss) hs = liesIn (s .field) hs && covered ss hs
 
 -- Each listed value is what its field holds after the settings.
-unfoldable pub Follow : List Setting → List ℕ → List Setting → Type 0
+unfoldable pub Follow : List FieldWrite → List ℕ → List FieldWrite → Type 0
 Follow ss block [] = Unit {0}
-Follow ss block (h ∷ hs) = (afterSettings ss (h .field) (readField block (h .field)) ≡ h .value) × Follow ss block hs
+Follow ss block (h ∷ hs) = (afterFieldWrites ss (h .field) (readField block (h .field)) ≡ h .value) × Follow ss block hs
 
 named-follow :
-    (ss : List Setting) (block : List ℕ) (hs : List Setting) →
+    (ss : List FieldWrite) (block : List ℕ) (hs : List FieldWrite) →
     length block ≡ 32 →
     allInside ss ≡ true →
     clear ss hs ≡ true →
     Follow ss block hs →
-    Holds (settled ss block) hs
+    Holds (fieldsWritten ss block) hs
 unfolding clear Follow Holds
 named-follow ss block [] size i c f = tt
 named-follow ss block (h ∷ hs) size i c f =
     let rest = and-right (inside (h .field)) (clearCut ss (h .field) && clear ss hs) c in (
-      read-settled (h .field) (inside-true (h .field) (and-left _ (clearCut ss (h .field) && clear ss hs) c)) ss block size i
+      read-fields-written (h .field) (inside-true (h .field) (and-left _ (clearCut ss (h .field) && clear ss hs) c)) ss block size i
           (and-left (clearCut ss (h .field)) (clear ss hs) rest)
           ∙ f .0,
       named-follow ss block hs size i (and-right (clearCut ss (h .field)) (clear ss hs) rest) (f .1),
@@ -151,7 +151,7 @@ apart-part f g h a w = apart-from f g (go (apart-true g h a) (within-true h f w)
     go (inr (inl n)) e = inr (inr (omega arith))
     go (inr (inr n)) e = inr (inl (omega arith))
 
-apart-listed : (f g : Field) (hs : List Setting) → apartFromAll g (fieldsOf hs) ≡ true → liesIn f hs ≡ true → apart f g ≡ true
+apart-listed : (f g : Field) (hs : List FieldWrite) → apartFromAll g (fieldsOf hs) ≡ true → liesIn f hs ≡ true → apart f g ≡ true
 unfolding apartFromAll fieldsOf liesIn
 apart-listed f g [] a w = not-both true refl (sym w)
 apart-listed f g (h ∷ hs) a w = go (or-cases (within f (h .field)) (liesIn f hs) w) (apart-listed f g hs)
@@ -163,14 +163,14 @@ apart-listed f g (h ∷ hs) a w = go (or-cases (within f (h .field)) (liesIn f h
     go (inl e) k = apart-part f g (h .field) (and-left (apart g (h .field)) (apartFromAll g (fieldsOf hs)) a) e
     go (inr e) k = k (and-right (apart g (h .field)) (apartFromAll g (fieldsOf hs)) a) e
 
-module _ (g : Field) (in-g : InBlock g) (hs : List Setting) (a : apartFromAll g (fieldsOf hs) ≡ true) where
+module _ (g : Field) (in-g : InBlock g) (hs : List FieldWrite) (a : apartFromAll g (fieldsOf hs) ≡ true) where
   others-kept :
-      (ss : List Setting) (block : List ℕ) →
+      (ss : List FieldWrite) (block : List ℕ) →
       length block ≡ 32 →
       allInside ss ≡ true →
       covered ss hs ≡ true →
-      readField (settled ss block) g ≡ readField block g
-  unfolding settled allInside covered
+      readField (fieldsWritten ss block) g ≡ readField block g
+  unfolding fieldsWritten allInside covered
   others-kept [] block size i c = refl
   others-kept (s ∷ ss) block size i c =
       let f = s .field in
@@ -181,7 +181,7 @@ module _ (g : Field) (in-g : InBlock g) (hs : List Setting) (a : apartFromAll g 
 
 -- What settings leave, from tests that antt computes.
 pub leaves :
-    (block : List ℕ) (ss hs : List Setting) →
+    (block : List ℕ) (ss hs : List FieldWrite) →
     length block ≡ 32 →
     allInside ss ≡ true →
     clear ss hs ≡ true →

@@ -20,16 +20,16 @@ use Rattle.descriptor.specs.Word.{endpointDescriptor}
 use Rattle.descriptor.specs.Endpoint.{isPeriodic, esitPayload, endpointType, xhciInterval}
 use Rattle.descriptor.proofs.Laws.{fields-fit, endpoint-type-small, interval-small, burst-small, payload-small, dci-small}
 use Rattle.context_field.specs.declared.Field.{Field}
-use Rattle.context_field.specs.Field.{readField, writeField, InBlock, apart, within, after}
+use Rattle.context_field.specs.Field.{readField, writeField, InBlock, apart, within, readAfter}
 use Rattle.context_field.proofs.Laws.{within-self, length-writeField, read-apart, read-back}
 use Rattle.context_block.specs.Fields.{DROP-FLAG, ADD-FLAG, MTT, HUB, NUMBER-OF-PORTS, TT-THINK-TIME, MULT, MAX-PSTREAMS, MAX-ESIT-PAYLOAD-HI, MAX-BURST-SIZE, AVERAGE-TRB-LENGTH, MAX-ESIT-PAYLOAD-LO, apartFromAll}
-use Rattle.context_block.specs.Setting.{_:=_, settled, afterSettings, inside, allInside, clearCut}
-use Rattle.context_block.specs.Blocks.{changed, ringSettings, addressSlot, addressEndpoint, errorCount, periodicSettings, burstOf, basicSettings, endpointSettings, wordDci, dropFlags, multiSettings, thinkSettings, hubSettings}
+use Rattle.context_block.specs.FieldWrite.{_:=_, fieldsWritten, afterFieldWrites, inside, allInside, clearCut}
+use Rattle.context_block.specs.Blocks.{changed, ringFields, addressSlot, addressEndpoint, errorCount, periodicFields, burstOf, basicFields, endpointFields, wordDci, dropFlags, multiFields, thinkFields, hubFields}
 use Rattle.context_block.specs.Promises.{Holds, fieldsOf, Leaves, unchanged, madeIf, SinglePromise, changedReads, ChangedPromise, ChangedFlagPromise, InterfacePromise, ConfigurationPromise, ControlPacketPromise, someDci, DropFlagsPromise, AddressSlotPromise, HubPromise, ringReads, AddressEndpointPromise, endpointReads, EndpointPromise}
-use Rattle.context_block.proofs.Laws.{settled-append, settled-length, bit-settled, apart-from, apart-part, clear, liesIn, covered, Follow, leaves, flag-set}
+use Rattle.context_block.proofs.Laws.{fields-written-append, fields-written-length, bit-fields-written, apart-from, apart-part, clear, liesIn, covered, Follow, leaves, flag-set}
 
 pub single-promise : SinglePromise
-unfolding settled Holds apartFromAll fieldsOf
+unfolding fieldsWritten Holds apartFromAll fieldsOf
 single-promise block f v size in-f h =
     record {
       named = (read-back block f v size in-f h, tt);
@@ -39,19 +39,19 @@ single-promise block f v size in-f h =
     }
 
 pub changed-promise : ChangedPromise
-unfolding changed changedReads afterSettings after apart within inside allInside clearCut clear liesIn covered Follow
+unfolding changed changedReads afterFieldWrites readAfter apart within inside allInside clearCut clear liesIn covered Follow
 changed-promise block size = leaves block changed (changedReads block) size refl refl refl (omega arith)
 
 pub interface-promise : InterfacePromise
-unfolding changed changedReads afterSettings after apart within inside allInside clearCut clear liesIn covered Follow
+unfolding changed changedReads afterFieldWrites readAfter apart within inside allInside clearCut clear liesIn covered Follow
 interface-promise block interface alternate size i a = leaves block _ _ size refl refl refl (omega arith)
 
 pub configuration-promise : ConfigurationPromise
-unfolding changed changedReads afterSettings after apart within inside allInside clearCut clear liesIn covered Follow
+unfolding changed changedReads afterFieldWrites readAfter apart within inside allInside clearCut clear liesIn covered Follow
 configuration-promise block value size v = leaves block _ _ size refl refl refl (omega arith)
 
 pub address-slot-promise : AddressSlotPromise
-unfolding addressSlot afterSettings after apart within inside allInside clearCut clear liesIn covered Follow
+unfolding addressSlot afterFieldWrites readAfter apart within inside allInside clearCut clear liesIn covered Follow
 address-slot-promise block speed route translator rootPort size s r t p q = go (translator .multi)
   where
     go :
@@ -62,7 +62,7 @@ address-slot-promise block speed route translator rootPort size s r t p q = go (
     go false = leaves block _ _ size refl refl refl (omega arith)
 
 pub hub-promise : HubPromise
-unfolding hubSettings multiSettings thinkSettings afterSettings after apart within inside allInside clearCut clear liesIn covered Follow
+unfolding hubFields multiFields thinkFields afterFieldWrites readAfter apart within inside allInside clearCut clear liesIn covered Follow
 hub-promise block speed ports multi think size p t = go multi (eqb speed FULL) (eqb speed HIGH)
   where
     go :
@@ -95,7 +95,7 @@ first-size-small speed = go (eqb speed 1) (eqb speed 2) (eqb speed 3) (eqb speed
     go false false false false false = lit< tt
 
 pub address-endpoint-promise : AddressEndpointPromise
-unfolding addressEndpoint ringSettings ringReads afterSettings after apart within inside allInside clearCut clear liesIn covered Follow
+unfolding addressEndpoint ringFields ringReads afterFieldWrites readAfter apart within inside allInside clearCut clear liesIn covered Follow
 address-endpoint-promise block speed ring size r =
     let p = first-size-small speed in leaves block _ _ size refl refl refl (omega arith)
 
@@ -107,7 +107,7 @@ error-count-small Bulk = lit< tt
 error-count-small Interrupt = lit< tt
 
 pub endpoint-promise : EndpointPromise
-unfolding endpointSettings basicSettings ringSettings periodicSettings ringReads endpointReads burstOf afterSettings after apart within inside allInside clearCut clear liesIn covered Follow
+unfolding endpointFields basicFields ringFields periodicFields ringReads endpointReads burstOf afterFieldWrites readAfter apart within inside allInside clearCut clear liesIn covered Follow
 endpoint-promise block speed w ring size r = go (isPeriodic (e .«transfer_type»))
   where
     e : EndpointDescriptor
@@ -139,8 +139,8 @@ endpoint-promise block speed w ring size r = go (isPeriodic (e .«transfer_type�
     go :
         (p : Bool) →
         Leaves block
-        (basicSettings speed e ++ (ringSettings ring ++ cond p (periodicSettings burst payload) []))
-        (basicSettings speed e
+        (basicFields speed e ++ (ringFields ring ++ cond p (periodicFields burst payload) []))
+        (basicFields speed e
         ++ (ringReads ring
         ++ (madeIf p block MAX-BURST-SIZE burst
         ∷ madeIf p block MULT 0
@@ -159,16 +159,16 @@ unfolding flag-bit
 flag-bits = refl
 
 pub changed-flag-promise : ChangedFlagPromise
-unfolding changed afterSettings after apart inside allInside flag-bit
+unfolding changed afterFieldWrites readAfter apart inside allInside flag-bit
 changed-flag-promise block d size h = (
-  bit-settled (DROP-FLAG d) (lit< tt, omega arith) changed block size refl refl ∙ go (decLt d 2),
-  bit-settled (ADD-FLAG d) (lit< tt, omega arith) changed block size refl refl
+  bit-fields-written (DROP-FLAG d) (lit< tt, omega arith) changed block size refl refl ∙ go (decLt d 2),
+  bit-fields-written (ADD-FLAG d) (lit< tt, omega arith) changed block size refl refl
       ∙ rw (lt-leb 32 d h, lt-leb (d + 1) 0 (omega arith)) (eqb-true _ _ (all-below flag-bit 32 flag-bits d h)),
 )
   where
     go :
         Dec (d < 2) →
-        afterSettings changed (DROP-FLAG d) (readField block (DROP-FLAG d)) ≡ cond (ltb d 2) (readField block (DROP-FLAG d)) 0
+        afterFieldWrites changed (DROP-FLAG d) (readField block (DROP-FLAG d)) ≡ cond (ltb d 2) (readField block (DROP-FLAG d)) 0
     go (yes l) = rw (lt-leb 32 d h, le-leb (d + 1) 2 (omega arith), lt-ltb d 2 l)
     go (no l) = rw (lt-leb 32 d h, lt-leb (d + 1) 2 (omega arith), le-ltb d 2 (omega arith), zero-div, zero-mod)
 
@@ -181,10 +181,10 @@ unfolding added-bit
 added-bits = refl
 
 pub control-packet-promise : ControlPacketPromise
-unfolding settled added-bit
+unfolding fieldsWritten added-bit
 control-packet-promise block d size h =
-    rw (settled-append changed)
-    (flag-set (settled changed block) 1 1 d (settled-length changed block ∙ size) (lit< tt) (lit< tt) h
+    rw (fields-written-append changed)
+    (flag-set (fieldsWritten changed block) 1 1 d (fields-written-length changed block ∙ size) (lit< tt) (lit< tt) h
     ∙ rw (changed-flag-promise block d size h .1) (eqb-true _ _ (all-below added-bit 32 added-bits d h)))
 
 word-small : (w : ℕ) → wordDci w < 32
@@ -201,8 +201,8 @@ flags-set :
     length block ≡ 32 →
     (d : ℕ) →
     d < 32 →
-    readField (settled (dropFlags ws) block) (DROP-FLAG d) ≡ cond (someDci d ws) 1 (readField block (DROP-FLAG d))
-unfolding settled dropFlags someDci
+    readField (fieldsWritten (dropFlags ws) block) (DROP-FLAG d) ≡ cond (someDci d ws) 1 (readField block (DROP-FLAG d))
+unfolding fieldsWritten dropFlags someDci
 flags-set [] block size d h = refl
 flags-set (w ∷ ws) block size d h =
     flags-set ws (writeField block (DROP-FLAG (wordDci w)) 1) (length-writeField block (DROP-FLAG (wordDci w)) 1 ∙ size) d h
@@ -214,8 +214,8 @@ flags-others :
     (g : Field) →
     InBlock g →
     g .word ≢ 0 →
-    readField (settled (dropFlags ws) block) g ≡ readField block g
-unfolding settled dropFlags
+    readField (fieldsWritten (dropFlags ws) block) g ≡ readField block g
+unfolding fieldsWritten dropFlags
 flags-others [] block size g in-g n = refl
 flags-others (w ∷ ws) block size g in-g n =
     let f = DROP-FLAG (wordDci w) in

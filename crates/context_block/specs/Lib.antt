@@ -1,4 +1,4 @@
 pub mod Blocks
 pub mod Fields
 pub mod Promises
-pub mod Setting
+pub mod FieldWrite

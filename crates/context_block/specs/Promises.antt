@@ -14,30 +14,30 @@ use Rattle.hub.specs.declared.translator.Translator.{Translator}
 use Rattle.context_field.specs.declared.Field.{Field}
 use Rattle.context_field.specs.Field.{readField, InBlock}
 use Rattle.context_block.specs.Fields.{DROP-FLAGS, ADD-FLAGS, DROP-FLAG, ADD-FLAG, CONFIGURATION-VALUE, INTERFACE-NUMBER, ALTERNATE-SETTING, MTT, HUB, NUMBER-OF-PORTS, TT-THINK-TIME, MULT, MAX-PSTREAMS, MAX-ESIT-PAYLOAD-HI, CERR, EP-TYPE, MAX-BURST-SIZE, MAX-PACKET-SIZE, DCS, TR-DEQUEUE-POINTER-LO, TR-DEQUEUE-POINTER-HI, AVERAGE-TRB-LENGTH, MAX-ESIT-PAYLOAD-LO, apartFromAll}
-use Rattle.context_block.specs.Setting.{Setting, _:=_, settled}
-use Rattle.context_block.specs.Blocks.{changed, addressSlot, addressEndpoint, burstOf, basicSettings, endpointSettings, wordDci, dropFlags, hubSettings}
+use Rattle.context_block.specs.FieldWrite.{FieldWrite, _:=_, fieldsWritten}
+use Rattle.context_block.specs.Blocks.{changed, addressSlot, addressEndpoint, burstOf, basicFields, endpointFields, wordDci, dropFlags, hubFields}
 
 -- Every field listed reads the value beside it.
-unfoldable pub Holds : List ℕ → List Setting → Type 0
+unfoldable pub Holds : List ℕ → List FieldWrite → Type 0
 Holds block [] = Unit {0}
 Holds block (s ∷ ss) = (readField block (s .field) ≡ s .value) × Holds block ss
 
-unfoldable pub fieldsOf : List Setting → List Field
+unfoldable pub fieldsOf : List FieldWrite → List Field
 fieldsOf [] = []
 fieldsOf (s ∷ ss) = s .field ∷ fieldsOf ss
 
 -- After the settings `ss` every field of `listed` reads the value beside it, and every field apart from these reads as before.
-pub record Leaves (block : List ℕ) (ss listed : List Setting) : Type 0 where
-  pub named : Holds (settled ss block) listed
+pub record Leaves (block : List ℕ) (ss listed : List FieldWrite) : Type 0 where
+  pub named : Holds (fieldsWritten ss block) listed
   pub others :
-      (g : Field) → InBlock g → apartFromAll g (fieldsOf listed) ≡ true → readField (settled ss block) g ≡ readField block g
+      (g : Field) → InBlock g → apartFromAll g (fieldsOf listed) ≡ true → readField (fieldsWritten ss block) g ≡ readField block g
 
 -- A field with what it holds.
-abbrev pub unchanged : List ℕ → Field → Setting
+abbrev pub unchanged : List ℕ → Field → FieldWrite
 unchanged block f = f := readField block f
 
 -- A field that is made `v` in one case, and stays in the other.
-abbrev pub madeIf : Bool → List ℕ → Field → ℕ → Setting
+abbrev pub madeIf : Bool → List ℕ → Field → ℕ → FieldWrite
 madeIf made block f v = f := cond made v (readField block f)
 
 -- One setting of a value that the field has room for.
@@ -50,7 +50,7 @@ SinglePromise =
     Leaves block ((f := v) ∷ []) ((f := v) ∷ [])
 
 -- The control block: drop flags 0 and 1 stay.
-unfoldable pub changedReads : List ℕ → List Setting
+unfoldable pub changedReads : List ℕ → List FieldWrite
 changedReads block =
     (DROP-FLAGS := 0) ∷ (ADD-FLAGS := 1) ∷ unchanged block (DROP-FLAG 0) ∷ unchanged block (DROP-FLAG 1) ∷ []
 
@@ -63,8 +63,8 @@ ChangedFlagPromise =
     (block : List ℕ) (d : ℕ) →
     length block ≡ 32 →
     d < 32 →
-    (readField (settled changed block) (DROP-FLAG d) ≡ cond (ltb d 2) (readField block (DROP-FLAG d)) 0)
-    × (readField (settled changed block) (ADD-FLAG d) ≡ cond (eqb d 0) 1 0)
+    (readField (fieldsWritten changed block) (DROP-FLAG d) ≡ cond (ltb d 2) (readField block (DROP-FLAG d)) 0)
+    × (readField (fieldsWritten changed block) (ADD-FLAG d) ≡ cond (eqb d 0) 1 0)
 
 abbrev pub InterfacePromise : Type 0
 InterfacePromise =
@@ -88,7 +88,7 @@ ControlPacketPromise =
     (block : List ℕ) (d : ℕ) →
     length block ≡ 32 →
     d < 32 →
-    readField (settled (changed ++ ((ADD-FLAG 1 := 1) ∷ [])) block) (ADD-FLAG d) ≡ cond (ltb d 2) 1 0
+    readField (fieldsWritten (changed ++ ((ADD-FLAG 1 := 1) ∷ [])) block) (ADD-FLAG d) ≡ cond (ltb d 2) 1 0
 
 -- Whether one of some endpoint words has this Dci.
 unfoldable pub someDci : ℕ → List ℕ → Bool
@@ -102,8 +102,8 @@ DropFlagsPromise =
     length block ≡ 32 →
     ((d : ℕ) →
     d < 32 →
-    readField (settled (dropFlags ws) block) (DROP-FLAG d) ≡ cond (someDci d ws) 1 (readField block (DROP-FLAG d)))
-    × ((g : Field) → InBlock g → g .word ≢ 0 → readField (settled (dropFlags ws) block) g ≡ readField block g)
+    readField (fieldsWritten (dropFlags ws) block) (DROP-FLAG d) ≡ cond (someDci d ws) 1 (readField block (DROP-FLAG d)))
+    × ((g : Field) → InBlock g → g .word ≢ 0 → readField (fieldsWritten (dropFlags ws) block) g ≡ readField block g)
 
 -- The slot of a device.
 abbrev pub AddressSlotPromise : Type 0
@@ -124,14 +124,14 @@ HubPromise =
     length block ≡ 32 →
     ports < 2 ^ 8 →
     think < 2 ^ 2 →
-    Leaves block (hubSettings speed ports multi think)
+    Leaves block (hubFields speed ports multi think)
     ((HUB := 1)
     ∷ (NUMBER-OF-PORTS := ports)
     ∷ (MTT := cond multi 1 (cond (eqb speed FULL) 0 (readField block MTT)))
     ∷ madeIf (eqb speed HIGH) block TT-THINK-TIME think ∷ [])
 
 -- A ring of 64 bits: its four low bits are not kept.
-unfoldable pub ringReads : ℕ → List Setting
+unfoldable pub ringReads : ℕ → List FieldWrite
 ringReads ring =
     (TR-DEQUEUE-POINTER-LO := ring / 2 ^ 4 % 2 ^ 28) ∷ (TR-DEQUEUE-POINTER-HI := ring / 2 ^ 32) ∷ (DCS := 1) ∷ []
 
@@ -145,11 +145,11 @@ AddressEndpointPromise =
     ((CERR := 3) ∷ (EP-TYPE := 4) ∷ (MAX-PACKET-SIZE := firstPacketSize speed) ∷ (AVERAGE-TRB-LENGTH := 8) ∷ ringReads ring)
 
 -- An endpoint's block: four of its fields stay at an endpoint that is not periodic, two at any.
-unfoldable pub endpointReads : List ℕ → ℕ → EndpointDescriptor → ℕ → List Setting
+unfoldable pub endpointReads : List ℕ → ℕ → EndpointDescriptor → ℕ → List FieldWrite
 endpointReads block speed e ring =
     let periodic = isPeriodic (e .«transfer_type») in
     let payload = esitPayload (e .«max_packet_size») (burstOf speed e) in
-    basicSettings speed e
+    basicFields speed e
     ++ (ringReads ring
     ++ (madeIf periodic block MAX-BURST-SIZE (burstOf speed e)
     ∷ madeIf periodic block MULT 0
@@ -163,4 +163,4 @@ EndpointPromise =
     (block : List ℕ) (speed w ring : ℕ) →
     length block ≡ 32 →
     ring < 2 ^ 64 →
-    Leaves block (endpointSettings speed (endpointDescriptor w) ring) (endpointReads block speed (endpointDescriptor w) ring)
+    Leaves block (endpointFields speed (endpointDescriptor w) ring) (endpointReads block speed (endpointDescriptor w) ring)

@@ -11,7 +11,7 @@ use Rattle.laws.proofs.Tests.{and-left, and-right}
 use Rattle.context_field.specs.declared.Field.{Field}
 use Rattle.context_field.specs.Field.{writeField, InBlock}
 use Rattle.context_field.proofs.Laws.{write-front, length-writeField}
-use Rattle.context_block.specs.Setting.{Setting, _:=_, settled, inside, allInside}
+use Rattle.context_block.specs.FieldWrite.{FieldWrite, _:=_, fieldsWritten, inside, allInside}
 use Rattle.context_block.proofs.Laws.{inside-true}
 use Rattle.context.specs.Place.{CONTROL, inBlock, onPart, writeAt, written}
 
@@ -20,7 +20,7 @@ pub control-write :
     (s : ℕ) (f : Field) (v : ℕ) (ctx : List ℕ) →
     32 ≤ length ctx →
     InBlock f →
-    writeAt s (record { block = CONTROL; setting = f := v }) ctx ≡ writeField ctx f v
+    writeAt s (record { block = CONTROL; write = f := v }) ctx ≡ writeField ctx f v
 unfolding writeAt onPart
 control-write s f v ctx h i =
     let size : length (take 32 ctx) ≡ 32 = length-take-le 32 ctx h in
@@ -29,11 +29,11 @@ control-write s f v ctx h i =
 
 -- Several.
 pub control-written :
-    (s : ℕ) (ss : List Setting) (ctx : List ℕ) →
+    (s : ℕ) (ss : List FieldWrite) (ctx : List ℕ) →
     32 ≤ length ctx →
     allInside ss ≡ true →
-    written s (inBlock CONTROL ss) ctx ≡ settled ss ctx
-unfolding written inBlock settled allInside
+    written s (inBlock CONTROL ss) ctx ≡ fieldsWritten ss ctx
+unfolding written inBlock fieldsWritten allInside
 control-written s [] ctx h i = refl
 control-written s (t ∷ ss) ctx h i =
     let f = t .field in

@@ -3,7 +3,7 @@ use context_field::Field;
 ghost use mathlib.Core.Path.{_≡_};
 ghost use Prim.Native.Nat.{_≤_};
 ghost use lib.ListN.{length};
-ghost use Rattle.context_block.specs.Setting.{settled};
+ghost use Rattle.context_block.specs.FieldWrite.{fieldsWritten};
 ghost use Rattle.context_block.specs.Blocks.{changed};
 
 // Fields by the names of xHCI 1.2, section 6.2: crates/context_block/specs/Fields.antt.
@@ -40,7 +40,7 @@ pub const ALTERNATE_SETTING: Field = Field {
 // Drop flags 2 to 31 cleared, and of the add flags A0 alone set.
 pub fn perper_change(ctx: &mut [u8])
     requires { ⌜ 32 ≤ length (now ctx) ⌝ }
-    ensures { λ r. ⌜ now (ctx .exit) ≡ settled changed (now (ctx .entry)) ⌝ }
+    ensures { λ r. ⌜ now (ctx .exit) ≡ fieldsWritten changed (now (ctx .entry)) ⌝ }
 {
     context_field::put_field(ctx, DROP_FLAGS, 0);
     context_field::put_field(ctx, ADD_FLAGS, 1);

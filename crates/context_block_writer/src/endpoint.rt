@@ -6,8 +6,8 @@ ghost use mathlib.Core.Path.{_≡_};
 ghost use mathlib.Core.List.{_∷_};
 ghost use lib.ListN.{length};
 ghost use Rattle.context_block.specs.Fields.{CERR, EP-TYPE, MAX-PACKET-SIZE};
-ghost use Rattle.context_block.specs.Setting.{_:=_, settled};
-ghost use Rattle.context_block.specs.Blocks.{ringSettings, addressEndpoint, endpointSettings};
+ghost use Rattle.context_block.specs.FieldWrite.{_:=_, fieldsWritten};
+ghost use Rattle.context_block.specs.Blocks.{ringFields, addressEndpoint, endpointFields};
 
 // Fields by the names of xHCI 1.2, section 6.2: crates/context_block/specs/Fields.antt.
 const MULT: Field = Field {
@@ -79,7 +79,7 @@ const MAX_ESIT_PAYLOAD_LO: Field = Field {
 // What every endpoint's block gets: its kind, its packet size, and its ring with the cycle state of a new ring.
 fn put_common(block: &mut [u8], errors: u64, kind: u64, packet: u64, ring: u64)
     requires { ⌜ length (now block) ≡ 32 ⌝ }
-    ensures { λ r. ⌜ now (block .exit) ≡ settled ((CERR := errors) ∷ (EP-TYPE := kind) ∷ (MAX-PACKET-SIZE := packet) ∷ ringSettings ring) (now (block .entry)) ⌝ }
+    ensures { λ r. ⌜ now (block .exit) ≡ fieldsWritten ((CERR := errors) ∷ (EP-TYPE := kind) ∷ (MAX-PACKET-SIZE := packet) ∷ ringFields ring) (now (block .entry)) ⌝ }
 {
     context_field::put_field(block, CERR, errors);
     context_field::put_field(block, EP_TYPE, kind);
@@ -92,7 +92,7 @@ fn put_common(block: &mut [u8], errors: u64, kind: u64, packet: u64, ring: u64)
 // The control endpoint that Address is given, over a block that is all 0.
 pub fn address_endpoint(block: &mut [u8], speed: u8, ring: u64)
     requires { ⌜ length (now block) ≡ 32 ⌝ }
-    ensures { λ r. ⌜ now (block .exit) ≡ settled (addressEndpoint speed ring) (now (block .entry)) ⌝ }
+    ensures { λ r. ⌜ now (block .exit) ≡ fieldsWritten (addressEndpoint speed ring) (now (block .entry)) ⌝ }
 {
     let first_size = def::parse_default_max_packet_size_from_port_speed(speed);
     put_common(block, 3, 4, first_size as u64, ring);
@@ -102,7 +102,7 @@ pub fn address_endpoint(block: &mut [u8], speed: u8, ring: u64)
 // An endpoint's block, from its descriptor and its ring. Other fields keep what they hold.
 pub fn put_endpoint(block: &mut [u8], e: EndpointDescriptor, speed: u8, ring: u64)
     requires { ⌜ length (now block) ≡ 32 ⌝ }
-    ensures { λ r. ⌜ now (block .exit) ≡ settled (endpointSettings speed e ring) (now (block .entry)) ⌝ }
+    ensures { λ r. ⌜ now (block .exit) ≡ fieldsWritten (endpointFields speed e ring) (now (block .entry)) ⌝ }
 {
     let t = e.transfer_type;
     let interval = descriptor_periodic::calculate_xhci_interval(e.interval, t, speed);

@@ -16,7 +16,7 @@ use Rattle.laws.proofs.Bits.{cut-above, same-bits}
 use Rattle.laws.proofs.Cases.{or-cases, or-none}
 use Rattle.laws.proofs.Tests.{and-left, and-right, not-both}
 use Rattle.context_field.specs.declared.Field.{Field}
-use Rattle.context_field.specs.Field.{wordAt, putWord, withBits, readField, writeField, InBlock, apart, within, after, Bytes}
+use Rattle.context_field.specs.Field.{wordAt, putWord, withBits, readField, writeField, InBlock, apart, within, readAfter, Bytes}
 
 -- Runs of bits of a doubleword with some bits made those of a value.
 
@@ -246,8 +246,8 @@ module _ (b : List ℕ) (f : Field) (v : ℕ) where
     read-back h = read-same ∙ mod-eq-of-lt h
 
     -- What a field holds that is apart from the written one or lies in it.
-    pub read-write : (g : Field) → InBlock g → (apart f g ≡ true) ⊎ (within g f ≡ true) → readField (writeField b f v) g ≡ after f v g (readField b g)
-    unfolding after
+    pub read-write : (g : Field) → InBlock g → (apart f g ≡ true) ⊎ (within g f ≡ true) → readField (writeField b f v) g ≡ readAfter f v g (readField b g)
+    unfolding readAfter
     read-write g in-g s = go (apart f g) refl s
       where
         go : (t : Bool) → apart f g ≡ t → (apart f g ≡ true) ⊎ (within g f ≡ true)
@@ -257,7 +257,7 @@ module _ (b : List ℕ) (f : Field) (v : ℕ) where
         go false e (inr a) = read-within g a
 
     -- What any single bit holds.
-    pub bit-write : (g : Field) → InBlock g → g .width ≡ 1 → readField (writeField b f v) g ≡ after f v g (readField b g)
+    pub bit-write : (g : Field) → InBlock g → g .width ≡ 1 → readField (writeField b f v) g ≡ readAfter f v g (readField b g)
     bit-write g in-g e = read-write g in-g (bit-cases f g e)
 
 -- Blocks that agree.
@@ -305,8 +305,8 @@ module _ (b c : List ℕ) (size-b : length b ≡ 32) (size-c : length c ≡ 32) 
 -- Two writes.
 
 -- a field taken anew
-after-after : (f g : Field) (v u old : ℕ) → after f u g (after f v g old) ≡ after f u g old
-unfolding after
+after-after : (f g : Field) (v u old : ℕ) → readAfter f u g (readAfter f v g old) ≡ readAfter f u g old
+unfolding readAfter
 after-after f g v u old = go (apart f g)
   where
     go : (t : Bool) → cond t (cond t old (v / 2 ^ (g .low - f .low) % 2 ^ g .width)) (u / 2 ^ (g .low - f .low) % 2 ^ g .width) ≡ cond t old (u / 2 ^ (g .low - f .low) % 2 ^ g .width)
@@ -329,8 +329,8 @@ bit-apart f g h a e = go (apart f h) (apart g h) refl refl
     go false false p q = absurd (clash p q (apart-true f g a))
 
 -- fields that share no bit, taken in either order
-after-swap : (f g h : Field) (v u old : ℕ) → (apart f h ≡ true) ⊎ (apart g h ≡ true) → after g u h (after f v h old) ≡ after f v h (after g u h old)
-unfolding after
+after-swap : (f g h : Field) (v u old : ℕ) → (apart f h ≡ true) ⊎ (apart g h ≡ true) → readAfter g u h (readAfter f v h old) ≡ readAfter f v h (readAfter g u h old)
+unfolding readAfter
 after-swap f g h v u old (inl a) = rw a
 after-swap f g h v u old (inr a) = rw a
 
@@ -342,10 +342,10 @@ module _ (b : List ℕ) (f g : Field) (v u : ℕ) where
   bytes-two bytes = bytes-writeField (writeField b f v) g u (bytes-writeField b f v bytes)
 
   bit-two : length b ≡ 32 → InBlock f → InBlock g → (i : Field) → InBlock i → i .width ≡ 1
-      → readField (writeField (writeField b f v) g u) i ≡ after g u i (after f v i (readField b i))
+      → readField (writeField (writeField b f v) g u) i ≡ readAfter g u i (readAfter f v i (readField b i))
   bit-two size in-f in-g i in-i e =
       bit-write (writeField b f v) g u (length-writeField b f v ∙ size) in-g i in-i e
-      ∙ ap (after g u i) (bit-write b f v size in-f i in-i e)
+      ∙ ap (readAfter g u i) (bit-write b f v size in-f i in-i e)
 
 -- Of two writes of one field the last counts.
 pub write-write-same : (b : List ℕ) (f : Field) (v u : ℕ) → length b ≡ 32 → Bytes b → InBlock f

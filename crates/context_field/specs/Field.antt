@@ -46,8 +46,8 @@ unfoldable pub within : Field → Field → Bool
 within g f = eqb (f .word) (g .word) && (leb (f .low) (g .low) && leb (g .low + g .width) (f .low + f .width))
 
 -- What `g` holds after `f` was made `v`, where they are apart or `g` lies in `f`.
-unfoldable pub after : Field → ℕ → Field → ℕ → ℕ
-after f v g old = cond (apart f g) old (v / 2 ^ (g .low - f .low) % 2 ^ g .width)
+unfoldable pub readAfter : Field → ℕ → Field → ℕ → ℕ
+readAfter f v g old = cond (apart f g) old (v / 2 ^ (g .low - f .low) % 2 ^ g .width)
 
 -- Every element is a byte.
 pub record Bytes (b : List ℕ) : Type 0 where

@@ -8,8 +8,8 @@ use lib.ListN.{length, drop, getD}
 use lib.Seq.{drop-cons}
 use Rattle.context_field.specs.Field.{writeField}
 use Rattle.context_block.specs.Fields.{ADD-FLAG, DROP-FLAG}
-use Rattle.context_block.specs.Setting.{_:=_, settled}
-use Rattle.context_block.specs.Blocks.{dropFlags, wordDci, endpointSettings}
+use Rattle.context_block.specs.FieldWrite.{_:=_, fieldsWritten}
+use Rattle.context_block.specs.Blocks.{dropFlags, wordDci, endpointFields}
 use Rattle.descriptor.specs.Word.{endpointDescriptor}
 use Rattle.transfer.specs.Routes.{Queue, ringFor}
 use Rattle.context.specs.Place.{CONTROL, inBlock, onPart, written}
@@ -39,8 +39,8 @@ pub word-added :
     d < 32 →
     ring ≡ ringFor d qs 0 →
     ctx′ ≡ writeField ctx (ADD-FLAG d) 1 →
-    onPart (s * (d + 1)) 32 (settled (endpointSettings speed (endpointDescriptor w) ring)) ctx′ ≡ written s (addWrites speed qs w) ctx
+    onPart (s * (d + 1)) 32 (fieldsWritten (endpointFields speed (endpointDescriptor w) ring)) ctx′ ≡ written s (addWrites speed qs w) ctx
 unfolding addWrites inBlock written
 word-added s speed qs w d ring ctx ctx′ room e low r p =
     rw (← e, r, p, ← control-write s (ADD-FLAG d) 1 ctx room (omega arith, omega arith))
-    (sym (written-block s (d + 1) (endpointSettings speed (endpointDescriptor w) (ringFor d qs 0)) _))
+    (sym (written-block s (d + 1) (endpointFields speed (endpointDescriptor w) (ringFor d qs 0)) _))

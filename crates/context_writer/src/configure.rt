@@ -9,7 +9,7 @@ ghost use mathlib.Core.List.{[], _∷_, _++_};
 ghost use Prim.Native.Nat.{ℕ, _<_, _≤_};
 ghost use lib.ListN.{length};
 ghost use Rattle.context_block.specs.Fields.{INTERFACE-NUMBER, ALTERNATE-SETTING, CONTEXT-ENTRIES};
-ghost use Rattle.context_block.specs.Setting.{_:=_};
+ghost use Rattle.context_block.specs.FieldWrite.{_:=_};
 ghost use Rattle.context_block.specs.Blocks.{changed, dropFlags};
 ghost use Rattle.transfer.specs.Routes.{queues, ringFor};
 ghost use Rattle.context.specs.Place.{inBlock, CONTROL, SLOT, written, Spaced};

@@ -10,17 +10,17 @@ use Rattle.command.specs.declared.Command.the-variants as command
 use Rattle.command.specs.declared.Sent.{Sent}
 use Rattle.command.specs.declared.Sent.the-variants as sent
 use Rattle.command.specs.Course.{ends, result}
-use Rattle.command.specs.Sweep.{stopAll, resumeAll, orCode}
+use Rattle.command.specs.Sweep.{stopEndpoints, resumeStoppedEndpoints, orCode}
 use Rattle.command.proofs.Cuts.{on-sent}
 use Rattle.command.proofs.Operations.{ByteOperands, operation, EachCommand, each-then}
 use Rattle.command.proofs.Sweeps.{stop-each, resume-each}
 use Rattle.context_block.specs.Promises.{someDci}
 use Rattle.context.specs.Place.{Spaced}
-use Rattle.record_endpoint.specs.Cells.{queueDcis}
+use Rattle.record_endpoint.specs.EndpointMap.{queueDcis}
 use Rattle.transfer.specs.declared.Replaced.{Replaced}
 use Rattle.transfer.specs.declared.Replaced.the-variants as replace
 use Rattle.transfer.specs.Routes.{replaced}
-use Rattle.course_steps.specs.End.{End, stays, answerOf}
+use Rattle.course_steps.specs.End.{End, settingsKept, answerOf}
 use Rattle.theorem_controller.specs.Controller.{configured, enabledAfter}
 use Rattle.theorem_controller.proofs.Followed.{followed, Follows, follows-result}
 use Rattle.theorem_controller.proofs.Laws.{configured-writes, configured-undone, follows-stop, follows-resume, follows-configure, follows-other, Told, told-accepted, told-failed, told-broken, told-cut}
@@ -41,7 +41,7 @@ module _ (P : Command → Type 0) (a : Claim) where
     where
       go : (held : Bool) →
           EachCommand P
-          (cond held (claimSwitchBack a code ctx routes) (ends (stays (answer.Failed code) (length (a .old)) ctx routes)))
+          (cond held (claimSwitchBack a code ctx routes) (ends (settingsKept (answer.Failed code) (length (a .old)) ctx routes)))
       go true = (p .back, λ s. on-sent (EachCommand P) s _ _ _ (λ e. tt) (λ later e. tt) (λ e. tt))
       go false = tt
 
@@ -62,13 +62,13 @@ module _ (P : Command → Type 0) (a : Claim) where
   resume-sends : OfEach → (code : ℕ) (ctx routes : List ℕ) → EachCommand P (claimResume a code ctx routes)
   unfolding claimResume EachCommand
   resume-sends p code ctx routes =
-      each-then P (resumeAll ctx (queueDcis (a .old))) _ (resume-each P ctx _ (p .resume)) (λ r. tt)
+      each-then P (resumeStoppedEndpoints ctx (queueDcis (a .old))) _ (resume-each P ctx _ (p .resume)) (λ r. tt)
 
   -- it sends no other commands
   pub claim-sends : OfEach → (ctx routes : List ℕ) → EachCommand P (claimCourse a ctx routes)
   unfolding claimCourse claimConfigure EachCommand
   claim-sends p ctx routes =
-      each-then P (stopAll ctx (queueDcis (a .old))) _ (stop-each P ctx _ (λ k. (p .stop k, p .resume k)))
+      each-then P (stopEndpoints ctx (queueDcis (a .old))) _ (stop-each P ctx _ (λ k. (p .stop k, p .resume k)))
       (λ r. on-sent (EachCommand P) (r .sent) _ _ _ (λ e. configure) (λ code e. tt) (λ e. tt))
     where
       next : List ℕ
@@ -123,7 +123,7 @@ module _ (a : Claim) (routes : List ℕ) (d : ℕ) (two : 2 ≤ d) (h : d < 32) 
     where
       go : (held : Bool) →
           Follows enabledAfter Says now
-          (cond held (claimSwitchBack a code ctx routes) (ends (stays (answer.Failed code) (length (a .old)) ctx routes)))
+          (cond held (claimSwitchBack a code ctx routes) (ends (settingsKept (answer.Failed code) (length (a .old)) ctx routes)))
       go true =
           follows-other Says now (command.SetInterface (a .args .interface) (a .args .«old_alternate»)) refl ctx _ _ _ (told-failed u) (λ later. told-broken) told-cut
       go false = told-failed u

@@ -15,17 +15,17 @@ use Rattle.command.specs.declared.Command.the-variants as command
 use Rattle.command.specs.declared.Sent.{Sent}
 use Rattle.command.specs.declared.Sent.the-variants as sent
 use Rattle.command.specs.Command.{commandWord, outcomeAt}
-use Rattle.command.specs.Course.{Course, ends, sends, onSent, then, words, result, Ended, CutsTo, CutEnds}
-use Rattle.command.specs.Sweep.{Sweep, stopAll, resumeAll, orCode}
+use Rattle.command.specs.Course.{Course, ends, sends, onSent, then, words, result, EndsWith, CutsTo, CutEnds}
+use Rattle.command.specs.Sweep.{Sweep, stopEndpoints, resumeStoppedEndpoints, orCode}
 use Rattle.command.proofs.Cuts.{cut-past, on-sent, cuts-then, cut-last}
 use Rattle.command.proofs.Done.{result-sends, AllDone, stop-all-done}
 use Rattle.command.proofs.Laws.{words-then, result-then}
 use Rattle.command.proofs.Sweeps.{words-length-resume, words-length-stop, active-stop, active-resume, stop-done, CutSweep, stop-cuts, resume-cuts, stop-uncut, resume-uncut, sweep-uncut}
-use Rattle.record_endpoint.specs.Cells.{queueDcis}
+use Rattle.record_endpoint.specs.EndpointMap.{queueDcis}
 use Rattle.transfer.specs.declared.Replaced.{Replaced}
 use Rattle.transfer.specs.declared.Replaced.the-variants as replace
 use Rattle.transfer.specs.Routes.{replaced, withReplaced}
-use Rattle.course_steps.specs.End.{End, stays, moves, answerOf}
+use Rattle.course_steps.specs.End.{End, settingsKept, settingsMoved, answerOf}
 use Rattle.course_steps.proofs.Laws.{length-dcis}
 use Rattle.course_claim.specs.Claim.{Claim, claimContext, undoContext, claimPublished, claimPublish, claimSwitchBack, claimUndone, claimUndo, claimSwitch, claimResume, claimConfigure, claimCourse}
 
@@ -48,20 +48,20 @@ Refused x = ((code : ℕ) × (x ≡ answer.Failed code)) ⊎ (x ≡ answer.Inter
 -- How a claim can end.
 pub data ClaimEnd (a : Claim) (ctx routes : List ℕ) : End → Type 0 where
   accepted : replaced routes (a .args .slot .0) (a .old) (a .pending) ≡ replace.Done →
-      ClaimEnd a ctx routes (moves answer.Accepted (claimContext a ctx) (withReplaced routes (a .args .slot .0) (a .old) (a .pending)))
+      ClaimEnd a ctx routes (settingsMoved answer.Accepted (claimContext a ctx) (withReplaced routes (a .args .slot .0) (a .old) (a .pending)))
   -- after a failed stop all old endpoints are active
-  stopFailed : {code : ℕ} → ClaimEnd a ctx routes (stays (answer.Failed code) (length (a .old)) ctx routes)
+  stopFailed : {code : ℕ} → ClaimEnd a ctx routes (settingsKept (answer.Failed code) (length (a .old)) ctx routes)
   -- after a failed Configure those that were resumed
   configureFailed : {code active : ℕ} → active ≤ length (a .old) →
-      ClaimEnd a ctx routes (stays (answer.Failed code) active (claimContext a ctx) routes)
+      ClaimEnd a ctx routes (settingsKept (answer.Failed code) active (claimContext a ctx) routes)
   -- after a failed SetInterface, the Configure undone: all
-  undone : {code : ℕ} → ClaimEnd a ctx routes (stays (answer.Failed code) (length (a .old)) (undoContext a (claimContext a ctx)) routes)
+  undone : {code : ℕ} → ClaimEnd a ctx routes (settingsKept (answer.Failed code) (length (a .old)) (undoContext a (claimContext a ctx)) routes)
   -- the same, not undone
-  broken : ClaimEnd a ctx routes (stays answer.InterfaceBroken 0 (undoContext a (claimContext a ctx)) routes)
+  broken : ClaimEnd a ctx routes (settingsKept answer.InterfaceBroken 0 (undoContext a (claimContext a ctx)) routes)
   -- routes that do not allow it
   unrouted : (replaced routes (a .args .slot .0) (a .old) (a .pending) ≡ replace.Done → ⊥) →
-      ClaimEnd a ctx routes (stays answer.InterfaceBroken 0 (claimContext a ctx) routes)
-  cut : {active : ℕ} {at : List ℕ} → active ≤ length (a .old) → ClaimEnd a ctx routes (stays answer.Cut active at routes)
+      ClaimEnd a ctx routes (settingsKept answer.InterfaceBroken 0 (claimContext a ctx) routes)
+  cut : {active : ℕ} {at : List ℕ} → active ≤ length (a .old) → ClaimEnd a ctx routes (settingsKept answer.Cut active at routes)
 
 -- Routes and settings are moved exactly if the claim is accepted.
 pub record Moved (a : Claim) (routes : List ℕ) (e : End) : Type 0 where
@@ -82,7 +82,7 @@ refused-accepted x (inr (inr c)) e = let z : _≡_ {A = ℕ} 0 1 = cc in absurd 
 
 module _ (a : Claim) (ctx routes : List ℕ) where
   stayed : {x : Answer} {active : ℕ} {at : List ℕ} → Refused x → active ≤ length (a .old) →
-      Claimed a routes (stays x active at routes)
+      Claimed a routes (settingsKept x active at routes)
   stayed {x} r h =
       record {
         answers = inr r;
@@ -131,11 +131,11 @@ module _ (a : Claim) (ctx routes o : List ℕ) where
   -- a command whose cut ends it
   phase-sends : {m n : ℕ} {c : Command} {at : List ℕ} {done : Course End} {failed : ℕ → Course End} →
       Phase a ctx routes o m (n + 1) done → ((code : ℕ) → Phase a ctx routes o m (n + 1) (failed code)) →
-      Phase a ctx routes o (suc m) n (sends c at (λ s. onSent s done failed (ends (stays answer.Cut 0 at routes))))
+      Phase a ctx routes o (suc m) n (sends c at (λ s. onSent s done failed (ends (settingsKept answer.Cut 0 at routes))))
   unfolding result words
   phase-sends {m} {n} {c} {at} {done} {failed} d f =
       let p =
-      on-sent (Phase a ctx routes o m (n + 1)) (outcomeAt o n) done failed (ends (stays answer.Cut 0 at routes)) (λ e. d)
+      on-sent (Phase a ctx routes o m (n + 1)) (outcomeAt o n) done failed (ends (settingsKept answer.Cut 0 at routes)) (λ e. d)
       (λ code e. f code)
       (λ e. phase-ends (cut (omega arith)) (λ f. omega (arith, cut-past o n e))) in
       record { end = p .end; few = omega (arith, p .few); used = λ e. omega (arith, p .used e) }
@@ -171,7 +171,7 @@ module _ (a : Claim) (ctx routes o : List ℕ) where
       go : (held : Bool) →
           Phase a ctx routes o 1 n
           (cond held (claimSwitchBack a code (undoContext a (claimContext a ctx)) routes)
-          (ends (stays (answer.Failed code) (length (a .old)) (undoContext a (claimContext a ctx)) routes)))
+          (ends (settingsKept (answer.Failed code) (length (a .old)) (undoContext a (claimContext a ctx)) routes)))
       go true = phase-sends (phase-ends undone (λ e. cut-failed (sym e))) (λ later. phase-ends broken broken-cut)
       go false = phase-ends undone (λ e. cut-failed (sym e))
 
@@ -184,7 +184,7 @@ module _ (a : Claim) (ctx routes o : List ℕ) where
   resume-phase : (n code : ℕ) → Phase a ctx routes o (length (a .old)) n (claimResume a code (claimContext a ctx) routes)
   unfolding claimResume answerOf orCode
   resume-phase n code =
-      let c : Course Sweep = resumeAll (claimContext a ctx) (queueDcis (a .old)) in
+      let c : Course Sweep = resumeStoppedEndpoints (claimContext a ctx) (queueDcis (a .old)) in
       let l : length (queueDcis (a .old)) ≡ length (a .old) = length-dcis (a .old) in
       phase-then 0 (length (a .old)) n c _
       (phase-ends
@@ -193,7 +193,7 @@ module _ (a : Claim) (ctx routes o : List ℕ) where
       (omega (arith, words-length-resume o (claimContext a ctx) (queueDcis (a .old)) n))
     where
       go : {active : ℕ} (s : Sent) → active ≤ length (a .old) →
-          ClaimEnd a ctx routes (stays (answerOf (orCode code s)) active (claimContext a ctx) routes)
+          ClaimEnd a ctx routes (settingsKept (answerOf (orCode code s)) active (claimContext a ctx) routes)
       go sent.Done h = configureFailed h
       go (sent.Failed later) h = configureFailed h
       go sent.Cut h = cut h
@@ -215,8 +215,8 @@ module _ (a : Claim) (ctx routes o : List ℕ) where
   unfolding claimCourse
   claim-phase n =
       let dcis : List ℕ = queueDcis (a .old) in
-      let r : Sweep = result o n (stopAll ctx dcis) in
-      let k : ℕ = length (words o n (stopAll ctx dcis)) in
+      let r : Sweep = result o n (stopEndpoints ctx dcis) in
+      let k : ℕ = length (words o n (stopEndpoints ctx dcis)) in
       let l : length dcis ≡ length (a .old) = length-dcis (a .old) in
       let h : k ≤ 2 * length dcis = words-length-stop o ctx dcis n in
       let p =
@@ -226,10 +226,10 @@ module _ (a : Claim) (ctx routes o : List ℕ) where
       (λ e. (
         0,
         phase-ends (cut {active = r .active} (omega (arith, active-stop o ctx dcis n)))
-            (λ f. sweep-uncut ctx o n (stopAll ctx dcis) (stop-uncut ctx dcis) e),
+            (λ f. sweep-uncut ctx o n (stopEndpoints ctx dcis) (stop-uncut ctx dcis) e),
         omega arith,
       )) in
-      phase-then (p .0) (2 * length (a .old) + 4) n (stopAll ctx dcis) _ (p .1) (p .2)
+      phase-then (p .0) (2 * length (a .old) + 4) n (stopEndpoints ctx dcis) _ (p .1) (p .2)
 
   -- how a claim ends
   pub claim-ends : (n : ℕ) → ClaimEnd a ctx routes (result o n (claimCourse a ctx routes))
@@ -258,41 +258,41 @@ module _ (a : Claim) (ctx routes o : List ℕ) where
   claim-active n = claimed a ctx routes _ (claim-ends n) .few-active
 
   -- after a failed stop all of them
-  pub stop-failed-end : (n code : ℕ) → (result o n (stopAll ctx (queueDcis (a .old)))) .sent ≡ sent.Failed code →
-      result o n (claimCourse a ctx routes) ≡ stays (answer.Failed code) (length (a .old)) ctx routes
+  pub stop-failed-end : (n code : ℕ) → (result o n (stopEndpoints ctx (queueDcis (a .old)))) .sent ≡ sent.Failed code →
+      result o n (claimCourse a ctx routes) ≡ settingsKept (answer.Failed code) (length (a .old)) ctx routes
   unfolding claimCourse onSent result
   stop-failed-end n code e = rw (result-then, e)
 
   -- where the stops and the Configure are done, it goes on with the SetInterface
-  claim-configured : (n : ℕ) → (result o n (stopAll ctx (queueDcis (a .old)))) .sent ≡ sent.Done →
+  claim-configured : (n : ℕ) → (result o n (stopEndpoints ctx (queueDcis (a .old)))) .sent ≡ sent.Done →
       outcomeAt o (n + length (a .old)) ≡ sent.Done →
       result o n (claimCourse a ctx routes) ≡ result o (n + length (a .old) + 1) (claimSwitch a (claimContext a ctx) routes)
   unfolding claimCourse claimConfigure onSent
   claim-configured n e d =
-      let l : length (words o n (stopAll ctx (queueDcis (a .old)))) ≡ length (a .old) =
+      let l : length (words o n (stopEndpoints ctx (queueDcis (a .old)))) ≡ length (a .old) =
       stop-done o ctx (queueDcis (a .old)) n e ∙ length-dcis (a .old) in
       rw (result-then, e, l) (result-sends o (n + length (a .old)) _ _ _ sent.Done d)
 
   undo-end : (n code later : ℕ) (at : List ℕ) → (result o n (claimUndo a code at routes)) .answer ≡ answer.Failed later →
-      result o n (claimUndo a code at routes) ≡ stays (answer.Failed code) (length (a .old)) (undoContext a at) routes
+      result o n (claimUndo a code at routes) ≡ settingsKept (answer.Failed code) (length (a .old)) (undoContext a at) routes
   unfolding claimUndo claimUndone claimSwitchBack result
   undo-end n code later at =
       on-sent (P (n + 1)) (outcomeAt o n) _ _ _ (λ e. go (a .args .held)) (λ c e f. broken-failed f) (λ e f. cut-failed f)
     where
       P : ℕ → Course End → Type 0
       P k c = (result o k c) .answer ≡ answer.Failed later →
-          result o k c ≡ stays (answer.Failed code) (length (a .old)) (undoContext a at) routes
+          result o k c ≡ settingsKept (answer.Failed code) (length (a .old)) (undoContext a at) routes
 
-      go : (held : Bool) → P (n + 1) (cond held (claimSwitchBack a code (undoContext a at) routes) (ends (stays (answer.Failed code) (length (a .old)) (undoContext a at) routes)))
+      go : (held : Bool) → P (n + 1) (cond held (claimSwitchBack a code (undoContext a at) routes) (ends (settingsKept (answer.Failed code) (length (a .old)) (undoContext a at) routes)))
       go true = on-sent (P (n + 1 + 1)) (outcomeAt o (n + 1)) _ _ _ (λ e f. refl) (λ c e f. broken-failed f) (λ e f. cut-failed f)
       go false = λ e. refl
 
   -- and after a failed SetInterface, if that is undone
-  pub undone-end : (n code later : ℕ) → (result o n (stopAll ctx (queueDcis (a .old)))) .sent ≡ sent.Done →
+  pub undone-end : (n code later : ℕ) → (result o n (stopEndpoints ctx (queueDcis (a .old)))) .sent ≡ sent.Done →
       outcomeAt o (n + length (a .old)) ≡ sent.Done → outcomeAt o (n + length (a .old) + 1) ≡ sent.Failed code →
       (result o n (claimCourse a ctx routes)) .answer ≡ answer.Failed later →
       result o n (claimCourse a ctx routes) ≡
-      stays (answer.Failed code) (length (a .old)) (undoContext a (claimContext a ctx)) routes
+      settingsKept (answer.Failed code) (length (a .old)) (undoContext a (claimContext a ctx)) routes
   unfolding claimSwitch onSent
   undone-end n code later e d f h =
       let m : ℕ = n + length (a .old) + 1 in
@@ -301,7 +301,7 @@ module _ (a : Claim) (ctx routes o : List ℕ) where
 
   publish-done : (n : ℕ) (at : List ℕ) → replaced routes (a .args .slot .0) (a .old) (a .pending) ≡ replace.Done →
       result o n (claimPublish a at routes) ≡
-      moves answer.Accepted at (withReplaced routes (a .args .slot .0) (a .old) (a .pending))
+      settingsMoved answer.Accepted at (withReplaced routes (a .args .slot .0) (a .old) (a .pending))
   unfolding claimPublish claimPublished result
   publish-done n at r = rw r
 
@@ -309,8 +309,8 @@ module _ (a : Claim) (ctx routes o : List ℕ) where
   pub claim-accepted : (n : ℕ) → AllDone o n (length (a .old) + 2) →
       replaced routes (a .args .slot .0) (a .old) (a .pending) ≡ replace.Done →
       result o n (claimCourse a ctx routes) ≡
-      moves answer.Accepted (claimContext a ctx) (withReplaced routes (a .args .slot .0) (a .old) (a .pending))
-  unfolding claimSwitch stopAll onSent
+      settingsMoved answer.Accepted (claimContext a ctx) (withReplaced routes (a .args .slot .0) (a .old) (a .pending))
+  unfolding claimSwitch stopEndpoints onSent
   claim-accepted n h r =
       let m : ℕ = length (a .old) in
       let l : length (queueDcis (a .old)) ≡ m = length-dcis (a .old) in
@@ -326,23 +326,23 @@ module _ (a : Claim) (ctx routes o : List ℕ) where
   unfolding claimCourse claimConfigure words result
   claim-broken n =
       let dcis : List ℕ = queueDcis (a .old) in
-      let ws : List ℕ = words o n (stopAll ctx dcis) in
+      let ws : List ℕ = words o n (stopEndpoints ctx dcis) in
       rw (words-then, result-then)
       (on-sent
       (λ (c : Course End). (result o (n + length ws) c) .answer ≡ answer.InterfaceBroken →
       (i : ℕ) × (i < length (ws ++ words o (n + length ws) c)) ×
       (getD (ws ++ words o (n + length ws) c) i 0 ≡ commandWord command.Configure))
-      ((result o n (stopAll ctx dcis)) .sent) _ _ _
+      ((result o n (stopEndpoints ctx dcis)) .sent) _ _ _
       (λ e b. (length ws, simp length-append (omega arith), getD-append-seam ws _ _ 0))
       (λ code e b. let z : _≡_ {A = ℕ} 0 1 = cc in absurd (omega arith))
       (λ e b. let z : _≡_ {A = ℕ} 0 1 = cc in absurd (omega arith)))
 
 -- A cut leaves a claim with the context of the command that was cut; the answer is Cut.
-module _ (a : Claim) (routes : List ℕ) (P : List ℕ → End → Type 0) (p : (at : List ℕ) (active : ℕ) → P at (stays answer.Cut active at routes)) where
+module _ (a : Claim) (routes : List ℕ) (P : List ℕ → End → Type 0) (p : (at : List ℕ) (active : ℕ) → P at (settingsKept answer.Cut active at routes)) where
   cuts-sends : (c : Command) (at : List ℕ) (done : Course End) (failed : ℕ → Course End) → CutsTo P done →
       ((code : ℕ) → CutsTo P (failed code)) →
-      CutsTo P (sends c at (λ s. onSent s done failed (ends (stays answer.Cut 0 at routes))))
-  unfolding CutsTo Ended onSent
+      CutsTo P (sends c at (λ s. onSent s done failed (ends (settingsKept answer.Cut 0 at routes))))
+  unfolding CutsTo EndsWith onSent
   cuts-sends c at done failed d f =
       (p at 0, λ s. on-sent (CutsTo P) s done failed _ (λ e. d) (λ code e. f code) (λ e. tt))
 
@@ -354,7 +354,7 @@ module _ (a : Claim) (routes : List ℕ) (P : List ℕ → End → Type 0) (p : 
   unfolding claimUndone claimSwitchBack
   undone-cuts code ctx = go (a .args .held)
     where
-      go : (held : Bool) → CutsTo P (cond held (claimSwitchBack a code ctx routes) (ends (stays (answer.Failed code) (length (a .old)) ctx routes)))
+      go : (held : Bool) → CutsTo P (cond held (claimSwitchBack a code ctx routes) (ends (settingsKept (answer.Failed code) (length (a .old)) ctx routes)))
       go true = cuts-sends _ ctx _ _ (cuts-ends _) (λ later. cuts-ends _)
       go false = cuts-ends _
 
@@ -365,11 +365,11 @@ module _ (a : Claim) (routes : List ℕ) (P : List ℕ → End → Type 0) (p : 
       (λ code. cuts-sends _ (undoContext a ctx) _ _ (undone-cuts code (undoContext a ctx)) (λ later. cuts-ends _))
 
   sweep-cuts : (ctx : List ℕ) (c : Course Sweep) (f : Sweep → Course End) → CutsTo (CutSweep ctx) c →
-      ((r : Sweep) → r .sent ≡ sent.Cut → Ended (P ctx) (f r)) → ((r : Sweep) → CutsTo P (f r)) → CutsTo P (then c f)
+      ((r : Sweep) → r .sent ≡ sent.Cut → EndsWith (P ctx) (f r)) → ((r : Sweep) → CutsTo P (f r)) → CutsTo P (then c f)
   sweep-cuts ctx c f t h g = cuts-then (CutSweep ctx) P c f t (λ at r q. rw (q .0) at (h r (q .1))) g
 
   claim-cuts-to : (ctx : List ℕ) → CutsTo P (claimCourse a ctx routes)
-  unfolding claimCourse claimConfigure claimResume Ended answerOf orCode onSent
+  unfolding claimCourse claimConfigure claimResume EndsWith answerOf orCode onSent
   claim-cuts-to ctx =
       let next : List ℕ = claimContext a ctx in
       sweep-cuts ctx _ _ (stop-cuts ctx (queueDcis (a .old))) (λ r e. rw e (p ctx (r .active)))

@@ -6,14 +6,14 @@ use lib.ListN.{length}
 use Rattle.answer.specs.declared.Answer.the-variants as answer
 use Rattle.command.specs.declared.Command.the-variants as command
 use Rattle.command.specs.Course.{Course, ends, sends, onSent, then}
-use Rattle.command.specs.Sweep.{stopAll, resumeAll, orCode}
+use Rattle.command.specs.Sweep.{stopEndpoints, resumeStoppedEndpoints, orCode}
 use Rattle.context.specs.Place.{written}
 use Rattle.context.specs.Steps.{configureWrites}
-use Rattle.record_endpoint.specs.Cells.{queueDcis}
+use Rattle.record_endpoint.specs.EndpointMap.{queueDcis}
 use Rattle.transfer.specs.declared.Replaced.{Replaced}
 use Rattle.transfer.specs.declared.Replaced.the-variants as replace
 use Rattle.transfer.specs.Routes.{Queue, replaced, withReplaced}
-use Rattle.course_steps.specs.End.{End, stays, moves, answerOf}
+use Rattle.course_steps.specs.End.{End, settingsKept, settingsMoved, answerOf}
 use Rattle.course_steps.specs.Arrays.{dcisIn, queuesIn}
 use Rattle.course_claim.specs.declared.ClaimArgs.{ClaimArgs}
 use Rattle.course_claim.specs.declared.ClaimPlan.{ClaimPlan}
@@ -44,9 +44,9 @@ undoContext a ctx =
 
 -- Old routes out, new routes in; routes that do not allow it break the interface.
 unfoldable pub claimPublished : Replaced → Claim → List ℕ → List ℕ → End
-claimPublished replace.Done a ctx routes = moves answer.Accepted ctx (withReplaced routes (a .args .slot .0) (a .old) (a .pending))
-claimPublished replace.InvalidEndpoint a ctx routes = stays answer.InterfaceBroken 0 ctx routes
-claimPublished replace.QueueFull a ctx routes = stays answer.InterfaceBroken 0 ctx routes
+claimPublished replace.Done a ctx routes = settingsMoved answer.Accepted ctx (withReplaced routes (a .args .slot .0) (a .old) (a .pending))
+claimPublished replace.InvalidEndpoint a ctx routes = settingsKept answer.InterfaceBroken 0 ctx routes
+claimPublished replace.QueueFull a ctx routes = settingsKept answer.InterfaceBroken 0 ctx routes
 
 unfoldable pub claimPublish : Claim → List ℕ → List ℕ → Course End
 claimPublish a ctx routes = ends (claimPublished (replaced routes (a .args .slot .0) (a .old) (a .pending)) a ctx routes)
@@ -57,13 +57,13 @@ claimSwitchBack a code ctx routes =
     sends (command.SetInterface (a .args .interface) (a .args .«old_alternate»)) ctx
     (λ s.
     onSent s
-    (ends (stays (answer.Failed code) (length (a .old)) ctx routes))
-    (λ later. ends (stays answer.InterfaceBroken 0 ctx routes))
-    (ends (stays answer.Cut 0 ctx routes)))
+    (ends (settingsKept (answer.Failed code) (length (a .old)) ctx routes))
+    (λ later. ends (settingsKept answer.InterfaceBroken 0 ctx routes))
+    (ends (settingsKept answer.Cut 0 ctx routes)))
 
 unfoldable pub claimUndone : Claim → ℕ → List ℕ → List ℕ → Course End
 claimUndone a code ctx routes =
-    cond (a .args .held) (claimSwitchBack a code ctx routes) (ends (stays (answer.Failed code) (length (a .old)) ctx routes))
+    cond (a .args .held) (claimSwitchBack a code ctx routes) (ends (settingsKept (answer.Failed code) (length (a .old)) ctx routes))
 
 -- After a failed SetInterface: new endpoints dropped, old ones added again.
 unfoldable pub claimUndo : Claim → ℕ → List ℕ → List ℕ → Course End
@@ -73,8 +73,8 @@ claimUndo a code ctx routes =
     (λ s.
     onSent s
     (claimUndone a code next routes)
-    (λ later. ends (stays answer.InterfaceBroken 0 next routes))
-    (ends (stays answer.Cut 0 next routes)))
+    (λ later. ends (settingsKept answer.InterfaceBroken 0 next routes))
+    (ends (settingsKept answer.Cut 0 next routes)))
 
 unfoldable pub claimSwitch : Claim → List ℕ → List ℕ → Course End
 claimSwitch a ctx routes =
@@ -83,12 +83,12 @@ claimSwitch a ctx routes =
     onSent s
     (claimPublish a ctx routes)
     (λ code. claimUndo a code ctx routes)
-    (ends (stays answer.Cut 0 ctx routes)))
+    (ends (settingsKept answer.Cut 0 ctx routes)))
 
 -- After a failed Configure the old endpoints are resumed; a failed resume's code is the answer.
 unfoldable pub claimResume : Claim → ℕ → List ℕ → List ℕ → Course End
 claimResume a code ctx routes =
-    then (resumeAll ctx (queueDcis (a .old))) (λ r. ends (stays (answerOf (orCode code (r .sent))) (r .active) ctx routes))
+    then (resumeStoppedEndpoints ctx (queueDcis (a .old))) (λ r. ends (settingsKept (answerOf (orCode code (r .sent))) (r .active) ctx routes))
 
 unfoldable pub claimConfigure : Claim → List ℕ → List ℕ → Course End
 claimConfigure a ctx routes =
@@ -98,17 +98,17 @@ claimConfigure a ctx routes =
     onSent s
     (claimSwitch a next routes)
     (λ code. claimResume a code next routes)
-    (ends (stays answer.Cut 0 next routes)))
+    (ends (settingsKept answer.Cut 0 next routes)))
 
 -- The old endpoints are stopped first; after a failed stop all of them are active again.
 unfoldable pub claimCourse : Claim → List ℕ → List ℕ → Course End
 claimCourse a ctx routes =
-    then (stopAll ctx (queueDcis (a .old)))
+    then (stopEndpoints ctx (queueDcis (a .old)))
     (λ r.
     onSent (r .sent)
     (claimConfigure a ctx routes)
-    (λ code. ends (stays (answer.Failed code) (length (a .old)) ctx routes))
-    (ends (stays answer.Cut (r .active) ctx routes)))
+    (λ code. ends (settingsKept (answer.Failed code) (length (a .old)) ctx routes))
+    (ends (settingsKept answer.Cut (r .active) ctx routes)))
 
 -- The same from the code's arrays.
 abbrev pub claimOf : ClaimPlan → List ℕ → List ℕ → Claim

@@ -2,7 +2,7 @@
 use answer::Answer;
 use command::Command;
 use command::Sent;
-use course_steps::Ended;
+use course_steps::CourseEnd;
 use def::SlotId;
 use record_endpoint::Queues;
 use transfer::Replaced;
@@ -11,7 +11,7 @@ ghost use mathlib.Core.List.{List};
 ghost use Prim.Native.Nat.{ℕ, _+_, _≤_};
 ghost use lib.ListN.{length};
 ghost use Rattle.command.specs.Course.{played};
-ghost use Rattle.course_steps.specs.Arrays.{leaves, queuesIn, Room};
+ghost use Rattle.course_steps.specs.Arrays.{courseLeaves, queuesIn, Room};
 ghost use Rattle.course_claim.specs.Claim.{claimOf, claimPublish, claimUndone, claimUndo, claimSwitch, claimConfigure, claimCourse};
 
 // What is claimed: the interface, the alternate to be held, and the one that it holds, 0 where it holds none.
@@ -33,27 +33,27 @@ pub struct ClaimPlan {
     pub all: Queues,
 }
 
-fn publish(routes: &mut [u64], n: usize, a: ClaimPlan) -> Ended
+fn publish(routes: &mut [u64], n: usize, a: ClaimPlan) -> CourseEnd
     requires { ⌜ (a .old .count ≤ 30) × (a .pending .count ≤ 30) ⌝ }
-    ensures { λ r. ⌜ ((old new o ctx log : List ℕ) → leaves r ctx (now (routes .exit)) log ≡ played o n (claimPublish (claimOf a old new) ctx (now (routes .entry))) log) ⌝ }
+    ensures { λ r. ⌜ ((old new o ctx log : List ℕ) → courseLeaves r ctx (now (routes .exit)) log ≡ played o n (claimPublish (claimOf a old new) ctx (now (routes .entry))) log) ⌝ }
 {
     let args = a.args;
     let r = course_steps::publish_endpoint_routes(routes, args.slot, a.old, a.pending);
     match r {
-        Replaced::Done => course_steps::moves(Answer::Accepted, n),
+        Replaced::Done => course_steps::settings_moved(Answer::Accepted, n),
         Replaced::InvalidEndpoint | Replaced::QueueFull => {
-            course_steps::stays(Answer::InterfaceBroken, n, 0)
+            course_steps::settings_kept(Answer::InterfaceBroken, n, 0)
         }
     }
 }
 
 // The device back at its old setting, if it held one, after the controller is.
-fn switch_back(log: &mut [u32], outcomes: &[u8], n: usize, a: ClaimPlan, code: u8) -> Ended
+fn switch_back(log: &mut [u32], outcomes: &[u8], n: usize, a: ClaimPlan, code: u8) -> CourseEnd
     requires { ⌜ (length (queuesIn (a .old)) ≡ a .old .count) × (n + 1 ≤ length (now log)) ⌝ }
-    ensures { λ r. ⌜ ((old new ctx routes : List ℕ) → leaves r ctx routes (now (log .exit)) ≡ played (now (outcomes .entry)) n (claimUndone (claimOf a old new) code ctx routes) (now (log .entry))) ⌝ }
+    ensures { λ r. ⌜ ((old new ctx routes : List ℕ) → courseLeaves r ctx routes (now (log .exit)) ≡ played (now (outcomes .entry)) n (claimUndone (claimOf a old new) code ctx routes) (now (log .entry))) ⌝ }
 {
     if !a.args.held {
-        return course_steps::stays(Answer::Failed(code), n, a.old.count);
+        return course_steps::settings_kept(Answer::Failed(code), n, a.old.count);
     }
     let s = command::send(
         log,
@@ -63,14 +63,14 @@ fn switch_back(log: &mut [u32], outcomes: &[u8], n: usize, a: ClaimPlan, code: u
     );
     let count = n + 1;
     match s {
-        Sent::Done => course_steps::stays(Answer::Failed(code), count, a.old.count),
-        Sent::Failed(_) => course_steps::stays(Answer::InterfaceBroken, count, 0),
-        Sent::Cut => course_steps::stays(Answer::Cut, count, 0),
+        Sent::Done => course_steps::settings_kept(Answer::Failed(code), count, a.old.count),
+        Sent::Failed(_) => course_steps::settings_kept(Answer::InterfaceBroken, count, 0),
+        Sent::Cut => course_steps::settings_kept(Answer::Cut, count, 0),
     }
 }
 
 // After a failed SetInterface: new endpoints dropped, old ones added again.
-fn undo(
+fn rollback_interface_configuration(
     ctx: &mut [u8],
     log: &mut [u32],
     outcomes: &[u8],
@@ -79,10 +79,10 @@ fn undo(
     old_words: &[u32],
     new_words: &[u32],
     code: u8,
-) -> Ended
+) -> CourseEnd
     requires { ⌜ Room (a .args .spacing) (length (now ctx)) (a .old) (a .all) ⌝ }
     requires { ⌜ n + 2 ≤ length (now log) ⌝ }
-    ensures { λ r. ⌜ ((routes : List ℕ) → leaves r (now (ctx .exit)) routes (now (log .exit)) ≡ played (now (outcomes .entry)) n (claimUndo (claimOf a (now («old_words» .entry)) (now («new_words» .entry))) code (now (ctx .entry)) routes) (now (log .entry))) ⌝ }
+    ensures { λ r. ⌜ ((routes : List ℕ) → courseLeaves r (now (ctx .exit)) routes (now (log .exit)) ≡ played (now (outcomes .entry)) n (claimUndo (claimOf a (now («old_words» .entry)) (now («new_words» .entry))) code (now (ctx .entry)) routes) (now (log .entry))) ⌝ }
 {
     course_steps::prepare_configure(
         ctx,
@@ -99,8 +99,8 @@ fn undo(
     let next = n + 1;
     match s {
         Sent::Done => switch_back(log, outcomes, next, a, code),
-        Sent::Failed(_) => course_steps::stays(Answer::InterfaceBroken, next, 0),
-        Sent::Cut => course_steps::stays(Answer::Cut, next, 0),
+        Sent::Failed(_) => course_steps::settings_kept(Answer::InterfaceBroken, next, 0),
+        Sent::Cut => course_steps::settings_kept(Answer::Cut, next, 0),
     }
 }
 
@@ -113,11 +113,11 @@ fn switch(
     a: ClaimPlan,
     old_words: &[u32],
     new_words: &[u32],
-) -> Ended
+) -> CourseEnd
     requires { ⌜ Room (a .args .spacing) (length (now ctx)) (a .old) (a .all) ⌝ }
     requires { ⌜ a .pending .count ≤ 30 ⌝ }
     requires { ⌜ n + 3 ≤ length (now log) ⌝ }
-    ensures { λ r. ⌜ leaves r (now (ctx .exit)) (now (routes .exit)) (now (log .exit)) ≡ played (now (outcomes .entry)) n (claimSwitch (claimOf a (now («old_words» .entry)) (now («new_words» .entry))) (now (ctx .entry)) (now (routes .entry))) (now (log .entry)) ⌝ }
+    ensures { λ r. ⌜ courseLeaves r (now (ctx .exit)) (now (routes .exit)) (now (log .exit)) ≡ played (now (outcomes .entry)) n (claimSwitch (claimOf a (now («old_words» .entry)) (now («new_words» .entry))) (now (ctx .entry)) (now (routes .entry))) (now (log .entry)) ⌝ }
 {
     let s = command::send(
         log,
@@ -128,8 +128,17 @@ fn switch(
     let next = n + 1;
     match s {
         Sent::Done => publish(routes, next, a),
-        Sent::Failed(code) => undo(ctx, log, outcomes, next, a, old_words, new_words, code),
-        Sent::Cut => course_steps::stays(Answer::Cut, next, 0),
+        Sent::Failed(code) => rollback_interface_configuration(
+            ctx,
+            log,
+            outcomes,
+            next,
+            a,
+            old_words,
+            new_words,
+            code,
+        ),
+        Sent::Cut => course_steps::settings_kept(Answer::Cut, next, 0),
     }
 }
 
@@ -143,11 +152,11 @@ fn configure(
     a: ClaimPlan,
     old_words: &[u32],
     new_words: &[u32],
-) -> Ended
+) -> CourseEnd
     requires { ⌜ Room (a .args .spacing) (length (now ctx)) (a .old) (a .all) ⌝ }
     requires { ⌜ a .pending .count ≤ 30 ⌝ }
     requires { ⌜ n + a .old .count + 4 ≤ length (now log) ⌝ }
-    ensures { λ r. ⌜ leaves r (now (ctx .exit)) (now (routes .exit)) (now (log .exit)) ≡ played (now (outcomes .entry)) n (claimConfigure (claimOf a (now («old_words» .entry)) (now («new_words» .entry))) (now (ctx .entry)) (now (routes .entry))) (now (log .entry)) ⌝ }
+    ensures { λ r. ⌜ courseLeaves r (now (ctx .exit)) (now (routes .exit)) (now (log .exit)) ≡ played (now (outcomes .entry)) n (claimConfigure (claimOf a (now («old_words» .entry)) (now («new_words» .entry))) (now (ctx .entry)) (now (routes .entry))) (now (log .entry)) ⌝ }
 {
     course_steps::prepare_configure(
         ctx,
@@ -165,12 +174,12 @@ fn configure(
     match s {
         Sent::Done => switch(ctx, routes, log, outcomes, next, a, old_words, new_words),
         Sent::Failed(code) => {
-            let back = course_steps::resume_queues(log, outcomes, next, a.old);
+            let back = course_steps::resume_stopped_endpoints(log, outcomes, next, a.old);
             let resumed = back.sent;
             let answer = course_steps::answer_of(command::or_code(code, resumed));
-            course_steps::stays(answer, back.count, back.active)
+            course_steps::settings_kept(answer, back.count, back.active)
         }
-        Sent::Cut => course_steps::stays(Answer::Cut, next, 0),
+        Sent::Cut => course_steps::settings_kept(Answer::Cut, next, 0),
     }
 }
 
@@ -183,18 +192,18 @@ pub fn claim_interface(
     a: ClaimPlan,
     old_words: &[u32],
     new_words: &[u32],
-) -> Ended
+) -> CourseEnd
     requires { ⌜ Room (a .args .spacing) (length (now ctx)) (a .old) (a .all) ⌝ }
     requires { ⌜ a .pending .count ≤ 30 ⌝ }
     requires { ⌜ 64 ≤ length (now log) ⌝ }
-    ensures { λ r. ⌜ leaves r (now (ctx .exit)) (now (routes .exit)) (now (log .exit)) ≡ played (now (outcomes .entry)) 0 (claimCourse (claimOf a (now («old_words» .entry)) (now («new_words» .entry))) (now (ctx .entry)) (now (routes .entry))) (now (log .entry)) ⌝ }
+    ensures { λ r. ⌜ courseLeaves r (now (ctx .exit)) (now (routes .exit)) (now (log .exit)) ≡ played (now (outcomes .entry)) 0 (claimCourse (claimOf a (now («old_words» .entry)) (now («new_words» .entry))) (now (ctx .entry)) (now (routes .entry))) (now (log .entry)) ⌝ }
 {
-    let stop = course_steps::stop_queues(log, outcomes, 0, a.old);
+    let stop = course_steps::stop_endpoints(log, outcomes, 0, a.old);
     let s = stop.sent;
     let count = stop.count;
     match s {
         Sent::Done => configure(ctx, routes, log, outcomes, count, a, old_words, new_words),
-        Sent::Failed(code) => course_steps::stays(Answer::Failed(code), count, a.old.count),
-        Sent::Cut => course_steps::stays(Answer::Cut, count, stop.active),
+        Sent::Failed(code) => course_steps::settings_kept(Answer::Failed(code), count, a.old.count),
+        Sent::Cut => course_steps::settings_kept(Answer::Cut, count, stop.active),
     }
 }

@@ -35,7 +35,7 @@ use Rattle.course_set_configuration.specs.SetConfiguration.{setCourse}
 use Rattle.course_init.specs.Reading.{BringUp, firstConfigurations, Reading, nothingRead, readUpTo, Brought, brought, leavesRead}
 use Rattle.course_init.specs.Init.{step, bringUpSettings, bringUpSet, bringUpConfigs, bringUpConfiguration, bringUpPacket, bringUpHeader, bringUpAddress}
 use Rattle.course_init.specs.Parts.{orEnded, bringUpRest, afterRead}
-use Rattle.course_init.specs.declared.run.Ended.{Ended}
+use Rattle.course_init.specs.declared.run.InitEnd.{InitEnd}
 use Rattle.course_init.proofs.Lists.{valid-none, first-all, some-words, none-of}
 
 -- room for a set configuration without endpoints
@@ -65,7 +65,7 @@ refused : (a : Answer) → Refused a → isAccepted a ≡ false
 refused a h = other-answer (0 ∷ []) 0 a refl h
 
 -- How a part of the code ends.
-module _ (r : Ended) (list ctx routes log : List ℕ) (next : Played Brought) {p : Played Brought} where
+module _ (r : InitEnd) (list ctx routes log : List ℕ) (next : Played Brought) {p : Played Brought} where
   -- the course has ended with it
   pub ends-here : Refused (r .answer) → p ≡ orEnded r list ctx routes log next → leavesRead r list ctx routes log ≡ p
   unfolding orEnded
@@ -111,7 +111,7 @@ module _
         go (sent.Failed code) k = rw (played-ends)
         go sent.Cut k = rw (played-ends)
 
-  module _ (ctx routes : List ℕ) (next : Course Brought) (r : Ended) (rest : Played Brought) (h : NotDone s) where
+  module _ (ctx routes : List ℕ) (next : Course Brought) (r : InitEnd) (rest : Played Brought) (h : NotDone s) where
     -- where nothing was read yet
     pub stopped-before : (list : List ℕ) → validList list ≡ true →
         r ≡ record { answer = answerOf s; count = n + 1; configured = false; value = 0; configurations = 0 } →
@@ -154,7 +154,7 @@ module _ (a : BringUp) (spacing : ℕ) (ctx routes o log : List ℕ) where
           rw (configs-step h, n) (done o log (5 + i) (command.ReadConfig i) s left sent-as _ _ _ _ d)
 
       -- or no more
-      pub configs-stopped : (r : Ended) (rest : Played Brought) → NotDone s →
+      pub configs-stopped : (r : InitEnd) (rest : Played Brought) → NotDone s →
           r ≡ record { answer = answerOf s; count = 6 + i; configured = true; value = a .value; configurations = i } →
           played o (5 + i) (bringUpConfigs a spacing (k - i) i ctx routes) log ≡ orEnded r (a .list) ctx routes left rest
       configs-stopped r rest d e =
@@ -174,7 +174,7 @@ module _ (a : BringUp) (spacing : ℕ) (ctx routes o log : List ℕ) where
   rest-some h = rw (some-words (a .list) h)
 
   -- all of them are read
-  pub rest-read : (log₀ : List ℕ) (i : ℕ) (r : Ended) → i ≤ configurations (a .list) → configurations (a .list) ≤ i → (i ≡ 0 → log ≡ log₀) →
+  pub rest-read : (log₀ : List ℕ) (i : ℕ) (r : InitEnd) → i ≤ configurations (a .list) → configurations (a .list) ≤ i → (i ≡ 0 → log ≡ log₀) →
       r ≡ record { answer = answer.Accepted; count = 5 + i; configured = true; value = a .value; configurations = i } →
       played o 5 (bringUpConfigs a spacing (configurations (a .list)) 0 ctx routes) log₀
       ≡ played o (5 + i) (bringUpConfigs a spacing (configurations (a .list) - i) i ctx routes) log →
@@ -248,7 +248,7 @@ accepted a e = rw e
 
 -- The exits of the whole: what is read with the header, and then with the packet size.
 module _
-    (a : BringUp) (spacing : ℕ) (o ctx routes log : List ℕ) (ctx₁ log₁ : List ℕ) (r : Ended)
+    (a : BringUp) (spacing : ℕ) (o ctx routes log : List ℕ) (ctx₁ log₁ : List ℕ) (r : InitEnd)
     (addressed :
     ctx₁
     ≡ addressContext spacing (a .speed) (routeString (a .hubs) (a .hasParent) (a .parent) (a .port))
@@ -267,7 +267,7 @@ module _
   not-addressed h = to-header (ends-here r (a .list) ctx₁ routes log₁ _ h header)
 
   module _
-      (ok : r .answer ≡ answer.Accepted) (ctx₂ log₂ : List ℕ) (t : Ended)
+      (ok : r .answer ≡ answer.Accepted) (ctx₂ log₂ : List ℕ) (t : InitEnd)
       (packet : ctx₂ ≡ written spacing (maxPacketWrites (a .packet)) ctx₁)
       (descriptors :
       played o 2 (step command.Evaluate nothingRead ctx₂ routes (bringUpConfiguration a spacing ctx₂ routes)) log₁

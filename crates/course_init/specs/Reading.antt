@@ -7,7 +7,7 @@ use Rattle.descriptor.specs.Word.{kind, CONFIGURATION}
 use Rattle.answer.specs.declared.Answer.{Answer}
 use Rattle.command.specs.Course.{Played}
 use Rattle.course_init.specs.declared.run.BringUpArgs.{BringUpArgs}
-use Rattle.course_init.specs.declared.run.Ended.{Ended}
+use Rattle.course_init.specs.declared.run.InitEnd.{InitEnd}
 
 -- What a bring-up is told of the device: its place, what is read from it, and its descriptor list.
 pub record BringUp : Type 0 where
@@ -77,7 +77,7 @@ abbrev pub brought : Answer → Reading → List ℕ → List ℕ → Brought
 brought a read ctx routes = record { answer = a; read = read; ctx = ctx; routes = routes }
 
 -- What a phase leaves, as a course's end says it.
-abbrev pub leavesRead : Ended → List ℕ → List ℕ → List ℕ → List ℕ → Played Brought
+abbrev pub leavesRead : InitEnd → List ℕ → List ℕ → List ℕ → List ℕ → Played Brought
 leavesRead r list ctx routes log =
     record {
       end =

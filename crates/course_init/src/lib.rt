@@ -4,5 +4,5 @@ mod run;
 
 pub use list::count_words;
 pub use run::BringUpArgs;
-pub use run::Ended;
+pub use run::InitEnd;
 pub use run::address;

@@ -39,7 +39,7 @@ pub struct BringUpArgs {
 }
 
 // How a bring-up ended: the configuration value, if it was read, and how many configurations were.
-pub struct Ended {
+pub struct InitEnd {
     pub answer: Answer,
     pub count: usize,
     pub configured: bool,
@@ -48,10 +48,10 @@ pub struct Ended {
 }
 
 // How it stands after a command before anything was read.
-fn before_reading(s: Sent, count: usize) -> Ended
+fn before_reading(s: Sent, count: usize) -> InitEnd
     ensures { λ r. ⌜ r ≡ record { answer = answerOf s; count = count; configured = false; value = 0; configurations = 0 } ⌝ }
 {
-    Ended {
+    InitEnd {
         answer: course_steps::answer_of(s),
         count,
         configured: false,
@@ -61,10 +61,10 @@ fn before_reading(s: Sent, count: usize) -> Ended
 }
 
 // How it stands after a command once the value was read.
-fn after_reading(s: Sent, count: usize, value: u8, configurations: usize) -> Ended
+fn after_reading(s: Sent, count: usize, value: u8, configurations: usize) -> InitEnd
     ensures { λ r. ⌜ r ≡ record { answer = answerOf s; count = count; configured = true; value = value; configurations = configurations } ⌝ }
 {
-    Ended {
+    InitEnd {
         answer: course_steps::answer_of(s),
         count,
         configured: true,
@@ -83,7 +83,7 @@ pub fn address(
     spacing: usize,
     hubs: &[u64],
     list: &[u32],
-) -> Ended
+) -> InitEnd
     requires { ⌜ Spaced spacing (length (now ctx)) ⌝ }
     requires { ⌜ LOG-ROOM ≤ length (now log) ⌝ }
     requires { ⌜ validList (now list) ≡ true ⌝ }
@@ -110,7 +110,7 @@ pub fn address(
 }
 
 // Sends Address, and reads eight bytes of the device descriptor, the packet size among them.
-fn read_header(log: &mut [u32], outcomes: &[u8], a: BringUpArgs) -> Ended
+fn read_header(log: &mut [u32], outcomes: &[u8], a: BringUpArgs) -> InitEnd
     requires { ⌜ LOG-ROOM ≤ length (now log) ⌝ }
     ensures { λ r. ⌜ ((hubs list ctx routes : List ℕ) (spacing : ℕ) → validList list ≡ true → played (now (outcomes .entry)) 0 (step commands.Address nothingRead ctx routes (bringUpHeader (bringUpOf a hubs list) spacing ctx routes)) (now (log .entry)) ≡ orEnded r list ctx routes (now (log .exit)) (played (now (outcomes .entry)) 2 (bringUpPacket (bringUpOf a hubs list) spacing ctx routes) (now (log .exit)))) ⌝ }
 {
@@ -129,7 +129,7 @@ fn read_header(log: &mut [u32], outcomes: &[u8], a: BringUpArgs) -> Ended
         }
     }
     if a.header != 8 {
-        return Ended {
+        return InitEnd {
             answer: Answer::ShortHeader,
             count: 2,
             configured: false,
@@ -141,7 +141,7 @@ fn read_header(log: &mut [u32], outcomes: &[u8], a: BringUpArgs) -> Ended
 }
 
 // Sends the packet size's Evaluate, and reads the value of the configuration that is set now, the device descriptor and each configuration descriptor.
-fn read_descriptors(log: &mut [u32], outcomes: &[u8], a: BringUpArgs, list: &[u32]) -> Ended
+fn read_descriptors(log: &mut [u32], outcomes: &[u8], a: BringUpArgs, list: &[u32]) -> InitEnd
     requires { ⌜ LOG-ROOM ≤ length (now log) ⌝ }
     requires { ⌜ validList (now list) ≡ true ⌝ }
     ensures { λ r. ⌜ (isAccepted (r .answer) ≡ true → AllRead r (now (list .entry))) ⌝ }
@@ -172,7 +172,7 @@ fn read_descriptors(log: &mut [u32], outcomes: &[u8], a: BringUpArgs, list: &[u3
 }
 
 // Reads each configuration descriptor.
-fn read_configs(log: &mut [u32], outcomes: &[u8], a: BringUpArgs, list: &[u32]) -> Ended
+fn read_configs(log: &mut [u32], outcomes: &[u8], a: BringUpArgs, list: &[u32]) -> InitEnd
     requires { ⌜ LOG-ROOM ≤ length (now log) ⌝ }
     requires { ⌜ validList (now list) ≡ true ⌝ }
     ensures { λ r. ⌜ (isAccepted (r .answer) ≡ true → AllRead r (now (list .entry))) ⌝ }
@@ -199,11 +199,11 @@ fn set_first(
     routes: &mut [u64],
     log: &mut [u32],
     outcomes: &[u8],
-    read: Ended,
+    read: InitEnd,
     a: BringUpArgs,
     spacing: usize,
     list: &[u32],
-) -> Ended
+) -> InitEnd
     requires { ⌜ Spaced spacing (length (now ctx)) × ((0 < length (now list)) × (LOG-ROOM ≤ length (now log)) × AllRead read (now list)) ⌝ }
     ensures { λ r. ⌜ ((hubs : List ℕ) → leavesRead r (now (list .entry)) (now (ctx .exit)) (now (routes .exit)) (now (log .exit)) ≡ played (now (outcomes .entry)) (read .count) (bringUpSet (bringUpOf a hubs (now (list .entry))) spacing (now (ctx .entry)) (now (routes .entry))) (now (log .entry))) ⌝ }
 {
@@ -221,7 +221,7 @@ fn set_first(
     };
     let e = run_set_configuration(ctx, routes, log, outcomes, read.count, settings, list);
     let answer = e.answer;
-    let mut r = Ended {
+    let mut r = InitEnd {
         answer,
         count: e.count,
         configured: true,

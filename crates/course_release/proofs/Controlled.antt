@@ -10,13 +10,13 @@ use Rattle.command.specs.declared.Command.the-variants as command
 use Rattle.command.specs.declared.Sent.{Sent}
 use Rattle.command.specs.declared.Sent.the-variants as sent
 use Rattle.command.specs.Course.{result}
-use Rattle.command.specs.Sweep.{stopAll, resumeAll}
+use Rattle.command.specs.Sweep.{stopEndpoints, resumeStoppedEndpoints}
 use Rattle.command.proofs.Cuts.{on-sent}
 use Rattle.command.proofs.Operations.{ByteOperands, EachCommand, each-then}
 use Rattle.command.proofs.Sweeps.{stop-each, resume-each}
 use Rattle.context_block.specs.Promises.{someDci}
 use Rattle.context.specs.Place.{Spaced}
-use Rattle.record_endpoint.specs.Cells.{queueDcis}
+use Rattle.record_endpoint.specs.EndpointMap.{queueDcis}
 use Rattle.transfer.specs.declared.Replaced.{Replaced}
 use Rattle.transfer.specs.declared.Replaced.the-variants as replace
 use Rattle.transfer.specs.Routes.{replaced}
@@ -36,13 +36,13 @@ module _ (P : Command → Type 0) (a : Release) where
   resume-sends : OfEach → (code : ℕ) (ctx routes : List ℕ) → EachCommand P (releaseResume a code ctx routes)
   unfolding releaseResume EachCommand
   resume-sends p code ctx routes =
-      each-then P (resumeAll ctx (queueDcis (a .old))) _ (resume-each P ctx _ (p .resume)) (λ r. tt)
+      each-then P (resumeStoppedEndpoints ctx (queueDcis (a .old))) _ (resume-each P ctx _ (p .resume)) (λ r. tt)
 
   -- it sends no other commands
   pub release-sends : OfEach → (ctx routes : List ℕ) → EachCommand P (releaseCourse a ctx routes)
   unfolding releaseCourse releaseConfigure releasePublish EachCommand
   release-sends p ctx routes =
-      each-then P (stopAll ctx (queueDcis (a .old))) _ (stop-each P ctx _ (λ k. (p .stop k, p .resume k)))
+      each-then P (stopEndpoints ctx (queueDcis (a .old))) _ (stop-each P ctx _ (λ k. (p .stop k, p .resume k)))
       (λ r. on-sent (EachCommand P) (r .sent) _ _ _ (λ e. configure) (λ code e. tt) (λ e. tt))
     where
       configure : EachCommand P (releaseConfigure a ctx routes)

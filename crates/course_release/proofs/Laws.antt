@@ -12,16 +12,16 @@ use Rattle.answer.specs.Answer.{number}
 use Rattle.command.specs.declared.Sent.{Sent}
 use Rattle.command.specs.declared.Sent.the-variants as sent
 use Rattle.command.specs.Command.{outcomeAt}
-use Rattle.command.specs.Course.{Course, ends, onSent, words, result, Ended, CutsTo, CutEnds}
-use Rattle.command.specs.Sweep.{stopAll, resumeAll}
+use Rattle.command.specs.Course.{Course, ends, onSent, words, result, EndsWith, CutsTo, CutEnds}
+use Rattle.command.specs.Sweep.{stopEndpoints, resumeStoppedEndpoints}
 use Rattle.command.proofs.Cuts.{on-sent}
 use Rattle.command.proofs.Laws.{words-then, result-then}
 use Rattle.command.proofs.Sweeps.{words-length-resume, words-length-stop, stop-done, stop-cuts, resume-cuts, sweep-cut-ends}
-use Rattle.record_endpoint.specs.Cells.{queueDcis}
+use Rattle.record_endpoint.specs.EndpointMap.{queueDcis}
 use Rattle.transfer.specs.declared.Replaced.{Replaced}
 use Rattle.transfer.specs.declared.Replaced.the-variants as replace
 use Rattle.transfer.specs.Routes.{replaced, withReplaced}
-use Rattle.course_steps.specs.End.{End, stays, configureFailed}
+use Rattle.course_steps.specs.End.{End, settingsKept, configureFailed}
 use Rattle.course_steps.proofs.Laws.{length-dcis}
 use Rattle.course_release.specs.Release.{Release, releaseContext, releasePublished, releasePublish, releaseResume, releaseConfigure, releaseCourse}
 
@@ -38,7 +38,7 @@ module _ (a : Release) (routes o : List ℕ) where
       let next = releaseContext a ctx in
       on-sent (λ c. suc (length (words o (n + 1) c)) ≤ suc (length (a .old))) (outcomeAt o n) (releasePublish a next routes)
       (λ code. releaseResume a code next routes)
-      (ends (stays answer.Cut 0 next routes))
+      (ends (settingsKept answer.Cut 0 next routes))
       (λ e. omega arith)
       (λ code e. omega (arith, resume-words next (n + 1) code))
       (λ e. omega arith)
@@ -48,25 +48,25 @@ module _ (a : Release) (routes o : List ℕ) where
   unfolding releaseCourse words
   release-words ctx n few =
       let dcis = queueDcis (a .old) in
-      let stopped = length (words o n (stopAll ctx dcis)) in
-      let r = result o n (stopAll ctx dcis) in
+      let stopped = length (words o n (stopEndpoints ctx dcis)) in
+      let r = result o n (stopEndpoints ctx dcis) in
       let m : stopped ≤ 2 * length dcis = words-length-stop o ctx dcis n in
       let l : length dcis ≡ length (a .old) = length-dcis (a .old) in
       rw (words-then, length-append)
       (on-sent (λ c. stopped + length (words o (n + stopped) c) ≤ 64) (r .sent) (releaseConfigure a ctx routes)
-      (λ code. ends (stays (answer.Failed code) (length (a .old)) ctx routes))
-      (ends (stays answer.Cut (r .active) ctx routes))
+      (λ code. ends (settingsKept (answer.Failed code) (length (a .old)) ctx routes))
+      (ends (settingsKept answer.Cut (r .active) ctx routes))
       (λ e. omega (arith, stop-done o ctx dcis n e, configure-words ctx (n + stopped)))
       (λ code e. omega arith)
       (λ e. omega arith))
 
 resume-ends : (a : Release) (code : ℕ) (ctx routes : List ℕ) → CutEnds (λ e. e .ctx) (releaseResume a code ctx routes)
-unfolding releaseResume CutsTo Ended
+unfolding releaseResume CutsTo EndsWith
 resume-ends a code ctx routes =
-    sweep-cut-ends (λ e. e .ctx) ctx (resumeAll ctx (queueDcis (a .old))) _ (resume-cuts ctx (queueDcis (a .old))) (λ r e. refl) (λ r. tt)
+    sweep-cut-ends (λ e. e .ctx) ctx (resumeStoppedEndpoints ctx (queueDcis (a .old))) _ (resume-cuts ctx (queueDcis (a .old))) (λ r e. refl) (λ r. tt)
 
 configure-ends : (a : Release) (ctx routes : List ℕ) → CutEnds (λ e. e .ctx) (releaseConfigure a ctx routes)
-unfolding releaseConfigure releasePublish CutsTo Ended onSent
+unfolding releaseConfigure releasePublish CutsTo EndsWith onSent
 configure-ends a ctx routes = (
   refl,
   λ s. on-sent (CutEnds (λ e. e .ctx)) s _ _ _ (λ e. tt) (λ code e. resume-ends a code (releaseContext a ctx) routes) (λ e. tt),
@@ -74,9 +74,9 @@ configure-ends a ctx routes = (
 
 -- where a command is cut, it ends with that command's context
 pub release-cuts : (a : Release) (ctx routes : List ℕ) → CutEnds (λ e. e .ctx) (releaseCourse a ctx routes)
-unfolding releaseCourse CutsTo Ended onSent
+unfolding releaseCourse CutsTo EndsWith onSent
 release-cuts a ctx routes =
-    sweep-cut-ends (λ e. e .ctx) ctx (stopAll ctx (queueDcis (a .old))) _ (stop-cuts ctx (queueDcis (a .old))) (λ r e. rw e refl)
+    sweep-cut-ends (λ e. e .ctx) ctx (stopEndpoints ctx (queueDcis (a .old))) _ (stop-cuts ctx (queueDcis (a .old))) (λ r e. rw e refl)
     (λ r. on-sent (CutEnds (λ e. e .ctx)) (r .sent) _ _ _ (λ e. configure-ends a ctx routes) (λ code e. tt) (λ e. tt))
 
 -- Accepted: the old routes were all there, and are out.
@@ -101,7 +101,7 @@ not-accepted x h e = let z : 0 < 0 = rw e at h in omega arith
 abbrev pub Says : Release → List ℕ → End → Type 0
 Says a routes e = Gone a routes e ⊎ Stayed routes e
 
-stayed : (a : Release) (x : Answer) (n : ℕ) (ctx routes : List ℕ) → 13 ≤ number x → Says a routes (stays x n ctx routes)
+stayed : (a : Release) (x : Answer) (n : ℕ) (ctx routes : List ℕ) → 13 ≤ number x → Says a routes (settingsKept x n ctx routes)
 stayed a x n ctx routes h = inr (record { refused = h; kept = refl; left = refl })
 
 published-says : (a : Release) (ctx routes : List ℕ) (r : Replaced) → replaced routes (a .slot) (a .old) [] ≡ r →
@@ -132,9 +132,9 @@ module _ (a : Release) (routes o : List ℕ) where
   unfolding releaseCourse result number
   release-says ctx n =
       let dcis = queueDcis (a .old) in
-      let m = n + length (words o n (stopAll ctx dcis)) in
+      let m = n + length (words o n (stopEndpoints ctx dcis)) in
       rw result-then
-      (on-sent (λ c. Says a routes (result o m c)) ((result o n (stopAll ctx dcis)) .sent) _ _ _
+      (on-sent (λ c. Says a routes (result o m c)) ((result o n (stopEndpoints ctx dcis)) .sent) _ _ _
       (λ e. configure-says ctx m)
       (λ code e. stayed a (answer.Failed code) _ ctx routes (omega arith))
       (λ e. stayed a answer.Cut _ ctx routes (omega arith)))
@@ -177,9 +177,9 @@ module _ (a : Release) (routes o : List ℕ) where
   unfolding releaseCourse result
   release-answers ctx n =
       let dcis = queueDcis (a .old) in
-      let m = n + length (words o n (stopAll ctx dcis)) in
+      let m = n + length (words o n (stopEndpoints ctx dcis)) in
       rw result-then
-      (on-sent (λ (c : Course End). OneAnswer a routes ((result o m c) .answer)) ((result o n (stopAll ctx dcis)) .sent) _ _ _
+      (on-sent (λ (c : Course End). OneAnswer a routes ((result o m c) .answer)) ((result o n (stopEndpoints ctx dcis)) .sent) _ _ _
       (λ e. configure-answers ctx m)
       (λ code e. inr (inl (code, refl)))
       (λ e. inr (inr (inl refl))))

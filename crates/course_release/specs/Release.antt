@@ -5,14 +5,14 @@ use lib.ListN.{length}
 use Rattle.answer.specs.declared.Answer.the-variants as answer
 use Rattle.command.specs.declared.Command.the-variants as command
 use Rattle.command.specs.Course.{Course, ends, sends, onSent, then}
-use Rattle.command.specs.Sweep.{stopAll, resumeAll}
+use Rattle.command.specs.Sweep.{stopEndpoints, resumeStoppedEndpoints}
 use Rattle.context.specs.Place.{written}
 use Rattle.context.specs.Steps.{configureWrites}
-use Rattle.record_endpoint.specs.Cells.{queueDcis}
+use Rattle.record_endpoint.specs.EndpointMap.{queueDcis}
 use Rattle.transfer.specs.declared.Replaced.{Replaced}
 use Rattle.transfer.specs.declared.Replaced.the-variants as replace
 use Rattle.transfer.specs.Routes.{Queue, replaced, withReplaced}
-use Rattle.course_steps.specs.End.{End, stays, moves, configureFailed}
+use Rattle.course_steps.specs.End.{End, settingsKept, settingsMoved, configureFailed}
 use Rattle.course_steps.specs.Arrays.{dcisIn, queuesIn}
 use Rattle.course_release.specs.declared.ReleaseArgs.{ReleaseArgs}
 
@@ -33,16 +33,16 @@ releaseContext a ctx =
     written (a .spacing) (configureWrites (a .speed) (a .interface) (a .alternate) (a .words) [] [] (a .dcis)) ctx
 
 unfoldable pub releasePublished : Replaced → Release → List ℕ → List ℕ → End
-releasePublished replace.Done a ctx routes = moves answer.Accepted ctx (withReplaced routes (a .slot) (a .old) [])
-releasePublished replace.InvalidEndpoint a ctx routes = stays answer.InvalidEndpoint 0 ctx routes
-releasePublished replace.QueueFull a ctx routes = stays answer.InvalidEndpoint 0 ctx routes
+releasePublished replace.Done a ctx routes = settingsMoved answer.Accepted ctx (withReplaced routes (a .slot) (a .old) [])
+releasePublished replace.InvalidEndpoint a ctx routes = settingsKept answer.InvalidEndpoint 0 ctx routes
+releasePublished replace.QueueFull a ctx routes = settingsKept answer.InvalidEndpoint 0 ctx routes
 
 unfoldable pub releasePublish : Release → List ℕ → List ℕ → Course End
 releasePublish a ctx routes = ends (releasePublished (replaced routes (a .slot) (a .old) []) a ctx routes)
 
 unfoldable pub releaseResume : Release → ℕ → List ℕ → List ℕ → Course End
 releaseResume a code ctx routes =
-    then (resumeAll ctx (queueDcis (a .old))) (λ r. ends (stays (configureFailed code (r .sent)) (r .active) ctx routes))
+    then (resumeStoppedEndpoints ctx (queueDcis (a .old))) (λ r. ends (settingsKept (configureFailed code (r .sent)) (r .active) ctx routes))
 
 unfoldable pub releaseConfigure : Release → List ℕ → List ℕ → Course End
 releaseConfigure a ctx routes =
@@ -52,16 +52,16 @@ releaseConfigure a ctx routes =
     onSent s
     (releasePublish a next routes)
     (λ code. releaseResume a code next routes)
-    (ends (stays answer.Cut 0 next routes)))
+    (ends (settingsKept answer.Cut 0 next routes)))
 
 unfoldable pub releaseCourse : Release → List ℕ → List ℕ → Course End
 releaseCourse a ctx routes =
-    then (stopAll ctx (queueDcis (a .old)))
+    then (stopEndpoints ctx (queueDcis (a .old)))
     (λ r.
     onSent (r .sent)
     (releaseConfigure a ctx routes)
-    (λ code. ends (stays (answer.Failed code) (length (a .old)) ctx routes))
-    (ends (stays answer.Cut (r .active) ctx routes)))
+    (λ code. ends (settingsKept (answer.Failed code) (length (a .old)) ctx routes))
+    (ends (settingsKept answer.Cut (r .active) ctx routes)))
 
 -- The same from the code's arrays.
 abbrev pub releaseOf : ReleaseArgs → List ℕ → Release

@@ -2,7 +2,7 @@
 use answer::Answer;
 use command::Command;
 use command::Sent;
-use course_steps::Ended;
+use course_steps::CourseEnd;
 use def::SlotId;
 use descriptor_list::LIST_ROOM;
 use record_endpoint::Queues;
@@ -15,7 +15,7 @@ ghost use Rattle.command.specs.Command.{LOG-ROOM};
 ghost use Rattle.descriptor_list.specs.Valid.{LIST-ROOM};
 ghost use Rattle.record_endpoint.specs.Order.{PLACES};
 ghost use Rattle.command.specs.Course.{played};
-ghost use Rattle.course_steps.specs.Arrays.{leaves, Room};
+ghost use Rattle.course_steps.specs.Arrays.{courseLeaves, Room};
 ghost use Rattle.record_settings.specs.Held.{settingWords};
 ghost use Rattle.course_release.specs.Release.{releaseOf, releasePublish, releaseConfigure, releaseCourse};
 
@@ -30,16 +30,16 @@ pub struct ReleaseArgs {
     pub all: Queues,
 }
 
-fn publish(routes: &mut [u64], n: usize, a: ReleaseArgs) -> Ended
+fn publish(routes: &mut [u64], n: usize, a: ReleaseArgs) -> CourseEnd
     requires { ⌜ a .old .count ≤ PLACES ⌝ }
-    ensures { λ r. ⌜ ((words o ctx log : List ℕ) → leaves r ctx (now (routes .exit)) log ≡ played o n (releasePublish (releaseOf a words) ctx (now (routes .entry))) log) ⌝ }
+    ensures { λ r. ⌜ ((words o ctx log : List ℕ) → courseLeaves r ctx (now (routes .exit)) log ≡ played o n (releasePublish (releaseOf a words) ctx (now (routes .entry))) log) ⌝ }
 {
     let none = course_steps::no_queues();
     let r = course_steps::publish_endpoint_routes(routes, a.slot, a.old, none);
     match r {
-        Replaced::Done => course_steps::moves(Answer::Accepted, n),
+        Replaced::Done => course_steps::settings_moved(Answer::Accepted, n),
         Replaced::InvalidEndpoint | Replaced::QueueFull => {
-            course_steps::stays(Answer::InvalidEndpoint, n, 0)
+            course_steps::settings_kept(Answer::InvalidEndpoint, n, 0)
         }
     }
 }
@@ -53,10 +53,10 @@ fn configure(
     n: usize,
     a: ReleaseArgs,
     words: &[u32],
-) -> Ended
+) -> CourseEnd
     requires { ⌜ Room (a .spacing) (length (now ctx)) (a .old) (a .all) ⌝ }
     requires { ⌜ n + a .old .count + 1 ≤ length (now log) ⌝ }
-    ensures { λ r. ⌜ leaves r (now (ctx .exit)) (now (routes .exit)) (now (log .exit)) ≡ played (now (outcomes .entry)) n (releaseConfigure (releaseOf a (now (words .entry))) (now (ctx .entry)) (now (routes .entry))) (now (log .entry)) ⌝ }
+    ensures { λ r. ⌜ courseLeaves r (now (ctx .exit)) (now (routes .exit)) (now (log .exit)) ≡ played (now (outcomes .entry)) n (releaseConfigure (releaseOf a (now (words .entry))) (now (ctx .entry)) (now (routes .entry))) (now (log .entry)) ⌝ }
 {
     let none = course_steps::no_queues();
     course_steps::prepare_configure(
@@ -75,12 +75,12 @@ fn configure(
     match s {
         Sent::Done => publish(routes, next, a),
         Sent::Failed(code) => {
-            let back = course_steps::resume_queues(log, outcomes, next, a.old);
+            let back = course_steps::resume_stopped_endpoints(log, outcomes, next, a.old);
             let resumed = back.sent;
             let answer = course_steps::configure_failed(code, resumed);
-            course_steps::stays(answer, back.count, back.active)
+            course_steps::settings_kept(answer, back.count, back.active)
         }
-        Sent::Cut => course_steps::stays(Answer::Cut, next, 0),
+        Sent::Cut => course_steps::settings_kept(Answer::Cut, next, 0),
     }
 }
 
@@ -93,19 +93,23 @@ pub fn release_interface(
     a: ReleaseArgs,
     list: [u32; LIST_ROOM],
     n: usize,
-) -> Ended
+) -> CourseEnd
     requires { ⌜ Room (a .spacing) (length (now ctx)) (a .old) (a .all) ⌝ }
     requires { ⌜ (LOG-ROOM ≤ length (now log)) × (n ≤ LIST-ROOM) ⌝ }
-    ensures { λ r. ⌜ leaves r (now (ctx .exit)) (now (routes .exit)) (now (log .exit)) ≡ played (now (outcomes .entry)) 0 (releaseCourse (releaseOf a (settingWords (take n list) (a .interface) (a .alternate))) (now (ctx .entry)) (now (routes .entry))) (now (log .entry)) ⌝ }
+    ensures { λ r. ⌜ courseLeaves r (now (ctx .exit)) (now (routes .exit)) (now (log .exit)) ≡ played (now (outcomes .entry)) 0 (releaseCourse (releaseOf a (settingWords (take n list) (a .interface) (a .alternate))) (now (ctx .entry)) (now (routes .entry))) (now (log .entry)) ⌝ }
 {
-    let stop = course_steps::stop_queues(log, outcomes, 0, a.old);
+    let stop = course_steps::stop_endpoints(log, outcomes, 0, a.old);
     let s = stop.sent;
     match s {
         Sent::Done => {
             let words = record_settings::setting_words(&list[0..n], a.interface, a.alternate);
             configure(ctx, routes, log, outcomes, stop.count, a, words)
         }
-        Sent::Failed(code) => course_steps::stays(Answer::Failed(code), stop.count, a.old.count),
-        Sent::Cut => course_steps::stays(Answer::Cut, stop.count, stop.active),
+        Sent::Failed(code) => course_steps::settings_kept(
+            Answer::Failed(code),
+            stop.count,
+            a.old.count,
+        ),
+        Sent::Cut => course_steps::settings_kept(Answer::Cut, stop.count, stop.active),
     }
 }

@@ -14,7 +14,7 @@ use Rattle.command.proofs.Cuts.{on-sent}
 use Rattle.command.proofs.Operations.{operation}
 use Rattle.context_block.specs.Promises.{someDci}
 use Rattle.context.specs.Place.{Spaced}
-use Rattle.record_endpoint.specs.Cells.{queueDcis}
+use Rattle.record_endpoint.specs.EndpointMap.{queueDcis}
 use Rattle.transfer.specs.declared.Replaced.{Replaced}
 use Rattle.transfer.specs.declared.Replaced.the-variants as replace
 use Rattle.course_steps.specs.End.{End, configureFailed}

@@ -18,9 +18,9 @@ use Rattle.transfer.specs.declared.Replaced.{Replaced}
 use Rattle.transfer.specs.declared.Replaced.the-variants as replace
 use Rattle.transfer.specs.Routes.{replaced, withReplaced}
 use Rattle.transfer.proofs.Laws.{invalid-kept, full-kept}
-use Rattle.course_steps.specs.declared.Ended.{Ended}
-use Rattle.course_steps.specs.End.{End, stays, moves, configureFailed}
-use Rattle.course_steps.specs.Arrays.{leaves}
+use Rattle.course_steps.specs.declared.CourseEnd.{CourseEnd}
+use Rattle.course_steps.specs.End.{End, settingsKept, settingsMoved, configureFailed}
+use Rattle.course_steps.specs.Arrays.{courseLeaves}
 use Rattle.course_steps.proofs.Laws.{dcis-in}
 use Rattle.course_set_configuration.specs.declared.run.SettingsArgs.{SettingsArgs}
 use Rattle.course_set_configuration.specs.Parts.{resumed}
@@ -42,9 +42,9 @@ module _ (a : SettingsArgs) (list ctx routes o log : List ℕ) (n code : ℕ) wh
   resumed-failed e = e ∙ rw (dcis-in, played-then, played-then, failed-as)
 
   restored-as : (s : Sent) (k : ℕ) →
-      ends (stays (onSent s (answer.Failed code) (λ later. answer.InterfaceBroken) answer.Cut) k ctx routes)
-      ≡ onSent s (ends (stays (answer.Failed code) k ctx routes)) (λ later. ends (stays answer.InterfaceBroken k ctx routes))
-      (ends (stays answer.Cut k ctx routes))
+      ends (settingsKept (onSent s (answer.Failed code) (λ later. answer.InterfaceBroken) answer.Cut) k ctx routes)
+      ≡ onSent s (ends (settingsKept (answer.Failed code) k ctx routes)) (λ later. ends (settingsKept answer.InterfaceBroken k ctx routes))
+      (ends (settingsKept answer.Cut k ctx routes))
   unfolding onSent
   restored-as sent.Done k = refl
   restored-as (sent.Failed later) k = refl
@@ -75,8 +75,8 @@ module _
     not-configured code d e = rw (played-sends, ← sent-as .0, ← sent-as .1, ← given, d) e
 
   -- or is cut
-  pub configure-cut : (r : Ended) → s ≡ sent.Cut → r ≡ record { answer = answer.Cut; count = n + 1; active = 0; moved = false } →
-      leaves r next routes left ≡ played o n (setConfigure a ctx routes) log
+  pub configure-cut : (r : CourseEnd) → s ≡ sent.Cut → r ≡ record { answer = answer.Cut; count = n + 1; active = 0; moved = false } →
+      courseLeaves r next routes left ≡ played o n (setConfigure a ctx routes) log
   unfolding setConfigure onSent
   configure-cut r d e = rw (played-sends, ← sent-as .0, ← sent-as .1, ← given, d, played-ends, e)
 
@@ -97,8 +97,8 @@ module _
     not-switched code d e = rw (played-sends, ← sent-as .0, ← sent-as .1, d) e
 
   -- or is cut
-  pub switch-cut : (r : Ended) → s ≡ sent.Cut → r ≡ record { answer = answer.Cut; count = n + 1; active = 0; moved = false } →
-      leaves r ctx routes left ≡ played o n (setSwitch a ctx routes) log
+  pub switch-cut : (r : CourseEnd) → s ≡ sent.Cut → r ≡ record { answer = answer.Cut; count = n + 1; active = 0; moved = false } →
+      courseLeaves r ctx routes left ≡ played o n (setSwitch a ctx routes) log
   unfolding setSwitch onSent
   switch-cut r d e = rw (played-sends, ← sent-as .0, ← sent-as .1, d, played-ends, e)
 
@@ -113,30 +113,30 @@ module _
   restored d e = rw (played-sends, ← sent-as .0, ← sent-as .1, ← given, d) e
 
   -- fails
-  pub not-restored : (r : Ended) (later : ℕ) → s ≡ sent.Failed later →
+  pub not-restored : (r : CourseEnd) (later : ℕ) → s ≡ sent.Failed later →
       r ≡ record { answer = answer.InterfaceBroken; count = n + 1; active = 0; moved = false } →
-      leaves r next routes left ≡ played o n (setRestore a code ctx routes) log
+      courseLeaves r next routes left ≡ played o n (setRestore a code ctx routes) log
   unfolding setRestore onSent
   not-restored r later d e = rw (played-sends, ← sent-as .0, ← sent-as .1, ← given, d, played-ends, e)
 
   -- or is cut
-  pub restore-cut : (r : Ended) → s ≡ sent.Cut → r ≡ record { answer = answer.Cut; count = n + 1; active = 0; moved = false } →
-      leaves r next routes left ≡ played o n (setRestore a code ctx routes) log
+  pub restore-cut : (r : CourseEnd) → s ≡ sent.Cut → r ≡ record { answer = answer.Cut; count = n + 1; active = 0; moved = false } →
+      courseLeaves r next routes left ≡ played o n (setRestore a code ctx routes) log
   unfolding setRestore onSent
   restore-cut r d e = rw (played-sends, ← sent-as .0, ← sent-as .1, ← given, d, played-ends, e)
 
 -- The last Evaluate.
 told : (o left next table : List ℕ) (n : ℕ) (s : Sent) →
     record {
-      end = moves (onSent s answer.Accepted (λ code. answer.InterfaceBroken) answer.Cut) next table;
+      end = settingsMoved (onSent s answer.Accepted (λ code. answer.InterfaceBroken) answer.Cut) next table;
       count = n + 1;
       log = left;
     }
     ≡ played o (n + 1)
     (onSent s
-    (ends (moves answer.Accepted next table))
-    (λ code. ends (moves answer.InterfaceBroken next table))
-    (ends (moves answer.Cut next table)))
+    (ends (settingsMoved answer.Accepted next table))
+    (λ code. ends (settingsMoved answer.InterfaceBroken next table))
+    (ends (settingsMoved answer.Cut next table)))
     left
 unfolding onSent
 told o left next table n sent.Done = rw played-ends
@@ -145,17 +145,17 @@ told o left next table n sent.Cut = rw played-ends
 
 -- The routes are taken out.
 module _
-    (a : Settings) (o ctx routes log table : List ℕ) (n : ℕ) (r : Ended) (t : Replaced)
+    (a : Settings) (o ctx routes log table : List ℕ) (n : ℕ) (r : CourseEnd) (t : Replaced)
     (replaced-as : (t ≡ replaced routes (a .slot) (a .old) []) × (table ≡ withReplaced routes (a .slot) (a .old) [])) where
   -- or one is not its ring's
   pub not-published : OneOf (1 ∷ 2 ∷ []) (tagOf replaced-type.the-type t) →
       r ≡ record { answer = answer.InvalidEndpoint; count = n; active = 0; moved = false } →
-      leaves r ctx table log ≡ played o n (setPublish a ctx routes) log
+      courseLeaves r ctx table log ≡ played o n (setPublish a ctx routes) log
   unfolding setPublish setPublished
   not-published h e = go t refl h
     where
       go : (x : Replaced) → t ≡ x → OneOf (1 ∷ 2 ∷ []) (tagOf replaced-type.the-type x) →
-          leaves r ctx table log ≡ played o n (setPublished (replaced routes (a .slot) (a .old) []) a ctx routes) log
+          courseLeaves r ctx table log ≡ played o n (setPublished (replaced routes (a .slot) (a .old) []) a ctx routes) log
       go replace.Done z k = absurd (miss (1 ∷ 2 ∷ []) 0 tt k)
       go replace.InvalidEndpoint z k =
           let kept = replaced-as .1 ∙ invalid-kept routes (a .slot) (a .old) [] (sym (replaced-as .0) ∙ z) in
@@ -173,7 +173,7 @@ module _
         active = 0;
         moved = true;
       } →
-      leaves r next table left ≡ played o n (setPublish a ctx routes) log
+      courseLeaves r next table left ≡ played o n (setPublish a ctx routes) log
   unfolding setPublish setPublished setEvaluate
   published next left s d given sent-as e =
       rw (← replaced-as .0, d, ← replaced-as .1, played-sends, ← sent-as .0, ← sent-as .1, ← given, e)

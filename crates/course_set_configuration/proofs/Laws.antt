@@ -15,18 +15,18 @@ use Rattle.command.specs.declared.Command.the-variants as command
 use Rattle.command.specs.declared.Sent.{Sent}
 use Rattle.command.specs.declared.Sent.the-variants as sent
 use Rattle.command.specs.Command.{outcomeAt}
-use Rattle.command.specs.Course.{Course, ends, sends, onSent, words, result, Ended, CutsTo, CutEnds}
-use Rattle.command.specs.Sweep.{stopAll, resumeAll}
+use Rattle.command.specs.Course.{Course, ends, sends, onSent, words, result, EndsWith, CutsTo, CutEnds}
+use Rattle.command.specs.Sweep.{stopEndpoints, resumeStoppedEndpoints}
 use Rattle.command.proofs.Cuts.{on-sent}
 use Rattle.command.proofs.Done.{result-sends, AllDone, stop-all-done}
 use Rattle.command.proofs.Laws.{words-then, result-then}
 use Rattle.command.proofs.Operations.{ByteOperands, operation, EachCommand, each-then}
 use Rattle.command.proofs.Sweeps.{words-length-resume, words-length-stop, stop-done, stop-cuts, resume-cuts, sweep-cut-ends, stop-each, resume-each}
-use Rattle.record_endpoint.specs.Cells.{queueDcis}
+use Rattle.record_endpoint.specs.EndpointMap.{queueDcis}
 use Rattle.transfer.specs.declared.Replaced.{Replaced}
 use Rattle.transfer.specs.declared.Replaced.the-variants as replace
 use Rattle.transfer.specs.Routes.{replaced, withReplaced}
-use Rattle.course_steps.specs.End.{End, stays, moves, configureFailed}
+use Rattle.course_steps.specs.End.{End, settingsKept, settingsMoved, configureFailed}
 use Rattle.course_steps.proofs.Laws.{length-dcis}
 use Rattle.theorem_controller.specs.Controller.{isDone, SET-CONFIGURATION, doneWord}
 use Rattle.theorem_controller.proofs.Done.{isDoneCommand, doneIn, done-logged, done-none, done-after}
@@ -50,7 +50,7 @@ last-words : {k x m : ℕ} → k ≤ m → x ≡ 0 → k + x ≤ m
 last-words h e = omega arith
 
 module _ (a : Settings) (routes o : List ℕ) where
-  resumed-words : (ctx : List ℕ) (n : ℕ) → length (words o n (resumeAll ctx (queueDcis (a .old)))) ≤ length (a .old)
+  resumed-words : (ctx : List ℕ) (n : ℕ) → length (words o n (resumeStoppedEndpoints ctx (queueDcis (a .old)))) ≤ length (a .old)
   resumed-words ctx n = omega (arith, words-length-resume o ctx (queueDcis (a .old)) n, length-dcis (a .old))
 
   resume-words : (ctx : List ℕ) (n code : ℕ) → length (words o n (setResume a code ctx routes)) ≤ length (a .old) + 1 + 1
@@ -60,7 +60,7 @@ module _ (a : Settings) (routes o : List ℕ) where
   restored-words : (ctx : List ℕ) (n code : ℕ) → length (words o n (setRestored a code ctx routes)) ≤ length (a .old)
   unfolding setRestored words
   restored-words ctx n code =
-      let back = resumeAll ctx (queueDcis (a .old)) in
+      let back = resumeStoppedEndpoints ctx (queueDcis (a .old)) in
       rw (words-then, length-append)
       (last-words (resumed-words ctx n)
       (on-sent (λ (c : Course End). length (words o (n + length (words o n back)) c) ≡ 0) ((result o n back) .sent) _ _ _
@@ -102,8 +102,8 @@ module _ (a : Settings) (routes o : List ℕ) where
   unfolding setCourse words
   set-words ctx n =
       let dcis = queueDcis (a .old) in
-      let r = result o n (stopAll ctx dcis) in
-      let k = length (words o n (stopAll ctx dcis)) in
+      let r = result o n (stopEndpoints ctx dcis) in
+      let k = length (words o n (stopEndpoints ctx dcis)) in
       let few : k + 0 ≤ 2 * length (a .old) + 3 = omega (arith, words-length-stop o ctx dcis n, length-dcis (a .old)) in
       let all : r .sent ≡ sent.Done → k + length (words o (n + k) (setConfigure a ctx routes)) ≤ 2 * length (a .old) + 3 =
       λ e. omega (arith, stop-done o ctx dcis n e, length-dcis (a .old), configure-words ctx (n + k)) in
@@ -115,7 +115,7 @@ module _ (a : Settings) (routes o : List ℕ) where
 
 module _ (a : Settings) where
   evaluate-cuts : (ctx routes : List ℕ) → CutEnds (λ e. e .ctx) (setEvaluate a ctx routes)
-  unfolding setEvaluate CutsTo Ended onSent
+  unfolding setEvaluate CutsTo EndsWith onSent
   evaluate-cuts ctx routes =
       (refl, λ s. on-sent (CutEnds (λ e. e .ctx)) s _ _ _ (λ e. tt) (λ code e. tt) (λ e. tt))
 
@@ -126,20 +126,20 @@ module _ (a : Settings) where
   published-cuts replace.QueueFull ctx routes = tt
 
   resume-ends : (code : ℕ) (ctx routes : List ℕ) → CutEnds (λ e. e .ctx) (setResume a code ctx routes)
-  unfolding setResume CutsTo Ended
+  unfolding setResume CutsTo EndsWith
   resume-ends code ctx routes =
-      sweep-cut-ends (λ e. e .ctx) ctx (resumeAll ctx (queueDcis (a .old))) _ (resume-cuts ctx (queueDcis (a .old))) (λ r e. refl)
+      sweep-cut-ends (λ e. e .ctx) ctx (resumeStoppedEndpoints ctx (queueDcis (a .old))) _ (resume-cuts ctx (queueDcis (a .old))) (λ r e. refl)
       (λ r. tt)
 
   restored-ends : (code : ℕ) (ctx routes : List ℕ) → CutEnds (λ e. e .ctx) (setRestored a code ctx routes)
-  unfolding setRestored CutsTo Ended onSent
+  unfolding setRestored CutsTo EndsWith onSent
   restored-ends code ctx routes =
-      sweep-cut-ends (λ e. e .ctx) ctx (resumeAll ctx (queueDcis (a .old))) _ (resume-cuts ctx (queueDcis (a .old)))
+      sweep-cut-ends (λ e. e .ctx) ctx (resumeStoppedEndpoints ctx (queueDcis (a .old))) _ (resume-cuts ctx (queueDcis (a .old)))
       (λ r e. rw e refl)
       (λ r. on-sent (CutEnds (λ e. e .ctx)) (r .sent) _ _ _ (λ e. tt) (λ later e. tt) (λ e. tt))
 
   restore-ends : (code : ℕ) (ctx routes : List ℕ) → CutEnds (λ e. e .ctx) (setRestore a code ctx routes)
-  unfolding setRestore CutsTo Ended onSent
+  unfolding setRestore CutsTo EndsWith onSent
   restore-ends code ctx routes = (
     refl,
     λ s.
@@ -147,7 +147,7 @@ module _ (a : Settings) where
   )
 
   switch-ends : (ctx routes : List ℕ) → CutEnds (λ e. e .ctx) (setSwitch a ctx routes)
-  unfolding setSwitch setPublish CutsTo Ended onSent
+  unfolding setSwitch setPublish CutsTo EndsWith onSent
   switch-ends ctx routes = (
     refl,
     λ s.
@@ -156,7 +156,7 @@ module _ (a : Settings) where
   )
 
   configure-ends : (ctx routes : List ℕ) → CutEnds (λ e. e .ctx) (setConfigure a ctx routes)
-  unfolding setConfigure CutsTo Ended onSent
+  unfolding setConfigure CutsTo EndsWith onSent
   configure-ends ctx routes = (
     refl,
     λ s.
@@ -167,9 +167,9 @@ module _ (a : Settings) where
 
   -- where a command is cut, it ends with that command's context
   pub set-cuts : (ctx routes : List ℕ) → CutEnds (λ e. e .ctx) (setCourse a ctx routes)
-  unfolding setCourse CutsTo Ended onSent
+  unfolding setCourse CutsTo EndsWith onSent
   set-cuts ctx routes =
-      sweep-cut-ends (λ e. e .ctx) ctx (stopAll ctx (queueDcis (a .old))) _ (stop-cuts ctx (queueDcis (a .old))) (λ r e. rw e refl)
+      sweep-cut-ends (λ e. e .ctx) ctx (stopEndpoints ctx (queueDcis (a .old))) _ (stop-cuts ctx (queueDcis (a .old))) (λ r e. rw e refl)
       (λ r. on-sent (CutEnds (λ e. e .ctx)) (r .sent) _ _ _ (λ e. configure-ends ctx routes) (λ code e. tt) (λ e. tt))
 
 -- Which commands it sends.
@@ -177,12 +177,12 @@ module _ (a : Settings) where
 module _ (P : Command → Type 0) (a : Settings) (back : (k : ℕ) → P (command.Resume (getD (queueDcis (a .old)) k 0))) where
   resume-sends : (code : ℕ) (ctx routes : List ℕ) → EachCommand P (setResume a code ctx routes)
   unfolding setResume EachCommand
-  resume-sends code ctx routes = each-then P (resumeAll ctx (queueDcis (a .old))) _ (resume-each P ctx _ back) (λ r. tt)
+  resume-sends code ctx routes = each-then P (resumeStoppedEndpoints ctx (queueDcis (a .old))) _ (resume-each P ctx _ back) (λ r. tt)
 
   restored-sends : (code : ℕ) (ctx routes : List ℕ) → EachCommand P (setRestored a code ctx routes)
   unfolding setRestored EachCommand
   restored-sends code ctx routes =
-      each-then P (resumeAll ctx (queueDcis (a .old))) _ (resume-each P ctx _ back)
+      each-then P (resumeStoppedEndpoints ctx (queueDcis (a .old))) _ (resume-each P ctx _ back)
       (λ r. on-sent (EachCommand P) (r .sent) _ _ _ (λ e. tt) (λ later e. tt) (λ e. tt))
 
   restore-sends : P command.Configure → (code : ℕ) (ctx routes : List ℕ) → EachCommand P (setRestore a code ctx routes)
@@ -215,7 +215,7 @@ module _ (P : Command → Type 0) (a : Settings) where
   pub set-sends : OfEach → (ctx routes : List ℕ) → EachCommand P (setCourse a ctx routes)
   unfolding setCourse setConfigure setSwitch setPublish EachCommand
   set-sends p ctx routes =
-      each-then P (stopAll ctx (queueDcis (a .old))) _ (stop-each P ctx _ (λ k. (p .stop k, p .resume k)))
+      each-then P (stopEndpoints ctx (queueDcis (a .old))) _ (stop-each P ctx _ (λ k. (p .stop k, p .resume k)))
       (λ r. on-sent (EachCommand P) (r .sent) _ _ _ (λ e. configured) (λ code e. tt) (λ e. tt))
     where
       next : List ℕ
@@ -241,21 +241,21 @@ module _ (P : Command → Type 0) (a : Settings) where
 
 -- The ends that there are, where `switched` says whether its SetConfiguration is done.
 pub data SetEnd (a : Settings) (routes : List ℕ) : Bool → End → Type 0 where
-  failed : (code active : ℕ) (ctx : List ℕ) → SetEnd a routes false (stays (answer.Failed code) active ctx routes)
-  broken : (active : ℕ) (ctx : List ℕ) → SetEnd a routes false (stays answer.InterfaceBroken active ctx routes)
-  cut : (active : ℕ) (ctx : List ℕ) → SetEnd a routes false (stays answer.Cut active ctx routes)
+  failed : (code active : ℕ) (ctx : List ℕ) → SetEnd a routes false (settingsKept (answer.Failed code) active ctx routes)
+  broken : (active : ℕ) (ctx : List ℕ) → SetEnd a routes false (settingsKept answer.InterfaceBroken active ctx routes)
+  cut : (active : ℕ) (ctx : List ℕ) → SetEnd a routes false (settingsKept answer.Cut active ctx routes)
   invalid : (ctx : List ℕ) → (replaced routes (a .slot) (a .old) [] ≡ replace.Done → ⊥) →
-      SetEnd a routes true (stays answer.InvalidEndpoint 0 ctx routes)
+      SetEnd a routes true (settingsKept answer.InvalidEndpoint 0 ctx routes)
   accepted : (ctx : List ℕ) → replaced routes (a .slot) (a .old) [] ≡ replace.Done →
-      SetEnd a routes true (moves answer.Accepted ctx (withReplaced routes (a .slot) (a .old) []))
+      SetEnd a routes true (settingsMoved answer.Accepted ctx (withReplaced routes (a .slot) (a .old) []))
   broken-late : (ctx : List ℕ) → replaced routes (a .slot) (a .old) [] ≡ replace.Done →
-      SetEnd a routes true (moves answer.InterfaceBroken ctx (withReplaced routes (a .slot) (a .old) []))
+      SetEnd a routes true (settingsMoved answer.InterfaceBroken ctx (withReplaced routes (a .slot) (a .old) []))
   cut-late : (ctx : List ℕ) → replaced routes (a .slot) (a .old) [] ≡ replace.Done →
-      SetEnd a routes true (moves answer.Cut ctx (withReplaced routes (a .slot) (a .old) []))
+      SetEnd a routes true (settingsMoved answer.Cut ctx (withReplaced routes (a .slot) (a .old) []))
 
 module _ (a : Settings) (routes o : List ℕ) where
   configure-failed-end : (code active : ℕ) (ctx : List ℕ) (s : Sent) →
-      SetEnd a routes false (stays (configureFailed code s) active ctx routes)
+      SetEnd a routes false (settingsKept (configureFailed code s) active ctx routes)
   unfolding configureFailed
   configure-failed-end code active ctx sent.Done = failed code active ctx
   configure-failed-end code active ctx (sent.Failed later) = failed code active ctx
@@ -268,7 +268,7 @@ module _ (a : Settings) (routes o : List ℕ) where
   restored-end : (ctx : List ℕ) (n code : ℕ) → SetEnd a routes false (result o n (setRestored a code ctx routes))
   unfolding setRestored result
   restored-end ctx n code =
-      let back = resumeAll ctx (queueDcis (a .old)) in
+      let back = resumeStoppedEndpoints ctx (queueDcis (a .old)) in
       rw result-then
       (on-sent (λ (c : Course End). SetEnd a routes false (result o (n + length (words o n back)) c)) ((result o n back) .sent) _ _ _
       (λ e. failed code _ ctx) (λ later e. broken _ ctx) (λ e. cut _ ctx))
@@ -294,7 +294,7 @@ module _ (a : Settings) (routes o : List ℕ) where
   switch-end ctx n = go (outcomeAt o n)
     where
       rest : Sent → Course End
-      rest s = onSent s (setPublish a ctx routes) (λ code. setRestore a code ctx routes) (ends (stays answer.Cut 0 ctx routes))
+      rest s = onSent s (setPublish a ctx routes) (λ code. setRestore a code ctx routes) (ends (settingsKept answer.Cut 0 ctx routes))
 
       go : (s : Sent) → SetEnd a routes (isDone s || doneIn SET-CONFIGURATION o (n + 1) (rest s)) (result o (n + 1) (rest s))
       go sent.Done = published-end ctx (n + 1) _ refl
@@ -312,7 +312,7 @@ module _ (a : Settings) (routes o : List ℕ) where
       next = dropContext a ctx
 
       rest : Sent → Course End
-      rest s = onSent s (setSwitch a next routes) (λ code. setResume a code next routes) (ends (stays answer.Cut 0 next routes))
+      rest s = onSent s (setSwitch a next routes) (λ code. setResume a code next routes) (ends (settingsKept answer.Cut 0 next routes))
 
       go : (s : Sent) → SetEnd a routes (doneIn SET-CONFIGURATION o (n + 1) (rest s)) (result o (n + 1) (rest s))
       go sent.Done = switch-end next (n + 1)
@@ -326,7 +326,7 @@ module _ (a : Settings) (routes o : List ℕ) where
       SetEnd a routes (doneIn SET-CONFIGURATION o n (setCourse a ctx routes)) (result o n (setCourse a ctx routes))
   unfolding setCourse doneIn result operation
   set-ends ctx n =
-      let stop = stopAll ctx (queueDcis (a .old)) in
+      let stop = stopEndpoints ctx (queueDcis (a .old)) in
       let m = n + length (words o n stop) in
       rw (done-after SET-CONFIGURATION o n stop _ (stop-each _ ctx _ (λ k. (refl, refl))), result-then)
       (on-sent (λ (c : Course End). SetEnd a routes (doneIn SET-CONFIGURATION o m c) (result o m c)) ((result o n stop) .sent) _ _ _
@@ -454,7 +454,7 @@ done-end o n x = refl
 module _ (a : Settings) (routes o : List ℕ) where
   configure-accepted : (ctx : List ℕ) (n : ℕ) → AllDone o n 3 → replaced routes (a .slot) (a .old) [] ≡ replace.Done →
       result o n (setConfigure a ctx routes)
-      ≡ moves answer.Accepted (valueContext a (dropContext a ctx)) (withReplaced routes (a .slot) (a .old) [])
+      ≡ settingsMoved answer.Accepted (valueContext a (dropContext a ctx)) (withReplaced routes (a .slot) (a .old) [])
   unfolding setConfigure setSwitch setPublish setPublished setEvaluate onSent
   configure-accepted ctx n h d =
       result-sends o n _ _ _ sent.Done (h n (omega arith) (omega arith))
@@ -467,11 +467,11 @@ module _ (a : Settings) (routes o : List ℕ) where
   pub set-accepted : (ctx : List ℕ) (n : ℕ) → AllDone o n (length (a .old) + 3) →
       replaced routes (a .slot) (a .old) [] ≡ replace.Done →
       result o n (setCourse a ctx routes)
-      ≡ moves answer.Accepted (valueContext a (dropContext a ctx)) (withReplaced routes (a .slot) (a .old) [])
+      ≡ settingsMoved answer.Accepted (valueContext a (dropContext a ctx)) (withReplaced routes (a .slot) (a .old) [])
   unfolding setCourse onSent
   set-accepted ctx n h d =
       let dcis = queueDcis (a .old) in
       let l : length dcis ≡ length (a .old) = length-dcis (a .old) in
       let e = stop-all-done o ctx dcis n (λ i m k. h i m (omega arith)) in
-      let k : length (words o n (stopAll ctx dcis)) ≡ length (a .old) = stop-done o ctx dcis n e ∙ l in
+      let k : length (words o n (stopEndpoints ctx dcis)) ≡ length (a .old) = stop-done o ctx dcis n e ∙ l in
       rw (result-then, e, k) (configure-accepted ctx (n + length (a .old)) (λ i m j. h i (omega arith) (omega arith)) d)

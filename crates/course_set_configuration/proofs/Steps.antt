@@ -7,7 +7,7 @@ use native.Mathlib.Nat.{add-zero, sub-zero}
 use lib.ListN.{drop, getD}
 use lib.Seq.{drop-drop, getD-drop}
 use Rattle.context_block.specs.Fields.{DROP-FLAG, INTERFACE-NUMBER, ALTERNATE-SETTING, CONTEXT-ENTRIES}
-use Rattle.context_block.specs.Setting.{Setting, _:=_}
+use Rattle.context_block.specs.FieldWrite.{FieldWrite, _:=_}
 use Rattle.context_block.specs.Blocks.{changed, wordDci, dropFlags}
 use Rattle.transfer.specs.Routes.{Queue, queues}
 use Rattle.context.specs.Place.{CONTROL, SLOT, inBlock, written}
@@ -26,7 +26,7 @@ use Rattle.course_set_configuration.specs.SetConfiguration.{settingsOf, 
 pub drop-flags-append : (x y : List ℕ) → dropFlags (x ++ y) ≡ dropFlags x ++ dropFlags y
 unfolding dropFlags
 drop-flags-append [] y = refl
-drop-flags-append (w ∷ x) y = ap (λ (l : List Setting). (DROP-FLAG (wordDci w) := 1) ∷ l) (drop-flags-append x y)
+drop-flags-append (w ∷ x) y = ap (λ (l : List FieldWrite). (DROP-FLAG (wordDci w) := 1) ∷ l) (drop-flags-append x y)
 
 -- what adding them writes
 pub add-all-append : (speed : ℕ) (qs : List Queue) (x y : List ℕ) →

@@ -4,14 +4,14 @@ use mathlib.Core.List.{List, []}
 use Rattle.answer.specs.declared.Answer.the-variants as answer
 use Rattle.command.specs.declared.Command.the-variants as command
 use Rattle.command.specs.Course.{Course, ends, sends, onSent, then}
-use Rattle.command.specs.Sweep.{stopAll, resumeAll}
+use Rattle.command.specs.Sweep.{stopEndpoints, resumeStoppedEndpoints}
 use Rattle.context.specs.Place.{written}
 use Rattle.context.specs.Steps.{configureWrites, configurationWrites}
-use Rattle.record_endpoint.specs.Cells.{queueDcis}
+use Rattle.record_endpoint.specs.EndpointMap.{queueDcis}
 use Rattle.transfer.specs.declared.Replaced.{Replaced}
 use Rattle.transfer.specs.declared.Replaced.the-variants as replace
 use Rattle.transfer.specs.Routes.{Queue, replaced, withReplaced}
-use Rattle.course_steps.specs.End.{End, stays, moves, configureFailed}
+use Rattle.course_steps.specs.End.{End, settingsKept, settingsMoved, configureFailed}
 use Rattle.course_steps.specs.Arrays.{queuesIn}
 use Rattle.record_settings.specs.Held.{heldIn, heldWords}
 use Rattle.course_set_configuration.specs.declared.run.SettingsArgs.{SettingsArgs}
@@ -43,14 +43,14 @@ setEvaluate a ctx routes =
     sends command.Evaluate next
     (λ s.
     onSent s
-    (ends (moves answer.Accepted next routes))
-    (λ code. ends (moves answer.InterfaceBroken next routes))
-    (ends (moves answer.Cut next routes)))
+    (ends (settingsMoved answer.Accepted next routes))
+    (λ code. ends (settingsMoved answer.InterfaceBroken next routes))
+    (ends (settingsMoved answer.Cut next routes)))
 
 unfoldable pub setPublished : Replaced → Settings → List ℕ → List ℕ → Course End
 setPublished replace.Done a ctx routes = setEvaluate a ctx (withReplaced routes (a .slot) (a .old) [])
-setPublished replace.InvalidEndpoint a ctx routes = ends (stays answer.InvalidEndpoint 0 ctx routes)
-setPublished replace.QueueFull a ctx routes = ends (stays answer.InvalidEndpoint 0 ctx routes)
+setPublished replace.InvalidEndpoint a ctx routes = ends (settingsKept answer.InvalidEndpoint 0 ctx routes)
+setPublished replace.QueueFull a ctx routes = ends (settingsKept answer.InvalidEndpoint 0 ctx routes)
 
 unfoldable pub setPublish : Settings → List ℕ → List ℕ → Course End
 setPublish a ctx routes = setPublished (replaced routes (a .slot) (a .old) []) a ctx routes
@@ -58,12 +58,12 @@ setPublish a ctx routes = setPublished (replaced routes (a .slot) (a .old) []) a
 -- After a failed SetConfiguration the endpoints are added again and resumed; if that fails too, the interfaces are broken.
 unfoldable pub setRestored : Settings → ℕ → List ℕ → List ℕ → Course End
 setRestored a code ctx routes =
-    then (resumeAll ctx (queueDcis (a .old)))
+    then (resumeStoppedEndpoints ctx (queueDcis (a .old)))
     (λ r.
     onSent (r .sent)
-    (ends (stays (answer.Failed code) (r .active) ctx routes))
-    (λ later. ends (stays answer.InterfaceBroken (r .active) ctx routes))
-    (ends (stays answer.Cut (r .active) ctx routes)))
+    (ends (settingsKept (answer.Failed code) (r .active) ctx routes))
+    (λ later. ends (settingsKept answer.InterfaceBroken (r .active) ctx routes))
+    (ends (settingsKept answer.Cut (r .active) ctx routes)))
 
 unfoldable pub setRestore : Settings → ℕ → List ℕ → List ℕ → Course End
 setRestore a code ctx routes =
@@ -72,8 +72,8 @@ setRestore a code ctx routes =
     (λ s.
     onSent s
     (setRestored a code next routes)
-    (λ later. ends (stays answer.InterfaceBroken 0 next routes))
-    (ends (stays answer.Cut 0 next routes)))
+    (λ later. ends (settingsKept answer.InterfaceBroken 0 next routes))
+    (ends (settingsKept answer.Cut 0 next routes)))
 
 unfoldable pub setSwitch : Settings → List ℕ → List ℕ → Course End
 setSwitch a ctx routes =
@@ -82,11 +82,11 @@ setSwitch a ctx routes =
     onSent s
     (setPublish a ctx routes)
     (λ code. setRestore a code ctx routes)
-    (ends (stays answer.Cut 0 ctx routes)))
+    (ends (settingsKept answer.Cut 0 ctx routes)))
 
 unfoldable pub setResume : Settings → ℕ → List ℕ → List ℕ → Course End
 setResume a code ctx routes =
-    then (resumeAll ctx (queueDcis (a .old))) (λ r. ends (stays (configureFailed code (r .sent)) (r .active) ctx routes))
+    then (resumeStoppedEndpoints ctx (queueDcis (a .old))) (λ r. ends (settingsKept (configureFailed code (r .sent)) (r .active) ctx routes))
 
 unfoldable pub setConfigure : Settings → List ℕ → List ℕ → Course End
 setConfigure a ctx routes =
@@ -96,17 +96,17 @@ setConfigure a ctx routes =
     onSent s
     (setSwitch a next routes)
     (λ code. setResume a code next routes)
-    (ends (stays answer.Cut 0 next routes)))
+    (ends (settingsKept answer.Cut 0 next routes)))
 
 -- Every failed stop breaks the interfaces.
 unfoldable pub setCourse : Settings → List ℕ → List ℕ → Course End
 setCourse a ctx routes =
-    then (stopAll ctx (queueDcis (a .old)))
+    then (stopEndpoints ctx (queueDcis (a .old)))
     (λ r.
     onSent (r .sent)
     (setConfigure a ctx routes)
-    (λ code. ends (stays answer.InterfaceBroken (r .active) ctx routes))
-    (ends (stays answer.Cut (r .active) ctx routes)))
+    (λ code. ends (settingsKept answer.InterfaceBroken (r .active) ctx routes))
+    (ends (settingsKept answer.Cut (r .active) ctx routes)))
 
 -- The same from the code's arrays, where the settings are those of a list.
 abbrev pub settingsOf : SettingsArgs → List ℕ → Settings

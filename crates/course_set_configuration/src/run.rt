@@ -3,7 +3,7 @@ use super::held;
 use answer::Answer;
 use command::Command;
 use command::Sent;
-use course_steps::Ended;
+use course_steps::CourseEnd;
 use def::SlotId;
 use record_endpoint::Queues;
 use record_settings::HELD_ROOM;
@@ -16,7 +16,7 @@ ghost use Rattle.record_settings.specs.Held.{HELD-ROOM};
 ghost use Rattle.record_endpoint.specs.Order.{PLACES};
 ghost use Rattle.answer.specs.declared.Answer.the-variants as answer;
 ghost use Rattle.command.specs.Course.{onSent, played};
-ghost use Rattle.course_steps.specs.Arrays.{leaves, Room};
+ghost use Rattle.course_steps.specs.Arrays.{courseLeaves, Room};
 ghost use Rattle.course_set_configuration.specs.Parts.{resumed};
 ghost use Rattle.course_set_configuration.specs.SetConfiguration.{settingsOf, setPublish, setRestore, setConfigure, setCourse};
 
@@ -41,19 +41,19 @@ pub fn run_set_configuration(
     n: usize,
     a: SettingsArgs,
     list: &[u32],
-) -> Ended
+) -> CourseEnd
     requires { ⌜ Room (a .spacing) (length (now ctx)) (a .old) (a .old) ⌝ }
     requires { ⌜ a .held ≤ HELD-ROOM ⌝ }
     requires { ⌜ n + 2 * a .old .count + 3 ≤ length (now log) ⌝ }
-    ensures { λ r. ⌜ leaves r (now (ctx .exit)) (now (routes .exit)) (now (log .exit)) ≡ played (now (outcomes .entry)) n (setCourse (settingsOf a (now (list .entry))) (now (ctx .entry)) (now (routes .entry))) (now (log .entry)) ⌝ }
+    ensures { λ r. ⌜ courseLeaves r (now (ctx .exit)) (now (routes .exit)) (now (log .exit)) ≡ played (now (outcomes .entry)) n (setCourse (settingsOf a (now (list .entry))) (now (ctx .entry)) (now (routes .entry))) (now (log .entry)) ⌝ }
 {
-    let stop = course_steps::stop_queues(log, outcomes, n, a.old);
+    let stop = course_steps::stop_endpoints(log, outcomes, n, a.old);
     let s = stop.sent;
     let m = stop.count;
     match s {
         Sent::Done => configure(ctx, routes, log, outcomes, m, a, list),
-        Sent::Failed(_) => course_steps::stays(Answer::InterfaceBroken, m, stop.active),
-        Sent::Cut => course_steps::stays(Answer::Cut, m, stop.active),
+        Sent::Failed(_) => course_steps::settings_kept(Answer::InterfaceBroken, m, stop.active),
+        Sent::Cut => course_steps::settings_kept(Answer::Cut, m, stop.active),
     }
 }
 
@@ -66,10 +66,10 @@ fn configure(
     n: usize,
     a: SettingsArgs,
     list: &[u32],
-) -> Ended
+) -> CourseEnd
     requires { ⌜ Room (a .spacing) (length (now ctx)) (a .old) (a .old) ⌝ }
     requires { ⌜ (a .held ≤ HELD-ROOM) × (n + a .old .count + 3 ≤ length (now log)) ⌝ }
-    ensures { λ r. ⌜ leaves r (now (ctx .exit)) (now (routes .exit)) (now (log .exit)) ≡ played (now (outcomes .entry)) n (setConfigure (settingsOf a (now (list .entry))) (now (ctx .entry)) (now (routes .entry))) (now (log .entry)) ⌝ }
+    ensures { λ r. ⌜ courseLeaves r (now (ctx .exit)) (now (routes .exit)) (now (log .exit)) ≡ played (now (outcomes .entry)) n (setConfigure (settingsOf a (now (list .entry))) (now (ctx .entry)) (now (routes .entry))) (now (log .entry)) ⌝ }
 {
     held::prepare_drop(ctx, a, list);
     let dropped = command::send(log, outcomes, n, Command::Configure);
@@ -81,7 +81,7 @@ fn configure(
             return resume(log, outcomes, next, a.old, failed, failed);
         }
         Sent::Cut => {
-            return course_steps::stays(Answer::Cut, next, 0);
+            return course_steps::settings_kept(Answer::Cut, next, 0);
         }
     }
     let switched = command::send(log, outcomes, next, Command::SetConfiguration(a.value));
@@ -92,7 +92,7 @@ fn configure(
             return restore(ctx, log, outcomes, last, a, list, code);
         }
         Sent::Cut => {
-            return course_steps::stays(Answer::Cut, last, 0);
+            return course_steps::settings_kept(Answer::Cut, last, 0);
         }
     }
     publish(ctx, routes, log, outcomes, last, a)
@@ -117,14 +117,14 @@ fn resume(
     q: Queues,
     done: Answer,
     failed: Answer,
-) -> Ended
+) -> CourseEnd
     requires { ⌜ (q .count ≤ PLACES) × (n + q .count ≤ length (now log)) ⌝ }
-    ensures { λ r. ⌜ ((ctx routes : List ℕ) → leaves r ctx routes (now (log .exit)) ≡ played (now (outcomes .entry)) n (resumed q done failed ctx routes) (now (log .entry))) ⌝ }
+    ensures { λ r. ⌜ ((ctx routes : List ℕ) → courseLeaves r ctx routes (now (log .exit)) ≡ played (now (outcomes .entry)) n (resumed q done failed ctx routes) (now (log .entry))) ⌝ }
 {
-    let back = course_steps::resume_queues(log, outcomes, n, q);
+    let back = course_steps::resume_stopped_endpoints(log, outcomes, n, q);
     let s = back.sent;
     let answer = answer_after(s, done, failed);
-    course_steps::stays(answer, back.count, back.active)
+    course_steps::settings_kept(answer, back.count, back.active)
 }
 
 // After a failed SetConfiguration the endpoints are added again and resumed; the answer is its code.
@@ -136,11 +136,11 @@ fn restore(
     a: SettingsArgs,
     list: &[u32],
     code: u8,
-) -> Ended
+) -> CourseEnd
     requires { ⌜ Room (a .spacing) (length (now ctx)) (a .old) (a .old) ⌝ }
     requires { ⌜ a .held ≤ HELD-ROOM ⌝ }
     requires { ⌜ n + a .old .count + 1 ≤ length (now log) ⌝ }
-    ensures { λ r. ⌜ ((routes : List ℕ) → leaves r (now (ctx .exit)) routes (now (log .exit)) ≡ played (now (outcomes .entry)) n (setRestore (settingsOf a (now (list .entry))) code (now (ctx .entry)) routes) (now (log .entry))) ⌝ }
+    ensures { λ r. ⌜ ((routes : List ℕ) → courseLeaves r (now (ctx .exit)) routes (now (log .exit)) ≡ played (now (outcomes .entry)) n (setRestore (settingsOf a (now (list .entry))) code (now (ctx .entry)) routes) (now (log .entry))) ⌝ }
 {
     held::prepare_restore(ctx, a, list);
     let s = command::send(log, outcomes, n, Command::Configure);
@@ -148,10 +148,10 @@ fn restore(
     match s {
         Sent::Done => {}
         Sent::Failed(_) => {
-            return course_steps::stays(Answer::InterfaceBroken, next, 0);
+            return course_steps::settings_kept(Answer::InterfaceBroken, next, 0);
         }
         Sent::Cut => {
-            return course_steps::stays(Answer::Cut, next, 0);
+            return course_steps::settings_kept(Answer::Cut, next, 0);
         }
     }
     resume(
@@ -172,21 +172,21 @@ fn publish(
     outcomes: &[u8],
     n: usize,
     a: SettingsArgs,
-) -> Ended
+) -> CourseEnd
     requires { ⌜ Room (a .spacing) (length (now ctx)) (a .old) (a .old) ⌝ }
     requires { ⌜ n + 1 ≤ length (now log) ⌝ }
-    ensures { λ r. ⌜ ((list : List ℕ) → leaves r (now (ctx .exit)) (now (routes .exit)) (now (log .exit)) ≡ played (now (outcomes .entry)) n (setPublish (settingsOf a list) (now (ctx .entry)) (now (routes .entry))) (now (log .entry))) ⌝ }
+    ensures { λ r. ⌜ ((list : List ℕ) → courseLeaves r (now (ctx .exit)) (now (routes .exit)) (now (log .exit)) ≡ played (now (outcomes .entry)) n (setPublish (settingsOf a list) (now (ctx .entry)) (now (routes .entry))) (now (log .entry))) ⌝ }
 {
     let none = course_steps::no_queues();
     let r = course_steps::publish_endpoint_routes(routes, a.slot, a.old, none);
     match r {
         Replaced::Done => {}
         _ => {
-            return course_steps::stays(Answer::InvalidEndpoint, n, 0);
+            return course_steps::settings_kept(Answer::InvalidEndpoint, n, 0);
         }
     }
     context_writer::configuration_context(ctx, a.value);
     let s = command::send(log, outcomes, n, Command::Evaluate);
     let answer = answer_after(s, Answer::Accepted, Answer::InterfaceBroken);
-    course_steps::moves(answer, n + 1)
+    course_steps::settings_moved(answer, n + 1)
 }

@@ -11,12 +11,12 @@ use Rattle.laws.proofs.Computed.{all-below}
 use Rattle.command.specs.declared.Sent.the-variants.{Done}
 use Rattle.command.specs.declared.Swept.{Swept}
 use Rattle.command.specs.Course.{played}
-use Rattle.command.specs.Sweep.{stopAll, resumeAll, SweptAs}
+use Rattle.command.specs.Sweep.{stopEndpoints, resumeStoppedEndpoints, SweptAs}
 use Rattle.command.proofs.Sweeps.{stop-done-count, resume-count}
 use Rattle.context.specs.Place.{Spaced}
 use Rattle.context.specs.Steps.{highestDci}
 use Rattle.record_endpoint.specs.declared.pending.Queues.{Queues}
-use Rattle.record_endpoint.specs.Cells.{gathered, queuesOf, queueDcis, queueRings, QueuesAs}
+use Rattle.record_endpoint.specs.EndpointMap.{gathered, queuesOf, queueDcis, queueRings, QueuesAs}
 use Rattle.record_endpoint.specs.Order.{dciAt}
 use Rattle.transfer.specs.Routes.{Queue, queues}
 use Rattle.course_steps.specs.Arrays.{dcisIn, ringsIn, queuesIn, Room}
@@ -66,11 +66,11 @@ module _ (q : Queues) (by : List ℕ) (a : QueuesAs q by) where
 
 module _ (q : Queues) (o ctx log left : List ℕ) (n : ℕ) (r : Swept) where
   -- the count after the queues' endpoints are stopped
-  pub stopped-count : SweptAs r left (played o n (stopAll ctx (dcisIn q)) log) → r .sent ≡ Done → r .count ≤ n + q .count
+  pub stopped-count : SweptAs r left (played o n (stopEndpoints ctx (dcisIn q)) log) → r .sent ≡ Done → r .count ≤ n + q .count
   stopped-count a e = omega (arith, stop-done-count o ctx (dcisIn q) log left n r a e, few-in q)
 
   -- and after they are resumed
-  pub resumed-count : SweptAs r left (played o n (resumeAll ctx (dcisIn q)) log) → r .count ≤ n + q .count
+  pub resumed-count : SweptAs r left (played o n (resumeStoppedEndpoints ctx (dcisIn q)) log) → r .count ≤ n + q .count
   resumed-count a = omega (arith, resume-count o ctx (dcisIn q) log left n r a, few-in q)
 
 -- the Dci of each place is at most 31

@@ -15,20 +15,20 @@ use Rattle.command.specs.declared.Sent.{Sent}
 use Rattle.command.specs.declared.Sent.the-variants.{Done, Failed, Cut}
 use Rattle.command.specs.Command.{commandWord, outcomeAt}
 use Rattle.command.specs.Course.{ends, onSent, played}
-use Rattle.command.specs.Sweep.{swept, resumeFrom, resumeAll, undoStops, stopFrom, stopAll}
+use Rattle.command.specs.Sweep.{swept, resumeFrom, resumeStoppedEndpoints, undoStops, stopFrom, stopEndpoints}
 use Rattle.command.proofs.Laws.{played-ends, played-sends}
 use Rattle.record_endpoint.specs.declared.pending.Queues.{Queues}
 use Rattle.course_steps.specs.Arrays.{dcisIn}
 
 module _ (q : Queues) (o log ctx : List ℕ) (n : ℕ) where
   -- the resuming loop's start
-  pub resume-start : played o n (resumeAll ctx (dcisIn q)) log ≡ played o (n + 0) (resumeFrom ctx 0 (drop 0 (dcisIn q))) log
-  unfolding resumeAll
+  pub resume-start : played o n (resumeStoppedEndpoints ctx (dcisIn q)) log ≡ played o (n + 0) (resumeFrom ctx 0 (drop 0 (dcisIn q))) log
+  unfolding resumeStoppedEndpoints
   resume-start = rw add-zero
 
   -- the stopping loop's start
-  pub stop-start : played o n (stopAll ctx (dcisIn q)) log ≡ played o (n + 0) (stopFrom ctx (take 0 (dcisIn q)) (drop 0 (dcisIn q))) log
-  unfolding stopAll
+  pub stop-start : played o n (stopEndpoints ctx (dcisIn q)) log ≡ played o (n + 0) (stopFrom ctx (take 0 (dcisIn q)) (drop 0 (dcisIn q))) log
+  unfolding stopEndpoints
   stop-start = rw add-zero
 
 module _ (q : Queues) (o log log′ ctx : List ℕ) (n i : ℕ) (s : Sent) (room : length (q .dcis) ≡ 30) (few : q .count ≤ 30) (h : i < q .count) (es : s ≡ outcomeAt o (n + i)) where

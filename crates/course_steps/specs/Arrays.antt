@@ -10,7 +10,7 @@ use Rattle.record_endpoint.specs.Order.{PLACES}
 use Rattle.record_endpoint.specs.declared.pending.Queues.{Queues}
 use Rattle.transfer.specs.Routes.{Queue, queues}
 use Rattle.course_steps.specs.End.{End}
-use Rattle.course_steps.specs.declared.Ended.{Ended}
+use Rattle.course_steps.specs.declared.CourseEnd.{CourseEnd}
 
 unfoldable pub dcisIn : Queues → List ℕ
 dcisIn q = take (q .count) (q .dcis)
@@ -22,8 +22,8 @@ unfoldable pub queuesIn : Queues → List Queue
 queuesIn q = queues (dcisIn q) (ringsIn q)
 
 -- What a phase leaves, as a course's end says it.
-abbrev pub leaves : Ended → List ℕ → List ℕ → List ℕ → Played End
-leaves r ctx routes log =
+abbrev pub courseLeaves : CourseEnd → List ℕ → List ℕ → List ℕ → Played End
+courseLeaves r ctx routes log =
     record {
       end = record { answer = r .answer; active = r .active; moved = r .moved; ctx = ctx; routes = routes };
       count = r .count;

@@ -16,11 +16,11 @@ pub record End : Type 0 where
   pub ctx : List ℕ
   pub routes : List ℕ
 
-abbrev pub stays : Answer → ℕ → List ℕ → List ℕ → End
-stays a n ctx routes = record { answer = a; active = n; moved = false; ctx = ctx; routes = routes }
+abbrev pub settingsKept : Answer → ℕ → List ℕ → List ℕ → End
+settingsKept a n ctx routes = record { answer = a; active = n; moved = false; ctx = ctx; routes = routes }
 
-abbrev pub moves : Answer → List ℕ → List ℕ → End
-moves a ctx routes = record { answer = a; active = 0; moved = true; ctx = ctx; routes = routes }
+abbrev pub settingsMoved : Answer → List ℕ → List ℕ → End
+settingsMoved a ctx routes = record { answer = a; active = 0; moved = true; ctx = ctx; routes = routes }
 
 -- The answer of a failed or cut command.
 unfoldable pub answerOf : Sent → Answer

@@ -14,7 +14,7 @@ ghost use Prim.Native.Nat.{ℕ, _+_, _*_, _<_, _≤_};
 ghost use lib.ListN.{length};
 ghost use Rattle.record_endpoint.specs.Order.{PLACES};
 ghost use Rattle.command.specs.Course.{played};
-ghost use Rattle.command.specs.Sweep.{stopAll, resumeAll, SweptAs};
+ghost use Rattle.command.specs.Sweep.{stopEndpoints, resumeStoppedEndpoints, SweptAs};
 ghost use Rattle.context.specs.Place.{written, Spaced};
 ghost use Rattle.context.specs.Steps.{configureWrites, highestDci};
 ghost use Rattle.transfer.specs.Routes.{queues, replaced, withReplaced};
@@ -22,7 +22,7 @@ ghost use Rattle.course_steps.specs.End.{answerOf, configureFailed};
 ghost use Rattle.course_steps.specs.Arrays.{dcisIn, queuesIn};
 
 // How a course ended: of the old endpoints, by rising address, how many are active, and whether they are gone.
-pub struct Ended {
+pub struct CourseEnd {
     pub answer: Answer,
     pub count: usize,
     pub active: usize,
@@ -30,9 +30,9 @@ pub struct Ended {
 }
 
 // Resumes the endpoints of some queues in order, until one fails.
-pub fn resume_queues(log: &mut [u32], outcomes: &[u8], n: usize, q: Queues) -> Swept
+pub fn resume_stopped_endpoints(log: &mut [u32], outcomes: &[u8], n: usize, q: Queues) -> Swept
     requires { ⌜ (q .count ≤ PLACES) × (n + q .count ≤ length (now log)) ⌝ }
-    ensures { λ r. ⌜ ((ctx : List ℕ) → SweptAs r (now (log .exit)) (played (now (outcomes .entry)) n (resumeAll ctx (dcisIn q)) (now (log .entry)))) ⌝ }
+    ensures { λ r. ⌜ ((ctx : List ℕ) → SweptAs r (now (log .exit)) (played (now (outcomes .entry)) n (resumeStoppedEndpoints ctx (dcisIn q)) (now (log .entry)))) ⌝ }
 {
     let mut i = 0;
     while i < q.count {
@@ -59,9 +59,9 @@ pub fn resume_queues(log: &mut [u32], outcomes: &[u8], n: usize, q: Queues) -> S
 }
 
 // Stops the endpoints of some queues in order; where one fails, those already stopped are resumed.
-pub fn stop_queues(log: &mut [u32], outcomes: &[u8], n: usize, q: Queues) -> Swept
+pub fn stop_endpoints(log: &mut [u32], outcomes: &[u8], n: usize, q: Queues) -> Swept
     requires { ⌜ (q .count ≤ PLACES) × (n + 2 * q .count ≤ length (now log)) ⌝ }
-    ensures { λ r. ⌜ ((ctx : List ℕ) → SweptAs r (now (log .exit)) (played (now (outcomes .entry)) n (stopAll ctx (dcisIn q)) (now (log .entry)))) ⌝ }
+    ensures { λ r. ⌜ ((ctx : List ℕ) → SweptAs r (now (log .exit)) (played (now (outcomes .entry)) n (stopEndpoints ctx (dcisIn q)) (now (log .entry)))) ⌝ }
 {
     let mut i = 0;
     while i < q.count {
@@ -73,7 +73,7 @@ pub fn stop_queues(log: &mut [u32], outcomes: &[u8], n: usize, q: Queues) -> Swe
             Sent::Failed(code) => {
                 let mut stopped = q;
                 stopped.count = i;
-                let back = resume_queues(log, outcomes, at + 1, stopped);
+                let back = resume_stopped_endpoints(log, outcomes, at + 1, stopped);
                 let resumed = back.sent;
                 return Swept {
                     sent: command::or_code(code, resumed),
@@ -185,10 +185,10 @@ pub fn configure_failed(code: u8, s: Sent) -> Answer
 }
 
 // An end that leaves the routes and the held settings as they were.
-pub fn stays(answer: Answer, count: usize, active: usize) -> Ended
+pub fn settings_kept(answer: Answer, count: usize, active: usize) -> CourseEnd
     ensures { λ r. ⌜ r ≡ record { answer = answer; count = count; active = active; moved = false } ⌝ }
 {
-    Ended {
+    CourseEnd {
         answer: answer,
         count: count,
         active: active,
@@ -197,10 +197,10 @@ pub fn stays(answer: Answer, count: usize, active: usize) -> Ended
 }
 
 // An end after which the old endpoints are gone.
-pub fn moves(answer: Answer, count: usize) -> Ended
+pub fn settings_moved(answer: Answer, count: usize) -> CourseEnd
     ensures { λ r. ⌜ r ≡ record { answer = answer; count = count; active = 0; moved = true } ⌝ }
 {
-    Ended {
+    CourseEnd {
         answer: answer,
         count: count,
         active: 0,

@@ -14,15 +14,15 @@ use Rattle.answer.specs.declared.Check.the-variants.{Pass}
 use Rattle.descriptor_list.specs.declared.Found.the-variants.{Endpoints}
 use Rattle.descriptor_list.specs.Lookup.{findEndpoints}
 use Rattle.command.specs.Course.{played}
-use Rattle.record_endpoint.specs.declared.cells.Cells.{Cells}
-use Rattle.record_endpoint.specs.declared.cells.Owner.the-variants.{Interface}
+use Rattle.record_endpoint.specs.declared.endpoint_map.EndpointMap.{EndpointMap}
+use Rattle.record_endpoint.specs.declared.endpoint_map.Owner.the-variants.{Interface}
 use Rattle.record_endpoint.specs.declared.pending.Queues.{Queues}
-use Rattle.record_endpoint.specs.Cells.{ownedRings, claimedCells, withActive, QueuesAs}
+use Rattle.record_endpoint.specs.EndpointMap.{ownedRings, claimedEndpoints, withActive, QueuesAs}
 use Rattle.record_settings.specs.Held.{isHeld, alternateOf, foundWords, settingWords, withSetting}
 use Rattle.record_checks.specs.declared.offer.Checked.{Checked}
 use Rattle.record_checks.specs.declared.offer.Checked.the-variants as checked
 use Rattle.record_checks.specs.Offer.{offerCheck, checkOf, CheckedAs}
-use Rattle.course_steps.specs.declared.Ended.{Ended}
+use Rattle.course_steps.specs.declared.CourseEnd.{CourseEnd}
 use Rattle.course_steps.specs.Arrays as arrays
 use Rattle.course_steps.proofs.Laws.{queues-as}
 use Rattle.course_claim.specs.declared.ClaimArgs.{ClaimArgs}
@@ -30,7 +30,7 @@ use Rattle.course_claim.specs.declared.ClaimPlan.{ClaimPlan}
 use Rattle.course_claim.specs.Claim.{claimOf, claimCourse}
 use Rattle.device.specs.declared.record.Device.{Device}
 use Rattle.device.specs.declared.record.Called.{Called}
-use Rattle.device.specs.Device.{listOf, cellsIn, heldOf, withCells, withHeld}
+use Rattle.device.specs.Device.{listOf, endpointMapIn, heldOf, withEndpoints, withHeld}
 use Rattle.device.specs.Left.{leaves, ended}
 use Rattle.device.specs.Check.{recordCheck}
 use Rattle.device.specs.Claim.{claimCheck, pendingOf, argsIn, claimIn, quarantines, claimRecord, claimRun}
@@ -71,7 +71,7 @@ module _ (d : Device) (i alt : ℕ) (rings : List ℕ) where
 
     -- the call's own, after them: a usable record has no quarantined ring
     pub claim-checked :
-        (c : Cells) (r : Checked) → x ≡ Pass → c ≡ cellsIn d →
+        (c : EndpointMap) (r : Checked) → x ≡ Pass → c ≡ endpointMapIn d →
         CheckedAs r (offerCheck (listOf d) i alt c rings (d .control) [] Pass) (findEndpoints (listOf d) i alt) →
         CheckedAs r (recordCheck d ctx routes log (claimCheck d i alt rings Pass)) (findEndpoints (listOf d) i alt)
     unfolding claimCheck
@@ -85,7 +85,7 @@ module _ (d : Device) (i alt : ℕ) (rings : List ℕ) where
 
   -- what the course of a claim works on, in the code's arrays
   claim-of :
-      (a : ClaimPlan) (c : Cells) (by old new : List ℕ) → c ≡ cellsIn d → by ≡ pendingOf d i alt rings →
+      (a : ClaimPlan) (c : EndpointMap) (by old new : List ℕ) → c ≡ endpointMapIn d → by ≡ pendingOf d i alt rings →
       old ≡ cond (isHeld i (heldOf d)) (settingWords (listOf d) i (alternateOf i (heldOf d))) [] →
       new ≡ settingWords (listOf d) i alt →
       a .args ≡ argsIn d i alt → QueuesAs (a .old) (ownedRings (Interface i) c) → QueuesAs (a .pending) by →
@@ -98,26 +98,26 @@ module _ (d : Device) (i alt : ℕ) (rings : List ℕ) where
 
   -- what a claim leaves is what the end of its course makes
   pub claim-left :
-      (a : ClaimPlan) (c : Cells) (by old new o ctx routes log ctx′ routes′ log′ : List ℕ) (e : Ended) (r : Called) → c ≡ cellsIn d →
+      (a : ClaimPlan) (c : EndpointMap) (by old new o ctx routes log ctx′ routes′ log′ : List ℕ) (e : CourseEnd) (r : Called) → c ≡ endpointMapIn d →
       by ≡ pendingOf d i alt rings →
       old ≡ cond (isHeld i (heldOf d)) (settingWords (listOf d) i (alternateOf i (heldOf d))) [] →
       new ≡ settingWords (listOf d) i alt →
       a .args ≡ argsIn d i alt → QueuesAs (a .old) (ownedRings (Interface i) c) → QueuesAs (a .pending) by →
       QueuesAs (a .all) (c .rings) →
-      arrays.leaves e ctx′ routes′ log′ ≡ played o 0 (claimCourse (claimOf a old new) ctx routes) log →
-      leaves r ctx′ routes′ log′ ≡ ended (claimRecord d i alt rings) (arrays.leaves e ctx′ routes′ log′) →
+      arrays.courseLeaves e ctx′ routes′ log′ ≡ played o 0 (claimCourse (claimOf a old new) ctx routes) log →
+      leaves r ctx′ routes′ log′ ≡ ended (claimRecord d i alt rings) (arrays.courseLeaves e ctx′ routes′ log′) →
       leaves r ctx′ routes′ log′ ≡ claimRun d ctx routes log o i alt rings
   claim-left a c by old new o ctx routes log ctx′ routes′ log′ e r h q eo en g x y z run m =
       m ∙ sym (rw (← claim-of a c by old new h q eo en g x y z, ← run))
 
   -- the record that the end of the course makes
   pub claim-made :
-      (y : Device) (c m : Cells) (q : Queues) (e : Ended) (by : List ℕ) (r : Called) → m ≡ claimedCells i by c →
+      (y : Device) (c m : EndpointMap) (q : Queues) (e : CourseEnd) (by : List ℕ) (r : Called) → m ≡ claimedEndpoints i by c →
       y ≡ cond (e .moved) d (quarantines (e .answer) (take (q .count) (q .rings)) d) →
       r ≡ handed e
-      (cond (e .moved) (withHeld (withSetting i alt (heldOf d)) (withCells m y)) (withCells (withActive (Interface i) (e .active) c) y)) →
-      c ≡ cellsIn d → QueuesAs q by → by ≡ pendingOf d i alt rings → (ctx routes log : List ℕ) →
-      leaves r ctx routes log ≡ ended (claimRecord d i alt rings) (arrays.leaves e ctx routes log)
+      (cond (e .moved) (withHeld (withSetting i alt (heldOf d)) (withEndpoints m y)) (withEndpoints (withActive (Interface i) (e .active) c) y)) →
+      c ≡ endpointMapIn d → QueuesAs q by → by ≡ pendingOf d i alt rings → (ctx routes log : List ℕ) →
+      leaves r ctx routes log ≡ ended (claimRecord d i alt rings) (arrays.courseLeaves e ctx routes log)
   unfolding claimRecord ended
   claim-made y c m q e by r p ey er k s h ctx routes log =
       let z = else-quarantined (e .moved) (e .answer) d y (withSetting i alt (heldOf d)) m (withActive (Interface i) (e .active) c) _ ey in

@@ -19,8 +19,8 @@ use Rattle.record_settings.specs.Held.{settingsSound}
 use Rattle.record_settings.specs.Match.{endpointsMatch}
 use Rattle.record_checks.specs.Rings.{ringsFit}
 use Rattle.device.specs.declared.record.Device.{Device}
-use Rattle.device.specs.Device.{listOf, cellsIn, heldOf, quarantinedOf, unusable}
-use Rattle.device.specs.Sound.{placeSound, countsFit, listsSound, allRings, ringsSound, sound}
+use Rattle.device.specs.Device.{listOf, endpointMapIn, heldOf, quarantinedOf, unusable}
+use Rattle.device.specs.Sound.{slotSound, countsFit, listsSound, allRings, ringsSound, sound}
 
 pub record PlaceFacts (d : Device) : Type 0 where
   pub slot-low : 1 ≤ d .slot .0
@@ -49,7 +49,7 @@ pub record SoundFacts (d : Device) : Type 0 where
   pub list : validList (listOf d) ≡ true
   pub settings : settingsSound (listOf d) (heldOf d) ≡ true
   pub addresses-fit : addressesFit (addresses (take (d .«ep_count») (d .eps))) ≡ true
-  pub endpoints : endpointsMatch (listOf d) (heldOf d) (cellsIn d) ≡ true
+  pub endpoints : endpointsMatch (listOf d) (heldOf d) (endpointMapIn d) ≡ true
   pub rings : RingFacts d
 
 -- both sides of a conjunction
@@ -62,8 +62,8 @@ spaced s (inl e) = omega arith
 spaced s (inr e) = omega arith
 
 -- what a sound place says
-pub place-facts : (d : Device) → placeSound d ≡ true → PlaceFacts d
-unfolding placeSound
+pub place-facts : (d : Device) → slotSound d ≡ true → PlaceFacts d
+unfolding slotSound
 place-facts d e =
     let s = d .slot .0 in
     let w = d .spacing in
@@ -129,9 +129,9 @@ sound-facts d e =
     let list = validList (listOf d) in
     let settings = settingsSound (listOf d) (heldOf d) in
     let fit = addressesFit (addresses (take (d .«ep_count») (d .eps))) in
-    let match = endpointsMatch (listOf d) (heldOf d) (cellsIn d) in
+    let match = endpointsMatch (listOf d) (heldOf d) (endpointMapIn d) in
     let rings = ringsSound d in
-    let e1 = both (placeSound d) (countsFit d && (listsSound d && rings)) e in
+    let e1 = both (slotSound d) (countsFit d && (listsSound d && rings)) e in
     let e2 = both (countsFit d) (listsSound d && rings) (e1 .1) in
     let e3 = both (listsSound d) rings (e2 .1) in
     let e4 = both list (settings && (fit && match)) (e3 .0) in

@@ -16,10 +16,10 @@ use Rattle.command.specs.Course.{Played}
 use Rattle.descriptor_list.specs.Lookup.{findEndpoints}
 use Rattle.record_ring.specs.Rings.{offerOk}
 use Rattle.record_ring.proofs.Laws.{ring-at, ring-nonzero, Offered, offered}
-use Rattle.record_endpoint.specs.declared.cells.Cells.{Cells}
-use Rattle.record_endpoint.specs.declared.cells.Owner.{Owner}
-use Rattle.record_endpoint.specs.declared.cells.Owner.the-variants.{Any, Interface}
-use Rattle.record_endpoint.specs.Cells.{noCells, queuesOf, queueRings, pendingRings, claimedCells, withActive}
+use Rattle.record_endpoint.specs.declared.endpoint_map.EndpointMap.{EndpointMap}
+use Rattle.record_endpoint.specs.declared.endpoint_map.Owner.{Owner}
+use Rattle.record_endpoint.specs.declared.endpoint_map.Owner.the-variants.{Any, Interface}
+use Rattle.record_endpoint.specs.EndpointMap.{noEndpoints, queuesOf, queueRings, pendingRings, claimedEndpoints, withActive}
 use Rattle.record_endpoint.proofs.Laws.{active-rings, active-owners}
 use Rattle.record_endpoint.proofs.Clean.{clean-none, clean-claimed}
 use Rattle.record_settings.specs.Held.{Held, withSetting, withoutSetting, settingWords, isFound}
@@ -28,7 +28,7 @@ use Rattle.record_settings.proofs.Laws.{sound-with, sound-without, sound-none, 
 use Rattle.course_steps.specs.End.{End}
 use Rattle.record_checks.proofs.Laws.{apart-none, apart-offered, offered-live, apart-claimed, apart-released}
 use Rattle.device.specs.declared.record.Device.{Device}
-use Rattle.device.specs.Device.{listOf, cellsIn, heldOf, quarantinedOf, withCells, withHeld, withConfiguration, unusable}
+use Rattle.device.specs.Device.{listOf, endpointMapIn, heldOf, quarantinedOf, withEndpoints, withHeld, withConfiguration, unusable}
 use Rattle.device.specs.Sound.{sound}
 use Rattle.device.specs.Left.{refused, marked, ended}
 use Rattle.device.specs.Check.{recordCheck, hubCheck}
@@ -45,27 +45,27 @@ use Rattle.device.proofs.Made.{Made, sound-clean, sound-apart, marked-m
 -- What a passed check of a claim says.
 pub record ClaimPassed (d : Device) (i a : ℕ) (rings : List ℕ) : Type 0 where
   pub found : isFound (findEndpoints (listOf d) i a) ≡ true
-  pub free : addressesFree (settingWords (listOf d) i a) i (cellsIn d) ≡ true
-  pub offer : Offered (length (settingWords (listOf d) i a)) rings ((cellsIn d) .rings) (d .control) (quarantinedOf d)
+  pub free : addressesFree (settingWords (listOf d) i a) i (endpointMapIn d) ≡ true
+  pub offer : Offered (length (settingWords (listOf d) i a)) rings ((endpointMapIn d) .rings) (d .control) (quarantinedOf d)
 
 pub claim-passed : (d : Device) (i a : ℕ) (rings : List ℕ) → claimCheck d i a rings Pass ≡ Pass → ClaimPassed d i a rings
 unfolding claimCheck
 claim-passed d i a rings e =
     let words = settingWords (listOf d) i a in
     let f : (isFound (findEndpoints (listOf d) i a) ≡ true) × _ = pass-if _ _ _ e in
-    let g : (addressesFree words i (cellsIn d) ≡ true) × _ = pass-if _ _ _ (f .1) in
-    let h : (offerOk (length words) rings ((cellsIn d) .rings) (d .control) (quarantinedOf d) ≡ true) × _ = pass-if _ _ _ (g .1) in
+    let g : (addressesFree words i (endpointMapIn d) ≡ true) × _ = pass-if _ _ _ (f .1) in
+    let h : (offerOk (length words) rings ((endpointMapIn d) .rings) (d .control) (quarantinedOf d) ≡ true) × _ = pass-if _ _ _ (g .1) in
     record {
       found = f .0;
       free = g .0;
-      offer = offered (length words) rings ((cellsIn d) .rings) (d .control) (quarantinedOf d) (h .0);
+      offer = offered (length words) rings ((endpointMapIn d) .rings) (d .control) (quarantinedOf d) (h .0);
     }
 
 -- A claim that moves its settings.
 pub claim-moves :
     (d : Device) (ctx routes log i a : ℕ) (rings : List ℕ) → recordCheck d ctx routes log (claimCheck d i a rings Pass) ≡ Pass →
     (e : End) → e .moved ≡ true →
-    Made d (claimRecord d i a rings e) (withSetting i a (heldOf d)) (claimedCells i (pendingOf d i a rings) (cellsIn d)) (isLost (e .answer))
+    Made d (claimRecord d i a rings e) (withSetting i a (heldOf d)) (claimedEndpoints i (pendingOf d i a rings) (endpointMapIn d)) (isLost (e .answer))
 unfolding claimRecord pendingOf
 claim-moves d ctx routes log i a rings k e m =
     let t = passed d ctx routes log (claimCheck d i a rings Pass) k in
@@ -77,24 +77,24 @@ claim-moves d ctx routes log i a rings k e m =
     let nonzero : (j : ℕ) → j < length words → getD rings j 0 ≡ 0 → ⊥ =
     λ j h. ring-nonzero (getD rings j 0) (ring-at rings (p .offer .ok) j (omega (arith, p .offer .counted))) in
     rw m
-    (held-made d (t .0 .usable) (t .0 .is-sound) (withSetting i a (heldOf d)) (claimedCells i pending (cellsIn d)) (e .answer)
-    (clean-claimed i pending (cellsIn d) clean)
+    (held-made d (t .0 .usable) (t .0 .is-sound) (withSetting i a (heldOf d)) (claimedEndpoints i pending (endpointMapIn d)) (e .answer)
+    (clean-claimed i pending (endpointMapIn d) clean)
     (sound-with (listOf d) (heldOf d) (f .settings) i a (p .found))
-    (match-claimed (listOf d) (heldOf d) i pending (cellsIn d) (f .settings) (f .endpoints) a (p .free)
+    (match-claimed (listOf d) (heldOf d) i pending (endpointMapIn d) (f .settings) (f .endpoints) a (p .free)
     (λ q h. pending-place words rings q h nonzero))
-    (apart-claimed i words rings (cellsIn d) (d .control) (quarantinedOf d) clean (p .offer) (sound-apart d (t .0 .is-sound))))
+    (apart-claimed i words rings (endpointMapIn d) (d .control) (quarantinedOf d) clean (p .offer) (sound-apart d (t .0 .is-sound))))
 
 -- A claim that does not.
 pub claim-stays :
     (d : Device) (ctx routes log i a : ℕ) (rings : List ℕ) → recordCheck d ctx routes log (claimCheck d i a rings Pass) ≡ Pass →
     (e : End) → e .moved ≡ false →
-    Made d (claimRecord d i a rings e) (heldOf d) (withActive (Interface i) (e .active) (cellsIn d)) (isLost (e .answer))
+    Made d (claimRecord d i a rings e) (heldOf d) (withActive (Interface i) (e .active) (endpointMapIn d)) (isLost (e .answer))
 unfolding claimRecord pendingOf
 claim-stays d ctx routes log i a rings k e m =
     let t = passed d ctx routes log (claimCheck d i a rings Pass) k in
     let o = claim-passed d i a rings (t .1) .offer in
     let words = settingWords (listOf d) i a in
-    let live = (cellsIn d) .rings in
+    let live = (endpointMapIn d) .rings in
     rw m
     (quarantined-made d (t .0 .usable) (t .0 .is-sound) (Interface i) (e .active) (pendingRings words rings)
     (apart-offered words rings live (d .control) (quarantinedOf d) o)
@@ -103,39 +103,39 @@ claim-stays d ctx routes log i a rings k e m =
 -- A release that moves its setting.
 pub release-moves :
     (d : Device) (ctx routes log i : ℕ) → recordCheck d ctx routes log (releaseCheck d i) ≡ Pass → (e : End) → e .moved ≡ true →
-    Made d (releaseRecord d i e) (withoutSetting i (heldOf d)) (claimedCells i (replicate 30 0) (cellsIn d)) (isLost (e .answer))
+    Made d (releaseRecord d i e) (withoutSetting i (heldOf d)) (claimedEndpoints i (replicate 30 0) (endpointMapIn d)) (isLost (e .answer))
 unfolding releaseRecord
 release-moves d ctx routes log i k e m =
     let t = passed d ctx routes log (releaseCheck d i) k in
     let f : SoundFacts d = t .0 .facts in
     rw m
-    (held-made d (t .0 .usable) (t .0 .is-sound) (withoutSetting i (heldOf d)) (claimedCells i (replicate 30 0) (cellsIn d)) (e .answer)
-    (clean-claimed i (replicate 30 0) (cellsIn d) (sound-clean d (t .0 .is-sound)))
+    (held-made d (t .0 .usable) (t .0 .is-sound) (withoutSetting i (heldOf d)) (claimedEndpoints i (replicate 30 0) (endpointMapIn d)) (e .answer)
+    (clean-claimed i (replicate 30 0) (endpointMapIn d) (sound-clean d (t .0 .is-sound)))
     (sound-without (listOf d) (heldOf d) (f .settings) i)
-    (match-released (listOf d) (heldOf d) i (replicate 30 0) (cellsIn d) (f .settings) (f .endpoints) (λ p h. getD-replicate 30 p 0 0 h))
-    (apart-released i (cellsIn d) (d .control) (sound-apart d (t .0 .is-sound))))
+    (match-released (listOf d) (heldOf d) i (replicate 30 0) (endpointMapIn d) (f .settings) (f .endpoints) (λ p h. getD-replicate 30 p 0 0 h))
+    (apart-released i (endpointMapIn d) (d .control) (sound-apart d (t .0 .is-sound))))
 
 -- A release that does not.
 pub release-stays :
     (d : Device) (ctx routes log i : ℕ) → recordCheck d ctx routes log (releaseCheck d i) ≡ Pass → (e : End) → e .moved ≡ false →
-    Made d (releaseRecord d i e) (heldOf d) (withActive (Interface i) (e .active) (cellsIn d)) (isLost (e .answer))
+    Made d (releaseRecord d i e) (heldOf d) (withActive (Interface i) (e .active) (endpointMapIn d)) (isLost (e .answer))
 unfolding releaseRecord
 release-stays d ctx routes log i k e m =
     let t = passed d ctx routes log (releaseCheck d i) k in
     rw m (active-made d (t .0 .usable) (t .0 .is-sound) (Interface i) (e .active) (e .answer))
 
 bare-made : (d : Device) → d .usable ≡ true → sound d ≡ true → (value : ℕ) (a : Answer) (b : Bool) →
-    Made d (marked a (cond b (withConfiguration value (withHeld [] (withCells noCells d))) (withHeld [] (withCells noCells d)))) [] noCells (isLost a)
-unfolding noCells
+    Made d (marked a (cond b (withConfiguration value (withHeld [] (withEndpoints noEndpoints d))) (withHeld [] (withEndpoints noEndpoints d)))) [] noEndpoints (isLost a)
+unfolding noEndpoints
 bare-made d u s value a true =
-    configured-made d u s value [] noCells a clean-none (sound-none (listOf d)) (match-none (listOf d)) (apart-none (d .control))
+    configured-made d u s value [] noEndpoints a clean-none (sound-none (listOf d)) (match-none (listOf d)) (apart-none (d .control))
 bare-made d u s value a false =
-    held-made d u s [] noCells a clean-none (sound-none (listOf d)) (match-none (listOf d)) (apart-none (d .control))
+    held-made d u s [] noEndpoints a clean-none (sound-none (listOf d)) (match-none (listOf d)) (apart-none (d .control))
 
 -- A set configuration that ends the held settings.
 pub set-moves :
     (d : Device) (ctx routes log value : ℕ) → recordCheck d ctx routes log Pass ≡ Pass → (e : End) → e .moved ≡ true →
-    Made d (setRecord d value e) [] noCells (isLost (e .answer))
+    Made d (setRecord d value e) [] noEndpoints (isLost (e .answer))
 unfolding setRecord bare
 set-moves d ctx routes log value k e m =
     let t = passed d ctx routes log Pass k in
@@ -144,7 +144,7 @@ set-moves d ctx routes log value k e m =
 -- One that does not.
 pub set-stays :
     (d : Device) (ctx routes log value : ℕ) → recordCheck d ctx routes log Pass ≡ Pass → (e : End) → e .moved ≡ false →
-    Made d (setRecord d value e) (heldOf d) (withActive Any (e .active) (cellsIn d)) (isLost (e .answer))
+    Made d (setRecord d value e) (heldOf d) (withActive Any (e .active) (endpointMapIn d)) (isLost (e .answer))
 unfolding setRecord
 set-stays d ctx routes log value k e m =
     let t = passed d ctx routes log Pass k in
@@ -152,11 +152,11 @@ set-stays d ctx routes log value k e m =
 
 -- A call that does not move settings keeps rings and owners.
 pub stays-rings :
-    {d e : Device} {hs : List Held} {lost : Bool} (who : Owner) (n : ℕ) → Made d e hs (withActive who n (cellsIn d)) lost →
-    ((cellsIn e) .rings ≡ (cellsIn d) .rings) × ((cellsIn e) .owners ≡ (cellsIn d) .owners)
+    {d e : Device} {hs : List Held} {lost : Bool} (who : Owner) (n : ℕ) → Made d e hs (withActive who n (endpointMapIn d)) lost →
+    ((endpointMapIn e) .rings ≡ (endpointMapIn d) .rings) × ((endpointMapIn e) .owners ≡ (endpointMapIn d) .owners)
 stays-rings {d} who n m = (
-  ap (λ (c : Cells). c .rings) (m .cells) ∙ active-rings who (cellsIn d) n,
-  ap (λ (c : Cells). c .owners) (m .cells) ∙ active-owners who (cellsIn d) n,
+  ap (λ (c : EndpointMap). c .rings) (m .endpoints) ∙ active-rings who (endpointMapIn d) n,
+  ap (λ (c : EndpointMap). c .owners) (m .endpoints) ∙ active-owners who (endpointMapIn d) n,
 )
 
 -- After 14 the pending rings of a claim are quarantined.
@@ -164,13 +164,13 @@ pub claim-quarantined :
     (d : Device) (ctx routes log i a : ℕ) (rings : List ℕ) → recordCheck d ctx routes log (claimCheck d i a rings Pass) ≡ Pass →
     (e : End) → e .moved ≡ false → isBroken (e .answer) ≡ true →
     quarantinedOf (claimRecord d i a rings e) ≡ queueRings (queuesOf (pendingOf d i a rings))
-unfolding claimRecord marked quarantines unusable withCells quarantinedOf
+unfolding claimRecord marked quarantines unusable withEndpoints quarantinedOf
 claim-quarantined d ctx routes log i a rings k e m b =
     let t = passed d ctx routes log (claimCheck d i a rings Pass) k in
-    let c = withActive (Interface i) (e .active) (cellsIn d) in
+    let c = withActive (Interface i) (e .active) (endpointMapIn d) in
     let by = queueRings (queuesOf (pendingOf d i a rings)) in
     rw (m, b)
-    (with-quarantined-quarantined by (withCells c d)
+    (with-quarantined-quarantined by (withEndpoints c d)
     ∙ ap (λ (l : List ℕ). l ++ by) (none-quarantined d (t .0 .usable) (t .0 .is-sound)))
 
 -- An accepted set configuration keeps its value.

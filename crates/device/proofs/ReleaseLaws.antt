@@ -7,20 +7,20 @@ use lib.ListN.{length, take, replicate}
 use Rattle.answer.specs.declared.Check.{Check}
 use Rattle.answer.specs.declared.Check.the-variants.{Pass}
 use Rattle.command.specs.Course.{played}
-use Rattle.record_endpoint.specs.declared.cells.Owner.the-variants.{Interface}
+use Rattle.record_endpoint.specs.declared.endpoint_map.Owner.the-variants.{Interface}
 use Rattle.record_endpoint.specs.Order.{PLACES}
-use Rattle.record_endpoint.specs.declared.cells.Cells.{Cells}
+use Rattle.record_endpoint.specs.declared.endpoint_map.EndpointMap.{EndpointMap}
 use Rattle.record_endpoint.specs.declared.pending.Queues.{Queues}
-use Rattle.record_endpoint.specs.Cells.{ownedRings, claimedCells, withActive, QueuesAs}
+use Rattle.record_endpoint.specs.EndpointMap.{ownedRings, claimedEndpoints, withActive, QueuesAs}
 use Rattle.record_settings.specs.Held.{alternateOf, settingWords, withoutSetting}
-use Rattle.course_steps.specs.declared.Ended.{Ended}
+use Rattle.course_steps.specs.declared.CourseEnd.{CourseEnd}
 use Rattle.course_steps.specs.Arrays as arrays
 use Rattle.course_steps.proofs.Laws.{queues-as}
 use Rattle.course_release.specs.declared.ReleaseArgs.{ReleaseArgs}
 use Rattle.course_release.specs.Release.{releaseOf, releaseCourse}
 use Rattle.device.specs.declared.record.Device.{Device}
 use Rattle.device.specs.declared.record.Called.{Called}
-use Rattle.device.specs.Device.{listOf, cellsIn, heldOf, withCells, withHeld}
+use Rattle.device.specs.Device.{listOf, endpointMapIn, heldOf, withEndpoints, withHeld}
 use Rattle.device.specs.Left.{leaves, ended}
 use Rattle.device.specs.Check.{recordCheck}
 use Rattle.device.specs.Calls.{onCheck}
@@ -42,7 +42,7 @@ argsOf d i alt old all =
 
 -- the release that the code's arguments stand for
 release-of :
-    (d : Device) (i alt : ℕ) (c : Cells) (own : List ℕ) (old all : Queues) → c ≡ cellsIn d → alt ≡ alternateOf i (heldOf d) →
+    (d : Device) (i alt : ℕ) (c : EndpointMap) (own : List ℕ) (old all : Queues) → c ≡ endpointMapIn d → alt ≡ alternateOf i (heldOf d) →
     own ≡ ownedRings (Interface i) c → QueuesAs old own → QueuesAs all (c .rings) →
     releaseOf (argsOf d i alt old all) (settingWords (listOf d) i alt) ≡ releaseIn d i
 unfolding releaseIn arrays.dcisIn
@@ -50,15 +50,15 @@ release-of d i alt c own old all h p w s t = rw (queues-as old own s, t .dcis, w
 
 -- what a release leaves is what the end of its course makes of the record
 pub release-left :
-    (d : Device) (i alt : ℕ) (x : Check) (c m : Cells) (own : List ℕ) (old all : Queues) (o ctx routes log ctx′ routes′ log′ : List ℕ)
-    (e : Ended) (r : Called) →
-    x ≡ recordCheck d (length ctx) (length routes) (length log) (releaseCheck d i) → x ≡ Pass → c ≡ cellsIn d →
+    (d : Device) (i alt : ℕ) (x : Check) (c m : EndpointMap) (own : List ℕ) (old all : Queues) (o ctx routes log ctx′ routes′ log′ : List ℕ)
+    (e : CourseEnd) (r : Called) →
+    x ≡ recordCheck d (length ctx) (length routes) (length log) (releaseCheck d i) → x ≡ Pass → c ≡ endpointMapIn d →
     alt ≡ alternateOf i (heldOf d) → own ≡ ownedRings (Interface i) c → QueuesAs old own → QueuesAs all (c .rings) →
-    arrays.leaves e ctx′ routes′ log′
+    arrays.courseLeaves e ctx′ routes′ log′
     ≡ played o 0 (releaseCourse (releaseOf (argsOf d i alt old all) (settingWords (take (d .«list_len») (d .list)) i alt)) ctx routes) log →
-    m ≡ claimedCells i (replicate PLACES 0) c →
+    m ≡ claimedEndpoints i (replicate PLACES 0) c →
     r ≡ handed e
-    (cond (e .moved) (withHeld (withoutSetting i (heldOf d)) (withCells m d)) (withCells (withActive (Interface i) (e .active) c) d)) →
+    (cond (e .moved) (withHeld (withoutSetting i (heldOf d)) (withEndpoints m d)) (withEndpoints (withActive (Interface i) (e .active) c) d)) →
     leaves r ctx′ routes′ log′ ≡ release d ctx routes log o i
 unfolding release onCheck listOf releaseRecord ended
 release-left d i alt x c m own old all o ctx routes log ctx′ routes′ log′ e r k p h al w s t run em er =

@@ -8,15 +8,15 @@ use Rattle.record_ring.specs.Rings.{RING-ROOM}
 use Rattle.record_endpoint.specs.Order.{PLACES}
 use Rattle.record_endpoint.specs.declared.entry.Endpoint.{Endpoint}
 use Rattle.record_endpoint.specs.declared.entry.Endpoints.{Endpoints}
-use Rattle.record_endpoint.specs.declared.cells.Cells.{Cells}
+use Rattle.record_endpoint.specs.declared.endpoint_map.EndpointMap.{EndpointMap}
 use Rattle.record_endpoint.specs.Endpoint.{blank, padded}
-use Rattle.record_endpoint.specs.Cells.{endpointsOf}
-use Rattle.record_endpoint.proofs.Clean.{CleanCells, cells-back}
+use Rattle.record_endpoint.specs.EndpointMap.{endpointsOf}
+use Rattle.record_endpoint.proofs.Clean.{CleanMap, map-back}
 use Rattle.record_settings.specs.declared.held.Settings.{Settings}
 use Rattle.record_settings.specs.Held.{Held}
 use Rattle.record_settings.proofs.Laws.{held-padded}
 use Rattle.device.specs.declared.record.Device.{Device}
-use Rattle.device.specs.Device.{listOf, cellsIn, heldOf, quarantinedOf, Status, keep, rebuilt, withCells, withHeld, withQuarantined}
+use Rattle.device.specs.Device.{listOf, endpointMapIn, heldOf, quarantinedOf, Status, keep, rebuilt, withEndpoints, withHeld, withQuarantined}
 
 -- What no call after bring-up changes.
 pub record Same (d e : Device) : Type 0 where
@@ -63,13 +63,13 @@ pub take-padded : {A : Type 0} (n : ℕ) (b : A) (l : List A) → take (length l
 unfolding padded
 take-padded n b l = take-append-seam l (replicate (n - length l) b)
 
-pub with-cells-cells : (c : Cells) (d : Device) → CleanCells c → cellsIn (withCells c d) ≡ c
-unfolding withCells cellsIn
-with-cells-cells c d clean = cells-back c clean
+pub with-endpoints-map : (c : EndpointMap) (d : Device) → CleanMap c → endpointMapIn (withEndpoints c d) ≡ c
+unfolding withEndpoints endpointMapIn
+with-endpoints-map c d clean = map-back c clean
 
-pub with-cells-live : (c : Cells) (d : Device) → liveOf (withCells c d) ≡ endpointsOf c
-unfolding withCells liveOf
-with-cells-live c d = take-padded PLACES blank (endpointsOf c)
+pub with-endpoints-live : (c : EndpointMap) (d : Device) → liveOf (withEndpoints c d) ≡ endpointsOf c
+unfolding withEndpoints liveOf
+with-endpoints-live c d = take-padded PLACES blank (endpointsOf c)
 
 pub with-held-held : (hs : List Held) (d : Device) → heldOf (withHeld hs d) ≡ hs
 unfolding withHeld heldOf

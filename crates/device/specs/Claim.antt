@@ -8,15 +8,15 @@ use Rattle.answer.specs.declared.Check.{Check}
 use Rattle.answer.specs.declared.Check.the-variants.{Pass}
 use Rattle.answer.specs.Answer.{isBroken}
 use Rattle.command.specs.Course.{played}
-use Rattle.record_endpoint.specs.declared.cells.Owner.the-variants.{Interface}
-use Rattle.record_endpoint.specs.Cells.{ownedRings, queuesOf, queueDcis, queueRings, pendingRings, claimedCells, withActive}
+use Rattle.record_endpoint.specs.declared.endpoint_map.Owner.the-variants.{Interface}
+use Rattle.record_endpoint.specs.EndpointMap.{ownedRings, queuesOf, queueDcis, queueRings, pendingRings, claimedEndpoints, withActive}
 use Rattle.record_settings.specs.Held.{isHeld, alternateOf, settingWords, withSetting}
 use Rattle.record_checks.specs.Offer.{offerCheck}
 use Rattle.course_steps.specs.End.{End}
 use Rattle.course_claim.specs.declared.ClaimArgs.{ClaimArgs}
 use Rattle.course_claim.specs.Claim.{Claim, claimCourse}
 use Rattle.device.specs.declared.record.Device.{Device}
-use Rattle.device.specs.Device.{listOf, cellsIn, heldOf, quarantinedOf, withCells, withHeld, withQuarantined}
+use Rattle.device.specs.Device.{listOf, endpointMapIn, heldOf, quarantinedOf, withEndpoints, withHeld, withQuarantined}
 use Rattle.device.specs.Left.{Left, refused, marked, ended}
 use Rattle.device.specs.Check.{recordCheck}
 use Rattle.device.specs.Calls.{onCheck}
@@ -24,7 +24,7 @@ use Rattle.device.specs.Calls.{onCheck}
 -- 8, 9, 10, and then what follows.
 unfoldable pub claimCheck : Device → ℕ → ℕ → List ℕ → Check → Check
 claimCheck d interface alternate rings next =
-    offerCheck (listOf d) interface alternate (cellsIn d) rings (d .control) (quarantinedOf d) next
+    offerCheck (listOf d) interface alternate (endpointMapIn d) rings (d .control) (quarantinedOf d) next
 
 -- The rings offered for the words of an alternate, by place.
 unfoldable pub pendingOf : Device → ℕ → ℕ → List ℕ → List ℕ
@@ -50,9 +50,9 @@ claimIn d interface alternate rings =
       args = argsIn d interface alternate;
       oldWords = cond held (settingWords (listOf d) interface (alternateOf interface (heldOf d))) [];
       newWords = settingWords (listOf d) interface alternate;
-      old = queuesOf (ownedRings (Interface interface) (cellsIn d));
+      old = queuesOf (ownedRings (Interface interface) (endpointMapIn d));
       pending = queuesOf (pendingOf d interface alternate rings);
-      dcis = queueDcis (queuesOf ((cellsIn d) .rings));
+      dcis = queueDcis (queuesOf ((endpointMapIn d) .rings));
     }
 
 -- After 14 the pending rings are quarantined, by rising address.
@@ -65,8 +65,8 @@ claimRecord d interface alternate rings e =
     let pending = pendingOf d interface alternate rings in
     marked (e .answer)
     (cond (e .moved)
-    (withHeld (withSetting interface alternate (heldOf d)) (withCells (claimedCells interface pending (cellsIn d)) d))
-    (quarantines (e .answer) (queueRings (queuesOf pending)) (withCells (withActive (Interface interface) (e .active) (cellsIn d)) d)))
+    (withHeld (withSetting interface alternate (heldOf d)) (withEndpoints (claimedEndpoints interface pending (endpointMapIn d)) d))
+    (quarantines (e .answer) (queueRings (queuesOf pending)) (withEndpoints (withActive (Interface interface) (e .active) (endpointMapIn d)) d)))
 
 -- The course with some rings, and the record that its end makes; the checks have passed.
 abbrev pub claimRun : Device → List ℕ → List ℕ → List ℕ → List ℕ → ℕ → ℕ → List ℕ → Left

@@ -6,11 +6,11 @@ use lib.ListN.{length, take, replicate}
 use Rattle.descriptor_list.specs.Valid.{LIST-ROOM}
 use Rattle.record_ring.specs.Rings.{RING-ROOM}
 use Rattle.record_endpoint.specs.Order.{PLACES}
-use Rattle.record_endpoint.specs.declared.cells.Cells.{Cells}
+use Rattle.record_endpoint.specs.declared.endpoint_map.EndpointMap.{EndpointMap}
 use Rattle.record_endpoint.specs.declared.entry.Endpoints.{Endpoints}
 use Rattle.record_endpoint.specs.declared.entry.Handle.{Handle}
 use Rattle.record_endpoint.specs.declared.entry.Handle.the-variants.{Active}
-use Rattle.record_endpoint.specs.Cells.{cellsOf, endpointsOf, ownersOf}
+use Rattle.record_endpoint.specs.EndpointMap.{endpointMapOf, endpointsOf, ownersOf}
 use Rattle.record_endpoint.specs.Endpoint.{blank, padded}
 use Rattle.record_settings.specs.declared.held.Settings.{Settings}
 use Rattle.record_settings.specs.Held.{HELD-ROOM, Held, heldIn, interfacesOf, alternatesOf}
@@ -20,8 +20,8 @@ use Rattle.device.specs.declared.record.Device.{Device}
 unfoldable pub listOf : Device → List ℕ
 listOf d = take (d .«list_len») (d .list)
 
-unfoldable pub cellsIn : Device → Cells
-cellsIn d = cellsOf (d .«ep_count») (d .eps) (d .«ep_interfaces»)
+unfoldable pub endpointMapIn : Device → EndpointMap
+endpointMapIn d = endpointMapOf (d .«ep_count») (d .eps) (d .«ep_interfaces»)
 
 unfoldable pub heldOf : Device → List Held
 heldOf d = heldIn (d .«held_count») (d .interfaces) (d .alternates)
@@ -134,7 +134,7 @@ abbrev pub valued : ℕ → Status → Status
 valued value t = record { usable = t .usable; configured = true; value = value; handle = t .handle }
 
 -- The arrays of some endpoints, by rising address, blanks past them; of some settings; of some rings.
-unfoldable pub endpointArrays : Cells → Endpoints
+unfoldable pub endpointArrays : EndpointMap → Endpoints
 endpointArrays c =
     record { eps = padded PLACES blank (endpointsOf c); owners = padded PLACES 0 (ownersOf c); count = length (endpointsOf c) }
 
@@ -156,9 +156,9 @@ unfolding rebuilt
 withConfiguration value d = rebuilt keep (valued value) keep keep keep d
 
 -- The record with other endpoints.
-unfoldable pub withCells : Cells → Device → Device
+unfoldable pub withEndpoints : EndpointMap → Device → Device
 unfolding rebuilt endpointArrays
-withCells c d = rebuilt keep keep (put (endpointArrays c)) keep keep d
+withEndpoints c d = rebuilt keep keep (put (endpointArrays c)) keep keep d
 
 -- The record with other held settings.
 unfoldable pub withHeld : List Held → Device → Device

@@ -6,14 +6,14 @@ use lib.ListN.{length, replicate}
 use Rattle.answer.specs.declared.Check.{Check}
 use Rattle.command.specs.Course.{played}
 use Rattle.record_endpoint.specs.Order.{PLACES}
-use Rattle.record_endpoint.specs.declared.cells.Owner.the-variants.{Interface}
-use Rattle.record_endpoint.specs.Cells.{ownedRings, queuesOf, queueDcis, claimedCells, withActive}
+use Rattle.record_endpoint.specs.declared.endpoint_map.Owner.the-variants.{Interface}
+use Rattle.record_endpoint.specs.EndpointMap.{ownedRings, queuesOf, queueDcis, claimedEndpoints, withActive}
 use Rattle.record_settings.specs.Held.{alternateOf, settingWords, withoutSetting}
 use Rattle.record_checks.specs.Offer.{heldCheck}
 use Rattle.course_steps.specs.End.{End}
 use Rattle.course_release.specs.Release.{Release, releaseCourse}
 use Rattle.device.specs.declared.record.Device.{Device}
-use Rattle.device.specs.Device.{listOf, cellsIn, heldOf, withCells, withHeld}
+use Rattle.device.specs.Device.{listOf, endpointMapIn, heldOf, withEndpoints, withHeld}
 use Rattle.device.specs.Left.{Left, refused, marked, ended}
 use Rattle.device.specs.Check.{recordCheck}
 use Rattle.device.specs.Calls.{onCheck}
@@ -33,8 +33,8 @@ releaseIn d interface =
       interface = interface;
       alternate = alternate;
       words = settingWords (listOf d) interface alternate;
-      old = queuesOf (ownedRings (Interface interface) (cellsIn d));
-      dcis = queueDcis (queuesOf ((cellsIn d) .rings));
+      old = queuesOf (ownedRings (Interface interface) (endpointMapIn d));
+      dcis = queueDcis (queuesOf ((endpointMapIn d) .rings));
     }
 
 -- The record that the end of its course makes.
@@ -42,8 +42,8 @@ unfoldable pub releaseRecord : Device → ℕ → End → Device
 releaseRecord d interface e =
     marked (e .answer)
     (cond (e .moved)
-    (withHeld (withoutSetting interface (heldOf d)) (withCells (claimedCells interface (replicate PLACES 0) (cellsIn d)) d))
-    (withCells (withActive (Interface interface) (e .active) (cellsIn d)) d))
+    (withHeld (withoutSetting interface (heldOf d)) (withEndpoints (claimedEndpoints interface (replicate PLACES 0) (endpointMapIn d)) d))
+    (withEndpoints (withActive (Interface interface) (e .active) (endpointMapIn d)) d))
 
 unfoldable pub release : Device → List ℕ → List ℕ → List ℕ → List ℕ → ℕ → Left
 release d ctx routes log outcomes interface =

@@ -4,15 +4,15 @@ use mathlib.Core.Bool.{cond}
 use mathlib.Core.List.{List, []}
 use lib.ListN.{length}
 use Rattle.command.specs.Course.{played}
-use Rattle.record_endpoint.specs.declared.cells.Owner.the-variants.{Any}
-use Rattle.record_endpoint.specs.Cells.{queuesOf, noCells, withActive}
+use Rattle.record_endpoint.specs.declared.endpoint_map.Owner.the-variants.{Any}
+use Rattle.record_endpoint.specs.EndpointMap.{queuesOf, noEndpoints, withActive}
 use Rattle.record_settings.specs.Held.{heldWords}
 use Rattle.course_steps.specs.End.{End}
 use Rattle.course_set_configuration.specs.SetConfiguration.{Settings, setCourse}
 use Rattle.answer.specs.declared.Check.the-variants.{Pass}
 use Rattle.answer.specs.Answer.{isAccepted}
 use Rattle.device.specs.declared.record.Device.{Device}
-use Rattle.device.specs.Device.{listOf, cellsIn, heldOf, withCells, withHeld, withConfiguration}
+use Rattle.device.specs.Device.{listOf, endpointMapIn, heldOf, withEndpoints, withHeld, withConfiguration}
 use Rattle.device.specs.Left.{Left, refused, marked, ended}
 use Rattle.device.specs.Check.{recordCheck}
 use Rattle.device.specs.Calls.{onCheck}
@@ -26,12 +26,12 @@ settingsIn d value =
       speed = d .«port_speed»;
       value = value;
       words = heldWords (listOf d) (heldOf d);
-      old = queuesOf ((cellsIn d) .rings);
+      old = queuesOf ((endpointMapIn d) .rings);
     }
 
 -- The record without held settings.
 unfoldable pub bare : Device → Device
-bare d = withHeld [] (withCells noCells d)
+bare d = withHeld [] (withEndpoints noEndpoints d)
 
 -- The record that the end of its course makes: the value is set where the last Evaluate is done.
 unfoldable pub setRecord : Device → ℕ → End → Device
@@ -39,7 +39,7 @@ setRecord d value e =
     marked (e .answer)
     (cond (e .moved)
     (cond (isAccepted (e .answer)) (withConfiguration value (bare d)) (bare d))
-    (withCells (withActive Any (e .active) (cellsIn d)) d))
+    (withEndpoints (withActive Any (e .active) (endpointMapIn d)) d))
 
 unfoldable pub setConfiguration : Device → List ℕ → List ℕ → List ℕ → List ℕ → ℕ → Left
 setConfiguration d ctx routes log outcomes value =

@@ -5,19 +5,19 @@ use mathlib.Core.List.{List, _∷_, _++_}
 use lib.ListN.{take}
 use Rattle.record_endpoint.specs.Endpoint.{addresses, ringsOf}
 use Rattle.record_checks.specs.Rings.{soundRings}
-use Rattle.record_checks.specs.Sound.{soundPlace, soundCounts, soundLists}
+use Rattle.record_checks.specs.Sound.{soundSlot, soundCounts, soundLists}
 use Rattle.device.specs.declared.record.Device.{Device}
-use Rattle.device.specs.Device.{listOf, cellsIn, heldOf, quarantinedOf}
+use Rattle.device.specs.Device.{listOf, endpointMapIn, heldOf, quarantinedOf}
 
-unfoldable pub placeSound : Device → Bool
-placeSound d = soundPlace (d .slot .0) (d .n) (d .spacing) (d .«port_speed»)
+unfoldable pub slotSound : Device → Bool
+slotSound d = soundSlot (d .slot .0) (d .n) (d .spacing) (d .«port_speed»)
 
 -- The counts fit their arrays.
 unfoldable pub countsFit : Device → Bool
 countsFit d = soundCounts (d .«list_len») (d .«ep_count») (d .«held_count») (d .«quarantined_count»)
 
 unfoldable pub listsSound : Device → Bool
-listsSound d = soundLists (listOf d) (heldOf d) (addresses (take (d .«ep_count») (d .eps))) (cellsIn d)
+listsSound d = soundLists (listOf d) (heldOf d) (addresses (take (d .«ep_count») (d .eps))) (endpointMapIn d)
 
 -- Live, control and quarantined rings.
 unfoldable pub allRings : Device → List ℕ
@@ -27,4 +27,4 @@ unfoldable pub ringsSound : Device → Bool
 ringsSound d = soundRings (d .usable) (d .«quarantined_count») (allRings d)
 
 unfoldable pub sound : Device → Bool
-sound d = placeSound d && (countsFit d && (listsSound d && ringsSound d))
+sound d = slotSound d && (countsFit d && (listsSound d && ringsSound d))

@@ -1,5 +1,5 @@
 // The claim of an interface's alternate setting.
-use super::cells;
+use super::endpoint_map;
 use super::record::Called;
 use super::record::Device;
 use super::update;
@@ -7,9 +7,9 @@ use answer::Answer;
 use answer::Check;
 use course_claim::ClaimArgs;
 use course_claim::ClaimPlan;
-use course_steps::Ended;
+use course_steps::CourseEnd;
 use record_checks::Checked;
-use record_endpoint::Cells;
+use record_endpoint::EndpointMap;
 use record_endpoint::Owner;
 use record_endpoint::Queues;
 ghost use mathlib.Core.Path.{_≡_};
@@ -19,11 +19,11 @@ ghost use lib.ListN.{length};
 ghost use Rattle.answer.specs.declared.Check.the-variants.{Pass};
 ghost use Rattle.descriptor_list.specs.declared.Found.the-variants.{Endpoints};
 ghost use Rattle.descriptor_list.specs.Lookup.{findEndpoints};
-ghost use Rattle.record_endpoint.specs.Cells.{QueuesAs};
+ghost use Rattle.record_endpoint.specs.EndpointMap.{QueuesAs};
 ghost use Rattle.record_settings.specs.Held.{withSetting};
 ghost use Rattle.record_checks.specs.Offer.{CheckedAs};
 ghost use Rattle.course_steps.specs.Arrays as arrays;
-ghost use Rattle.device.specs.Device.{listOf, cellsIn, heldOf, quarantinedOf};
+ghost use Rattle.device.specs.Device.{listOf, endpointMapIn, heldOf, quarantinedOf};
 ghost use Rattle.device.specs.Check.{recordCheck};
 ghost use Rattle.device.specs.Left.{leaves, ended};
 ghost use Rattle.device.specs.Claim.{claimCheck, pendingOf, argsIn, claimRecord, claimRun, claim};
@@ -45,7 +45,7 @@ fn claim_check(
         return Checked::Refuse(a);
     }
     let list = d.list;
-    let c = cells::cells_in(d);
+    let c = endpoint_map::endpoint_map_in(d);
     // A usable record has no ring in quarantine.
     record_checks::offer_check(
         &list[..d.list_len],
@@ -84,16 +84,16 @@ fn claim_args(d: Device, interface: u8, alternate: u8) -> ClaimArgs
 // The end of the course makes the record; where the settings did not move, 14 puts the pending rings in quarantine.
 fn claim_end(
     mut d: Device,
-    c: Cells,
+    c: EndpointMap,
     interface: u8,
     alternate: u8,
     pending: [u64; 30],
     q: Queues,
-    e: Ended,
+    e: CourseEnd,
 ) -> Called
     requires { ⌜ (d .«held_count» ≤ 32) × (length (withSetting interface alternate (heldOf d)) ≤ 32) ⌝ }
-    requires { ⌜ (c ≡ cellsIn d) × (quarantinedOf d ≡ []) × QueuesAs q pending ⌝ }
-    ensures { λ r. ⌜ ((ctx routes log rings : List ℕ) → pending ≡ pendingOf d interface alternate rings → leaves r ctx routes log ≡ ended (claimRecord d interface alternate rings) (arrays.leaves e ctx routes log)) ⌝ }
+    requires { ⌜ (c ≡ endpointMapIn d) × (quarantinedOf d ≡ []) × QueuesAs q pending ⌝ }
+    ensures { λ r. ⌜ ((ctx routes log rings : List ℕ) → pending ≡ pendingOf d interface alternate rings → leaves r ctx routes log ≡ ended (claimRecord d interface alternate rings) (arrays.courseLeaves e ctx routes log)) ⌝ }
 {
     let interfaces = d.interfaces;
     let alternates = d.alternates;
@@ -104,7 +104,7 @@ fn claim_end(
         interface,
         alternate,
     );
-    let claimed = record_endpoint::claimed_cells(interface, pending, c);
+    let claimed = record_endpoint::claimed_endpoints(interface, pending, c);
     let answer = e.answer;
     if !e.moved {
         if let Answer::InterfaceBroken = answer {
@@ -144,7 +144,7 @@ fn run_claim(
     };
     let new_words = &words[start..start + count];
     let pending = record_endpoint::pending_rings(new_words, rings);
-    let c = cells::cells_in(d);
+    let c = endpoint_map::endpoint_map_in(d);
     let all = c.rings;
     let own = record_endpoint::owned_rings(Owner::Interface(interface), c);
     let plan = ClaimPlan {

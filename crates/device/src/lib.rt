@@ -1,7 +1,7 @@
 // The record of a device and the calls on it (device.rs of the original, and the lifecycle of src/device.rs above it).
-mod cells;
 mod check;
 mod claim;
+mod endpoint_map;
 mod hub_update;
 mod record;
 mod release;

@@ -1,5 +1,5 @@
 // The release of an interface.
-use super::cells;
+use super::endpoint_map;
 use super::record::Called;
 use super::record::Device;
 use super::update;
@@ -41,7 +41,7 @@ impl Device {
         if let Check::Refuse(a) = known {
             return update::refused(self, a);
         }
-        let c = cells::cells_in(self);
+        let c = endpoint_map::endpoint_map_in(self);
         let rings = c.rings;
         let own = record_endpoint::owned_rings(Owner::Interface(interface), c);
         let args = ReleaseArgs {
@@ -73,7 +73,7 @@ impl Device {
             self.held_count,
             interface,
         );
-        let others = record_endpoint::claimed_cells(interface, [0u64; PLACES], c);
+        let others = record_endpoint::claimed_endpoints(interface, [0u64; PLACES], c);
         update::at_end(self, c, e, Owner::Interface(interface), others, held)
     }
 }

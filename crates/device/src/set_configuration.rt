@@ -1,5 +1,5 @@
 // The setting of a configuration, which ends all held settings.
-use super::cells;
+use super::endpoint_map;
 use super::record::Called;
 use super::record::Device;
 use super::update;
@@ -7,7 +7,7 @@ use answer::Answer;
 use answer::Check;
 use course_set_configuration::SettingsArgs;
 use course_set_configuration::run_set_configuration;
-use course_steps::Ended;
+use course_steps::CourseEnd;
 use record_endpoint::Owner;
 use record_settings::HELD_ROOM;
 use record_settings::Settings;
@@ -19,7 +19,7 @@ ghost use Rattle.device.specs.Left.{leaves};
 ghost use Rattle.device.specs.SetConfiguration.{setConfiguration};
 
 // The value is the record's where the settings moved and the call is accepted.
-fn configured(mut d: Device, e: Ended, value: u8) -> Device
+fn configured(mut d: Device, e: CourseEnd, value: u8) -> Device
     ensures { λ r. ⌜ r ≡ cond (e .moved) (cond (isAccepted (e .answer)) (withConfiguration value d) d) d ⌝ }
 {
     if !e.moved {
@@ -55,7 +55,7 @@ impl Device {
         let list = self.list;
         let interfaces = self.interfaces;
         let alternates = self.alternates;
-        let c = cells::cells_in(self);
+        let c = endpoint_map::endpoint_map_in(self);
         let rings = c.rings;
         let slot = self.slot;
         let args = SettingsArgs {
@@ -75,6 +75,13 @@ impl Device {
             alternates: [0u8; HELD_ROOM],
             count: 0,
         };
-        update::at_end(self, c, e, Owner::Any, record_endpoint::no_cells(), none)
+        update::at_end(
+            self,
+            c,
+            e,
+            Owner::Any,
+            record_endpoint::no_endpoints(),
+            none,
+        )
     }
 }

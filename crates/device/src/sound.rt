@@ -14,7 +14,7 @@ impl Device {
         let eps = self.eps;
         let owners = self.ep_interfaces;
         let quarantined = self.quarantined;
-        if !record_checks::place_sound(self.slot.0, self.n, self.spacing, self.port_speed) {
+        if !record_checks::slot_sound(self.slot.0, self.n, self.spacing, self.port_speed) {
             return false;
         }
         if !record_checks::counts_fit(self.list_len, n, self.held_count, self.quarantined_count) {

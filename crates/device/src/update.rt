@@ -2,16 +2,16 @@
 use super::record::Called;
 use super::record::Device;
 use answer::Answer;
-use course_steps::Ended;
-use record_endpoint::Cells;
+use course_steps::CourseEnd;
+use record_endpoint::EndpointMap;
 use record_endpoint::Owner;
 use record_settings::Settings;
 ghost use mathlib.Core.Path.{_≡_};
 ghost use mathlib.Core.Bool.{cond};
 ghost use mathlib.Core.List.{List};
-ghost use Rattle.record_endpoint.specs.Cells.{withActive};
+ghost use Rattle.record_endpoint.specs.EndpointMap.{withActive};
 ghost use Rattle.record_settings.specs.Held.{Held, SettingsAs};
-ghost use Rattle.device.specs.Device.{withCells, withHeld};
+ghost use Rattle.device.specs.Device.{withEndpoints, withHeld};
 ghost use Rattle.device.specs.Left.{marked};
 
 // A refusal changes nothing.
@@ -39,8 +39,15 @@ pub fn marked(mut d: Device, a: Answer) -> Device
 }
 
 // Other endpoints and held settings where the course moved them, else the owner's endpoints as far as they were made active again.
-pub fn at_end(mut d: Device, c: Cells, e: Ended, who: Owner, moved: Cells, held: Settings) -> Called
-    ensures { λ r. ⌜ ((hs : List Held) → SettingsAs held hs → r ≡ record { device = marked (e .answer) (cond (e .moved) (withHeld hs (withCells moved d)) (withCells (withActive who (e .active) c) d)); answer = e .answer; count = e .count }) ⌝ }
+pub fn at_end(
+    mut d: Device,
+    c: EndpointMap,
+    e: CourseEnd,
+    who: Owner,
+    moved: EndpointMap,
+    held: Settings,
+) -> Called
+    ensures { λ r. ⌜ ((hs : List Held) → SettingsAs held hs → r ≡ record { device = marked (e .answer) (cond (e .moved) (withHeld hs (withEndpoints moved d)) (withEndpoints (withActive who (e .active) c) d)); answer = e .answer; count = e .count }) ⌝ }
 {
     let mut left = moved;
     if e.moved {

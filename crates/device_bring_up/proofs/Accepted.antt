@@ -12,14 +12,14 @@ use Rattle.descriptor_list.proofs.Laws.{valid-length}
 use Rattle.record_ring.specs.Rings.{ringsOk}
 use Rattle.answer.specs.Answer.{number}
 use Rattle.context.specs.Place.{spacingOf}
-use Rattle.record_endpoint.specs.Cells.{cellsFrom, cellsOf, noCells}
+use Rattle.record_endpoint.specs.EndpointMap.{endpointMapFrom, endpointMapOf, noEndpoints}
 use Rattle.record_endpoint.specs.Endpoint.{addresses, ringsOf, addressesFit, padded}
 use Rattle.record_settings.specs.Held.{heldIn, interfacesOf, eachSetting, allFound, settingsSound}
 use Rattle.record_settings.specs.Match.{endpointsMatch}
 use Rattle.record_settings.proofs.Laws.{match-none}
 use Rattle.device.specs.declared.record.Device.{Device}
-use Rattle.device.specs.Device.{listOf, cellsIn, heldOf, quarantinedOf}
-use Rattle.device.specs.Sound.{placeSound, countsFit, allRings, ringsSound, sound}
+use Rattle.device.specs.Device.{listOf, endpointMapIn, heldOf, quarantinedOf}
+use Rattle.device.specs.Sound.{slotSound, countsFit, allRings, ringsSound, sound}
 use Rattle.device.proofs.Made.{sound-if}
 use Rattle.device.proofs.Updates.{liveOf}
 use Rattle.course_init.specs.Reading.{BringUp, Brought}
@@ -36,9 +36,9 @@ module _ (a : BringUp) (spacing : ℕ) (e : Brought) where
   unfolding heldOf heldIn broughtRecord
   record-held = refl
 
-  pub record-cells : cellsIn (broughtRecord a spacing e) ≡ noCells
-  unfolding cellsIn cellsOf cellsFrom broughtRecord
-  record-cells = refl
+  pub record-map : endpointMapIn (broughtRecord a spacing e) ≡ noEndpoints
+  unfolding endpointMapIn endpointMapOf endpointMapFrom broughtRecord
+  record-map = refl
 
   pub record-quarantined : quarantinedOf (broughtRecord a spacing e) ≡ []
   unfolding quarantinedOf broughtRecord
@@ -67,8 +67,8 @@ module _ (a : BringUp) (ctx routes log : ℕ) (p : Passed a ctx routes log) (e :
   d : Device
   d = broughtRecord a (spacingOf ctx) e
 
-  place : placeSound d ≡ true
-  unfolding d placeSound broughtRecord
+  place : slotSound d ≡ true
+  unfolding d slotSound broughtRecord
   place =
       rw (le-leb 1 (a .slot) (p .slot-low), le-leb (a .slot) (a .n) (p .slot-high), le-leb (a .n) 255 (p .n-high), p .known, p .speed)
 
@@ -90,9 +90,9 @@ module _ (a : BringUp) (ctx routes log : ℕ) (p : Passed a ctx routes log) (e :
   unfolding d broughtRecord addresses addressesFit
   fit = refl
 
-  match : endpointsMatch (listOf d) (heldOf d) (cellsIn d) ≡ true
+  match : endpointsMatch (listOf d) (heldOf d) (endpointMapIn d) ≡ true
   unfolding d
-  match = rw (record-held a (spacingOf ctx) e, record-cells a (spacingOf ctx) e) (match-none (listOf d))
+  match = rw (record-held a (spacingOf ctx) e, record-map a (spacingOf ctx) e) (match-none (listOf d))
 
   rings : ringsSound d ≡ true
   unfolding d ringsSound allRings ringsOf quarantinedOf ringsOk distinct elem broughtRecord

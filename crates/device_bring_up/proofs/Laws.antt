@@ -14,7 +14,7 @@ use Rattle.def.specs.Speed.{speedKnown}
 use Rattle.descriptor_list.specs.Valid.{configurations, validList}
 use Rattle.hub.specs.Chain.{chainOk}
 use Rattle.record_ring.specs.Rings.{ringOk}
-use Rattle.transfer.specs.Routes.{routeIndex, routeOf, withRoute, Outside}
+use Rattle.transfer.specs.Routes.{routeIndex, routeOf, withRoute, OutsideSlot}
 use Rattle.transfer.proofs.Laws.{index-inside}
 use Rattle.answer.specs.declared.Answer.{Answer}
 use Rattle.answer.specs.declared.Answer.the-variants as answer
@@ -24,9 +24,9 @@ use Rattle.answer.specs.Answer.{number, isAccepted, isBroken, isCut}
 use Rattle.command.specs.Course.{played, result, words}
 use Rattle.command.proofs.Done.{AllDone}
 use Rattle.context.specs.Place.{spacingOf}
-use Rattle.record_endpoint.specs.Cells.{noCells}
+use Rattle.record_endpoint.specs.EndpointMap.{noEndpoints}
 use Rattle.device.specs.declared.record.Device.{Device}
-use Rattle.device.specs.Device.{listOf, cellsIn, heldOf, quarantinedOf, noDevice}
+use Rattle.device.specs.Device.{listOf, endpointMapIn, heldOf, quarantinedOf, noDevice}
 use Rattle.device.specs.Left.{Left, refused}
 use Rattle.device.specs.Sound.{sound}
 use Rattle.device.specs.Calls.{onCheck}
@@ -35,7 +35,7 @@ use Rattle.course_init.proofs.Laws.{EndFacts, address-facts, address-done, addr
 use Rattle.device_bring_up.specs.BringUp.{slotCheck, deviceCheck, queueCheck, bringUpCheck, bringUpCourse, broughtRecord, broughtLeft, bringUp}
 use Rattle.device.proofs.Laws.{pass-if}
 use Rattle.device_bring_up.proofs.Checks.{Passed, passed}
-use Rattle.device_bring_up.proofs.Accepted.{record-held, record-cells, record-quarantined, record-list, record-usable, usable-accepted, record-sound}
+use Rattle.device_bring_up.proofs.Accepted.{record-held, record-map, record-quarantined, record-list, record-usable, usable-accepted, record-sound}
 
 -- An answer before any command: neither accepted nor 14 nor 15.
 pub record Refusal (x : Answer) : Type 0 where
@@ -120,7 +120,7 @@ pub record BroughtUp (a : BringUp) (ctx routes log : List ℕ) (l : Left) : Type
   pub list : listOf (l .device) ≡ a .list
   pub control : l .device .control ≡ a .ring
   pub held : heldOf (l .device) ≡ []
-  pub cells : cellsIn (l .device) ≡ noCells
+  pub endpoints : endpointMapIn (l .device) ≡ noEndpoints
   pub quarantined : quarantinedOf (l .device) ≡ []
 
 module _ (a : BringUp) (ctx routes log outcomes : List ℕ) where
@@ -155,7 +155,7 @@ module _ (a : BringUp) (ctx routes log outcomes : List ℕ) where
         list = record-list a spacing end ∙ w;
         control = refl;
         held = record-held a spacing end;
-        cells = record-cells a spacing end;
+        endpoints = record-map a spacing end;
         quarantined = record-quarantined a spacing end;
       }
 
@@ -219,7 +219,7 @@ module _ (a : BringUp) (ctx routes log outcomes : List ℕ) where
       go r (inr e) = ap length e ∙ length-set routes (routeIndex (a .slot) 1) (a .ring)
 
   -- and every word that is none of the slot's
-  pub bring-up-outside : (k : ℕ) → Outside (a .slot) k →
+  pub bring-up-outside : (k : ℕ) → OutsideSlot (a .slot) k →
       getD ((bringUp a ctx routes log outcomes) .routes) k 0 ≡ getD routes k 0
   unfolding withRoute
   bring-up-outside k h = go ((bringUp a ctx routes log outcomes) .routes) bring-up-table

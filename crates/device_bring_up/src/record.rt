@@ -1,6 +1,6 @@
 // The record of a brought up device.
 use course_init::BringUpArgs;
-use course_init::Ended;
+use course_init::InitEnd;
 use descriptor_list::LIST_ROOM;
 use device::Called;
 ghost use mathlib.Core.Path.{_≡_};
@@ -28,7 +28,7 @@ fn first_words(list: &[u32], n: usize) -> [u32; LIST_ROOM]
 }
 
 // What a bring-up hands back whose course has ended: a device that holds no setting.
-pub fn brought(a: BringUpArgs, spacing: usize, e: Ended, list: &[u32]) -> Called
+pub fn brought(a: BringUpArgs, spacing: usize, e: InitEnd, list: &[u32]) -> Called
     requires { ⌜ (a .n ≤ 255) × (length (now list) ≤ LIST-ROOM) ⌝ }
     ensures { λ r. ⌜ ((hubs ctx routes log : List ℕ) → leaves r ctx routes log ≡ broughtLeft (bringUpOf a hubs (now (list .entry))) spacing (leavesRead e (now (list .entry)) ctx routes log)) ⌝ }
 {

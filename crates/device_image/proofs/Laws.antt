@@ -10,7 +10,7 @@ use mir.Val.{boolByte}
 use lib.ListN.{length, getD, take}
 use lib.Seq.{sets}
 use Rattle.laws.proofs.Tests.{and-true}
-use Rattle.record_endpoint.specs.Cells.{tabulated}
+use Rattle.record_endpoint.specs.EndpointMap.{tabulated}
 use Rattle.record_endpoint.specs.Endpoint.{blank}
 use Rattle.record_endpoint.specs.declared.entry.Handle.{Handle}
 use Rattle.record_endpoint.specs.declared.entry.Handle.the-variants.{Active, Revoked}

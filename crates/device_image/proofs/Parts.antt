@@ -11,7 +11,7 @@ use lib.Dec.{ltb}
 use lib.ListN.{length, getD, set, take, length-append, List·getD-append}
 use lib.Seq.{getD-append-add, drop-at, sets, sets-eq, map-set-same}
 use Rattle.laws.proofs.Tests.{and-left, and-right, and-true}
-use Rattle.record_endpoint.specs.Cells.{tabulated}
+use Rattle.record_endpoint.specs.EndpointMap.{tabulated}
 use Rattle.device_image.specs.Image.{numberAt, below}
 
 unfoldable pub sum : List ℕ → ℕ

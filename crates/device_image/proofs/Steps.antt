@@ -15,7 +15,7 @@ use borrow.Author.Tests.{lt-ltb, le-ltb, eqb-true, ltb-true}
 use lib.ListN.{length, getD, set, take, drop, length-set, length-drop, drop-of-length-le}
 use lib.Seq.{take-suc-set, take-all, drop-cons, set-comm, sets}
 use Rattle.laws.proofs.Tests.{and-left, and-right}
-use Rattle.record_endpoint.specs.Cells.{tabulated}
+use Rattle.record_endpoint.specs.EndpointMap.{tabulated}
 use Rattle.record_endpoint.specs.declared.entry.Handle.{Handle}
 use Rattle.record_endpoint.specs.declared.entry.Endpoint.{Endpoint}
 use Rattle.record_endpoint.specs.declared.entry.Endpoints.{Endpoints}

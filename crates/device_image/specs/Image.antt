@@ -8,7 +8,7 @@ use lib.ListN.{length, getD}
 use Rattle.descriptor_list.specs.Valid.{LIST-ROOM}
 use Rattle.record_ring.specs.Rings.{RING-ROOM}
 use Rattle.record_endpoint.specs.Order.{PLACES}
-use Rattle.record_endpoint.specs.Cells.{tabulated}
+use Rattle.record_endpoint.specs.EndpointMap.{tabulated}
 use Rattle.record_endpoint.specs.declared.entry.Handle.{Handle}
 use Rattle.record_endpoint.specs.declared.entry.Handle.the-variants.{Active, Revoked}
 use Rattle.record_endpoint.specs.declared.entry.Endpoint.{Endpoint}

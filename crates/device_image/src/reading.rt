@@ -15,7 +15,7 @@ ghost use mathlib.Core.Bool.{true};
 ghost use Prim.Native.Nat.{_+_, _≤_};
 ghost use Rattle.descriptor_list.specs.Valid.{LIST-ROOM};
 ghost use Rattle.record_ring.specs.Rings.{RING-ROOM};
-ghost use Rattle.record_endpoint.specs.Cells.{tabulated};
+ghost use Rattle.record_endpoint.specs.EndpointMap.{tabulated};
 ghost use Rattle.record_settings.specs.Held.{HELD-ROOM};
 ghost use Rattle.device_image.specs.Layout.{SLOT, LIST, QUARANTINED};
 ghost use Rattle.device_image.specs.Image.{numberAt, endpointsIn, isImage, decode};

@@ -14,7 +14,7 @@ use Rattle.hub.specs.declared.translator.Translator.{Translator}
 use Rattle.hub.specs.declared.think.ThinkTime.the-variants.{Value, Refused}
 use Rattle.hub.specs.HubWord.{hubInfo, hubAt}
 use Rattle.hub.specs.Chain.{chainFrom, chainOk}
-use Rattle.hub.specs.Route.{ports, routeOf, routeString}
+use Rattle.hub.specs.Route.{ports, routeOfPorts, routeString}
 use Rattle.hub.specs.Translator.{noTranslator, nearestHigh, translatorOf}
 use Rattle.hub.specs.Sockets.{route-below}
 use Rattle.hub.specs.ThinkTime.{thinkTime}
@@ -39,7 +39,7 @@ length-ports hubs at port zero = refl
 length-ports hubs at port (suc d) = ap suc (length-ports hubs ((hubAt hubs at) .parent) ((hubAt hubs at) .«port_id») d)
 
 -- The route string over at most k hubs fits k nibbles.
-pub ports-below : (hubs : List ℕ) (at port d k : ℕ) → d ≤ k → routeOf (ports hubs at port d) < 16 ^ k
+pub ports-below : (hubs : List ℕ) (at port d k : ℕ) → d ≤ k → routeOfPorts (ports hubs at port d) < 16 ^ k
 ports-below hubs at port d k h =
     let b : 16 ^ d ≤ 16 ^ k = pow-le-pow-right {n = 16} (omega arith) {i = d} {j = k} h in
     omega (arith, rw (length-ports hubs at port d) at (route-below (ports hubs at port d)))

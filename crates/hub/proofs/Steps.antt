@@ -14,7 +14,7 @@ use Rattle.def.specs.Speed.{HIGH}
 use Rattle.hub.specs.declared.hub_word.HubInfo.{HubInfo}
 use Rattle.hub.specs.HubWord.{hubInfo, hubAt}
 use Rattle.hub.specs.Chain.{hubFits, chainFrom, chainOk}
-use Rattle.hub.specs.Route.{ports, clamp, routeOf, routeString}
+use Rattle.hub.specs.Route.{ports, clamp, routeOfPorts, routeString}
 use Rattle.hub.specs.Translator.{noTranslator, nearestHigh}
 use Rattle.hub.proofs.Laws.{depth-below, length-ports, ports-below}
 
@@ -68,23 +68,23 @@ module _ (hubs : List ℕ) (at d : ℕ) (h : HubInfo) (is : h ≡ hubAt hubs at)
       pub chain-up : not (h .«has_parent») ≡ false → chainFrom hubs at d ≡ chainFrom hubs (h .parent) (d - 1)
       chain-up p = rw (chain-here, not-false r y, not-false (h .«has_parent») p)
 
-route-step : (hubs : List ℕ) (at port d : ℕ) → 0 < d → routeOf (ports hubs at port d)
-    ≡ clamp port * 16 ^ (d - 1) + routeOf (ports hubs ((hubAt hubs at) .parent) ((hubAt hubs at) .«port_id») (d - 1))
-unfolding ports routeOf
+route-step : (hubs : List ℕ) (at port d : ℕ) → 0 < d → routeOfPorts (ports hubs at port d)
+    ≡ clamp port * 16 ^ (d - 1) + routeOfPorts (ports hubs ((hubAt hubs at) .parent) ((hubAt hubs at) .«port_id») (d - 1))
+unfolding ports routeOfPorts
 route-step hubs at port zero z = absurd (omega arith)
 route-step hubs at port (suc d) z = rw (less-one d, length-ports hubs ((hubAt hubs at) .parent) ((hubAt hubs at) .«port_id») d)
 
 -- A walk of a route string, from a port of the hub at an index: the route so far and what is left are the whole.
 module _ (hubs : List ℕ) (at port d : ℕ) (h : HubInfo) (is : h ≡ hubAt hubs at) (z : 0 < d) (n : ℕ) (e : n ≡ clamp port * 16 ^ (d - 1))
-    (whole route : ℕ) (w : whole ≡ route + routeOf (ports hubs at port d)) where
-  pub route-up : whole ≡ (route + n) + routeOf (ports hubs (h .parent) (h .«port_id») (d - 1))
+    (whole route : ℕ) (w : whole ≡ route + routeOfPorts (ports hubs at port d)) where
+  pub route-up : whole ≡ (route + n) + routeOfPorts (ports hubs (h .parent) (h .«port_id») (d - 1))
   route-up = omega (arith, rw (← is, ← e) at (route-step hubs at port d z))
 
   pub route-room : whole < 16 ^ 7 → route + n < 16 ^ 7
   route-room b = omega (arith, route-up)
 
-pub route-end : (hubs : List ℕ) (at port d : ℕ) → d ≤ 0 → (whole route : ℕ) → whole ≡ route + routeOf (ports hubs at port d) → route ≡ whole
-unfolding ports routeOf
+pub route-end : (hubs : List ℕ) (at port d : ℕ) → d ≤ 0 → (whole route : ℕ) → whole ≡ route + routeOfPorts (ports hubs at port d) → route ≡ whole
+unfolding ports routeOfPorts
 route-end hubs at port zero z whole route w = omega arith
 route-end hubs at port (suc d) z whole route w = absurd (omega arith)
 

@@ -16,10 +16,10 @@ unfoldable pub clamp : ℕ → ℕ
 clamp p = min p 15
 
 -- The route string of such ports: each in a nibble, shifted by 4 × the depth of the hub that it is on, which is the number of ports after it.
-unfoldable pub routeOf : List ℕ → ℕ
-routeOf [] = 0
-routeOf (p ∷ ps) = clamp p * 16 ^ length ps + routeOf ps
+unfoldable pub routeOfPorts : List ℕ → ℕ
+routeOfPorts [] = 0
+routeOfPorts (p ∷ ps) = clamp p * 16 ^ length ps + routeOfPorts ps
 
 -- The Route String of a device on a port of its parent hub; 0 without a parent.
 unfoldable pub routeString : List ℕ → Bool → ℕ → ℕ → ℕ
-routeString hubs hasParent at port = cond hasParent (routeOf (ports hubs at port ((hubAt hubs at) .«depth_plus_one»))) 0
+routeString hubs hasParent at port = cond hasParent (routeOfPorts (ports hubs at port ((hubAt hubs at) .«depth_plus_one»))) 0

@@ -18,13 +18,13 @@ use Rattle.record_ring.specs.Rings.{ringOk, ringsOk}
 use Rattle.record_ring.proofs.Laws.{ring-at, ring-nonzero, disjoint-elem, Offered}
 use Rattle.transfer.specs.Routes.{Queue}
 use Rattle.record_endpoint.specs.declared.entry.Endpoint.{Endpoint}
-use Rattle.record_endpoint.specs.declared.cells.Cells.{Cells}
-use Rattle.record_endpoint.specs.declared.cells.Owner.the-variants.{Interface}
+use Rattle.record_endpoint.specs.declared.endpoint_map.EndpointMap.{EndpointMap}
+use Rattle.record_endpoint.specs.declared.endpoint_map.Owner.the-variants.{Interface}
 use Rattle.record_endpoint.specs.Order.{placeOf, dciAt}
 use Rattle.record_endpoint.specs.Endpoint.{blank, addresses, ringsOf, addressesFit}
-use Rattle.record_endpoint.specs.Cells.{Whole, noCells, withCell, isActive, cellsFrom, cellsOf, gathered, endpointAt, endpointsOf, isOwned, pendingFrom, pendingRings, claimedRing, claimedCells, queuesOf, queueRings}
+use Rattle.record_endpoint.specs.EndpointMap.{Whole, noEndpoints, withEndpoint, isActive, endpointMapFrom, endpointMapOf, gathered, endpointAt, endpointsOf, isOwned, pendingFrom, pendingRings, claimedRing, claimedEndpoints, queuesOf, queueRings}
 use Rattle.record_endpoint.proofs.Laws.{no-place-low, claimed-ring}
-use Rattle.record_endpoint.proofs.Clean.{CleanCells, clean-none, clean-of, cells-none, cells-at}
+use Rattle.record_endpoint.proofs.Clean.{CleanMap, clean-none, clean-of, map-none, map-at}
 use Rattle.record_checks.proofs.Steps.{rings-length}
 
 -- Rings by place: each a nonzero multiple of 16, no two the same, none of them control's.
@@ -49,18 +49,18 @@ rings-at (e ∷ es) (suc k) = rings-at es k
 place-blank : (eps : List Endpoint) (k : ℕ) → length eps ≤ k → placeOf (getD eps k blank .address) ≡ 30
 place-blank eps k h = rw (List·getD-eq-default eps blank h) (no-place-low 0 (omega arith))
 
-whole-cell : (c : Cells) (place ring owner : ℕ) (on : Bool) → Whole c → Whole (withCell c place ring owner on)
-unfolding withCell
-whole-cell c place ring owner on w =
+whole-entry : (c : EndpointMap) (place ring owner : ℕ) (on : Bool) → Whole c → Whole (withEndpoint c place ring owner on)
+unfolding withEndpoint
+whole-entry c place ring owner on w =
     record {
       rings = length-set (c .rings) place ring ∙ w .rings;
       owners = length-set (c .owners) place owner ∙ w .owners;
       active = length-set (c .active) place on ∙ w .active;
     }
 
-cell-out : (c : Cells) (ring owner : ℕ) (on : Bool) → Whole c → withCell c 30 ring owner on ≡ c
-unfolding withCell
-cell-out c ring owner on w =
+entry-out : (c : EndpointMap) (ring owner : ℕ) (on : Bool) → Whole c → withEndpoint c 30 ring owner on ≡ c
+unfolding withEndpoint
+entry-out c ring owner on w =
     rw (
       set-out (c .rings) 30 ring (omega (arith, w .rings)),
       set-out (c .owners) 30 owner (omega (arith, w .owners)),
@@ -68,16 +68,16 @@ cell-out c ring owner on w =
     )
 
 -- Endpoints past the end of the arrays say nothing.
-cells-short :
-    (n : ℕ) (eps : List Endpoint) (owners : List ℕ) (c : Cells) → Whole c →
-    cellsFrom n eps owners c ≡ cellsFrom (length (take n eps)) eps owners c
-unfolding cellsFrom
-cells-short zero eps owners c w = refl
-cells-short (suc n) [] owners c w =
-    rw (no-place-low 0 (omega arith), cell-out c 0 (getD owners 0 0) (isActive (blank .handle)) w)
-    (cells-short n [] (drop 1 owners) c w ∙ rw (take-nil n))
-cells-short (suc n) (e ∷ eps) owners c w =
-    cells-short n eps (drop 1 owners) _ (whole-cell c _ _ _ _ w)
+map-short :
+    (n : ℕ) (eps : List Endpoint) (owners : List ℕ) (c : EndpointMap) → Whole c →
+    endpointMapFrom n eps owners c ≡ endpointMapFrom (length (take n eps)) eps owners c
+unfolding endpointMapFrom
+map-short zero eps owners c w = refl
+map-short (suc n) [] owners c w =
+    rw (no-place-low 0 (omega arith), entry-out c 0 (getD owners 0 0) (isActive (blank .handle)) w)
+    (map-short n [] (drop 1 owners) c w ∙ rw (take-nil n))
+map-short (suc n) (e ∷ eps) owners c w =
+    map-short n eps (drop 1 owners) _ (whole-entry c _ _ _ _ w)
 
 -- Either one of n numbers is p, or none is.
 one-of : (f : ℕ → ℕ) (p n : ℕ) → ((k : ℕ) × (k < n) × (f k ≡ p)) ⊎ ((k : ℕ) → k < n → f k ≡ p → ⊥)
@@ -156,12 +156,12 @@ module _ (n : ℕ) (eps : List Endpoint) (owners : List ℕ) (control : ℕ) (qu
   live-length = rings-length (take n eps)
 
   -- Endpoints whose rings are nonzero are clean.
-  pub clean-in : CleanCells (cellsOf n eps owners)
-  unfolding cellsOf
+  pub clean-in : CleanMap (endpointMapOf n eps owners)
+  unfolding endpointMapOf
   clean-in =
       let m = length (take n eps) in
       let few : m ≤ n = omega (arith, length-take n eps) in
-      let e : cellsFrom n eps owners noCells ≡ cellsFrom m eps owners noCells = cells-short n eps owners noCells (clean-none .whole) in
+      let e : endpointMapFrom n eps owners noEndpoints ≡ endpointMapFrom m eps owners noEndpoints = map-short n eps owners noEndpoints (clean-none .whole) in
       rw e
       (clean-of m eps owners
       (λ k h z. ring-nonzero (getD live k 0) (ring-at live live-ok k (omega (arith, live-length))) (live-at k (omega arith) ∙ z)))
@@ -172,10 +172,10 @@ module _ (n : ℕ) (eps : List Endpoint) (owners : List ℕ) (control : ℕ) (qu
     pub counted : at < n
     pub inside : at < length live
     pub placed : placeOf (getD eps at blank .address) ≡ p
-    pub same : getD ((cellsOf n eps owners) .rings) p 0 ≡ getD live at 0
+    pub same : getD ((endpointMapOf n eps owners) .rings) p 0 ≡ getD live at 0
 
   module _ (fit : addressesFit (addresses (take n eps)) ≡ true) where
-    stands : (p : ℕ) → p < 30 → (getD ((cellsOf n eps owners) .rings) p 0 ≡ 0 → ⊥) → Stands p
+    stands : (p : ℕ) → p < 30 → (getD ((endpointMapOf n eps owners) .rings) p 0 ≡ 0 → ⊥) → Stands p
     stands p h z = go (one-of (λ k. placeOf (getD eps k blank .address)) p n)
       where
         found : (k : ℕ) → k < n → placeOf (getD eps k blank .address) ≡ p → Dec (k < length eps) → Stands p
@@ -186,8 +186,8 @@ module _ (n : ℕ) (eps : List Endpoint) (owners : List ℕ) (control : ℕ) (qu
               inside = omega (arith, live-length, length-take n eps);
               placed = e;
               same =
-                  ap (λ q. getD ((cellsOf n eps owners) .rings) q 0) (sym e)
-                  ∙ cells-at n eps owners k fit l r .rings
+                  ap (λ q. getD ((endpointMapOf n eps owners) .rings) q 0) (sym e)
+                  ∙ map-at n eps owners k fit l r .rings
                   ∙ sym (live-at k l);
             }
         found k l e (no r) = absurd (omega (arith, place-blank eps k (omega arith)))
@@ -196,10 +196,10 @@ module _ (n : ℕ) (eps : List Endpoint) (owners : List ℕ) (control : ℕ) (qu
             ((k : ℕ) × (k < n) × (placeOf (getD eps k blank .address) ≡ p))
             ⊎ ((k : ℕ) → k < n → placeOf (getD eps k blank .address) ≡ p → ⊥) → Stands p
         go (inl t) = found (t .0) (t .1) (t .2) (decLt (t .0) (length eps))
-        go (inr f) = absurd (z (cells-none n eps owners p h f .rings))
+        go (inr f) = absurd (z (map-none n eps owners p h f .rings))
 
     -- Distinct rings, by place.
-    pub apart-in : distinct (ringsOf (take n eps) ++ (control ∷ quarantined)) ≡ true → Apart ((cellsOf n eps owners) .rings) control
+    pub apart-in : distinct (ringsOf (take n eps) ++ (control ∷ quarantined)) ≡ true → Apart ((endpointMapOf n eps owners) .rings) control
     unfolding live
     apart-in different =
         let m = control ∷ quarantined in
@@ -318,11 +318,11 @@ apart-none control =
     }
 
 -- The rings after a claim: the pending ones, and the others' as before.
-module _ (i : ℕ) (pending : List ℕ) (c : Cells) (control : ℕ)
+module _ (i : ℕ) (pending : List ℕ) (c : EndpointMap) (control : ℕ)
     (new : Apart pending control) (old : Apart (c .rings) control)
     (cross : Disjoint pending (c .rings)) where
   after : ℕ → ℕ
-  after p = getD ((claimedCells i pending c) .rings) p 0
+  after p = getD ((claimedEndpoints i pending c) .rings) p 0
 
   Source : ℕ → Type 0
   Source p =
@@ -357,7 +357,7 @@ module _ (i : ℕ) (pending : List ℕ) (c : Cells) (control : ℕ)
   source-other p h e (inl t) = new .other p h (t .0) (sym (t .1) ∙ e)
   source-other p h e (inr t) = old .other p h (t .0) (sym (t .1) ∙ e)
 
-  apart-after : Apart ((claimedCells i pending c) .rings) control
+  apart-after : Apart ((claimedEndpoints i pending c) .rings) control
   unfolding after
   apart-after =
       record {
@@ -368,17 +368,17 @@ module _ (i : ℕ) (pending : List ℕ) (c : Cells) (control : ℕ)
 
 -- A claim with rings that were offered keeps them apart.
 pub apart-claimed :
-    (i : ℕ) (words rings : List ℕ) (c : Cells) (control : ℕ) (quarantined : List ℕ) → CleanCells c →
+    (i : ℕ) (words rings : List ℕ) (c : EndpointMap) (control : ℕ) (quarantined : List ℕ) → CleanMap c →
     Offered (length words) rings (c .rings) control quarantined → Apart (c .rings) control →
-    Apart ((claimedCells i (pendingRings words rings) c) .rings) control
+    Apart ((claimedEndpoints i (pendingRings words rings) c) .rings) control
 apart-claimed i words rings c control quarantined clean o old =
     apart-after i (pendingRings words rings) c control (apart-offered words rings (c .rings) control quarantined o) old
     (offered-live words rings (c .rings) control quarantined o (clean .whole .rings))
 
 -- A release does.
 pub apart-released :
-    (i : ℕ) (c : Cells) (control : ℕ) → Apart (c .rings) control →
-    Apart ((claimedCells i (replicate 30 0) c) .rings) control
+    (i : ℕ) (c : EndpointMap) (control : ℕ) → Apart (c .rings) control →
+    Apart ((claimedEndpoints i (replicate 30 0) c) .rings) control
 apart-released i c control old =
     apart-after i (replicate 30 0) c control (apart-none control) old (λ p q h g z e. z (getD-replicate 30 p 0 0 h))
 
@@ -530,8 +530,8 @@ pub placed-none : placedRings (replicate 30 0) ≡ []
 unfolding placedRings gathered
 placed-none = refl
 
--- The rings of the arrays that cells make.
-module _ (c : Cells) where
+-- The rings of the arrays that a map makes.
+module _ (c : EndpointMap) where
   from-rings : (k a : ℕ) → ringsOf (gathered (endpointAt c) (c .rings) k a) ≡ gathered (λ p. getD (c .rings) p 0) (c .rings) k a
   unfolding gathered ringsOf endpointAt
   from-rings zero a = refl

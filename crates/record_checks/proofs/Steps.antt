@@ -22,7 +22,7 @@ use Rattle.descriptor_list.specs.Lookup.{findEndpoints}
 use Rattle.descriptor_list.proofs.Laws.{found-inside}
 use Rattle.record_ring.specs.Rings.{ringOk, ringsOk, offerOk}
 use Rattle.record_endpoint.specs.declared.entry.Endpoint.{Endpoint}
-use Rattle.record_endpoint.specs.declared.cells.Cells.{Cells}
+use Rattle.record_endpoint.specs.declared.endpoint_map.EndpointMap.{EndpointMap}
 use Rattle.record_endpoint.specs.Endpoint.{blank, ringsOf, padded}
 use Rattle.record_endpoint.proofs.Laws.{padded-next}
 use Rattle.record_settings.specs.Held.{isFound, foundWords, settingWords}
@@ -201,7 +201,7 @@ unfolding checkOf
 refused-as a k f e =
     record { check = e; words = λ start count p. let z : _≡_ {A = ℕ} 0 1 = cc in absurd (omega arith) }
 
-module _ (list : List ℕ) (i a : ℕ) (c : Cells) (rings : List ℕ) (control : ℕ) (quarantined : List ℕ) where
+module _ (list : List ℕ) (i a : ℕ) (c : EndpointMap) (rings : List ℕ) (control : ℕ) (quarantined : List ℕ) where
   abbrev Offered : Checked → Type 0
   Offered r = CheckedAs r (offerCheck list i a c rings control quarantined check.Pass) (findEndpoints list i a)
 

@@ -12,7 +12,7 @@ use Rattle.descriptor_list.specs.declared.Found.{Found}
 use Rattle.descriptor_list.specs.declared.Found.the-variants.{Endpoints}
 use Rattle.descriptor_list.specs.Lookup.{findEndpoints}
 use Rattle.record_ring.specs.Rings.{offerOk}
-use Rattle.record_endpoint.specs.declared.cells.Cells.{Cells}
+use Rattle.record_endpoint.specs.declared.endpoint_map.EndpointMap.{EndpointMap}
 use Rattle.record_settings.specs.Held.{Held, isHeld, isFound, settingWords}
 use Rattle.record_settings.specs.Match.{addressesFree}
 use Rattle.record_checks.specs.declared.offer.Checked.{Checked}
@@ -20,7 +20,7 @@ use Rattle.record_checks.specs.declared.offer.Checked.the-variants as ch
 
 -- 8, 9, 10, and then what follows: an alternate that lookup finds in a list, beside the endpoints, control's ring and the quarantined
 -- ones of a record.
-abbrev pub offerCheck : List ℕ → ℕ → ℕ → Cells → List ℕ → ℕ → List ℕ → Check → Check
+abbrev pub offerCheck : List ℕ → ℕ → ℕ → EndpointMap → List ℕ → ℕ → List ℕ → Check → Check
 offerCheck list interface alternate c rings control quarantined next =
     let words = settingWords list interface alternate in
     unless (isFound (findEndpoints list interface alternate)) answer.NotFound

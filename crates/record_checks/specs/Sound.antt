@@ -6,15 +6,15 @@ use lib.Dec.{eqb, leb}
 use Rattle.def.specs.Speed.{speedKnown}
 use Rattle.descriptor_list.specs.Valid.{LIST-ROOM, validList}
 use Rattle.record_ring.specs.Rings.{RING-ROOM}
-use Rattle.record_endpoint.specs.declared.cells.Cells.{Cells}
+use Rattle.record_endpoint.specs.declared.endpoint_map.EndpointMap.{EndpointMap}
 use Rattle.record_endpoint.specs.Order.{PLACES}
 use Rattle.record_endpoint.specs.Endpoint.{addressesFit}
 use Rattle.record_settings.specs.Held.{HELD-ROOM, Held, settingsSound}
 use Rattle.record_settings.specs.Match.{endpointsMatch}
 
 -- A slot from 1 to N, N at most 255, spacing 32 or 64, speed 1 to 5.
-abbrev pub soundPlace : ℕ → ℕ → ℕ → ℕ → Bool
-soundPlace slot n spacing speed =
+abbrev pub soundSlot : ℕ → ℕ → ℕ → ℕ → Bool
+soundSlot slot n spacing speed =
     (leb 1 slot && (leb slot n && leb n 255)) && ((eqb spacing 32 || eqb spacing 64) && speedKnown speed)
 
 -- The words of the list, endpoints, held settings and quarantined rings that the arrays of a record have room for.
@@ -23,6 +23,6 @@ soundCounts words endpoints held quarantined =
     leb words LIST-ROOM && (leb endpoints PLACES && (leb held HELD-ROOM && leb quarantined RING-ROOM))
 
 -- A valid list, settings that it has, endpoint addresses that have places, endpoints that are those of the settings.
-abbrev pub soundLists : List ℕ → List Held → List ℕ → Cells → Bool
+abbrev pub soundLists : List ℕ → List Held → List ℕ → EndpointMap → Bool
 soundLists list hs addresses c =
     validList list && (settingsSound list hs && (addressesFit addresses && endpointsMatch list hs c))

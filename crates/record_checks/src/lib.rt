@@ -14,6 +14,6 @@ pub use rings::quarantined_rings;
 pub use rings::rings_sound;
 pub use sound::counts_fit;
 pub use sound::lists_sound;
-pub use sound::place_sound;
+pub use sound::slot_sound;
 pub use think::think_check;
 pub use think::think_value;

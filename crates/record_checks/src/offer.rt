@@ -1,7 +1,7 @@
 // What a claim asks of a setting, and of the rings offered for its endpoint words.
 use answer::Answer;
 use descriptor_list::Found;
-use record_endpoint::Cells;
+use record_endpoint::EndpointMap;
 ghost use Rattle.answer.specs.declared.Check.the-variants.{Pass};
 ghost use Rattle.descriptor_list.specs.Lookup.{findEndpoints};
 ghost use Rattle.record_checks.specs.Offer.{offerCheck, CheckedAs};
@@ -17,7 +17,7 @@ pub fn offer_check(
     list: &[u32],
     interface: u8,
     alternate: u8,
-    c: Cells,
+    c: EndpointMap,
     rings: &[u64],
     control: u64,
     quarantined: &[u64],
@@ -28,7 +28,7 @@ pub fn offer_check(
     match found {
         Found::Endpoints { start, count } => {
             let words = &list[start..start + count];
-            if !record_settings::addresses_free(words, interface, c) {
+            if !record_settings::validate_endpoint_addresses(words, interface, c) {
                 return Checked::Refuse(Answer::InvalidParameter);
             }
             if record_ring::offer_ok(count, rings, &c.rings, control, quarantined) {

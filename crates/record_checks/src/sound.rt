@@ -9,13 +9,13 @@ ghost use Prim.Native.Nat.{_≤_};
 ghost use lib.ListN.{take};
 ghost use Rattle.record_endpoint.specs.Order.{PLACES};
 ghost use Rattle.descriptor_list.specs.Valid.{LIST-ROOM};
-ghost use Rattle.record_endpoint.specs.Cells.{cellsOf};
+ghost use Rattle.record_endpoint.specs.EndpointMap.{endpointMapOf};
 ghost use Rattle.record_endpoint.specs.Endpoint.{addresses};
 ghost use Rattle.record_settings.specs.Held.{HELD-ROOM, heldIn};
-ghost use Rattle.record_checks.specs.Sound.{soundPlace, soundCounts, soundLists};
+ghost use Rattle.record_checks.specs.Sound.{soundSlot, soundCounts, soundLists};
 
-pub fn place_sound(slot: u8, n: u8, spacing: usize, speed: u8) -> bool
-    ensures { λ r. ⌜ r ≡ soundPlace slot n spacing speed ⌝ }
+pub fn slot_sound(slot: u8, n: u8, spacing: usize, speed: u8) -> bool
+    ensures { λ r. ⌜ r ≡ soundSlot slot n spacing speed ⌝ }
 {
     if slot < 1 {
         return false;
@@ -56,7 +56,7 @@ pub fn lists_sound(
     count: usize,
 ) -> bool
     requires { ⌜ (n ≤ LIST-ROOM) × (held ≤ HELD-ROOM) × (count ≤ PLACES) ⌝ }
-    ensures { λ r. ⌜ r ≡ soundLists (take n list) (heldIn held interfaces alternates) (addresses (take count eps)) (cellsOf count eps owners) ⌝ }
+    ensures { λ r. ⌜ r ≡ soundLists (take n list) (heldIn held interfaces alternates) (addresses (take count eps)) (endpointMapOf count eps owners) ⌝ }
 {
     let words = &list[..n];
     if !descriptor_list::valid_list(words) {
@@ -68,6 +68,6 @@ pub fn lists_sound(
     if !record_endpoint::addresses_fit(eps, count) {
         return false;
     }
-    let c = record_endpoint::cells_of(eps, owners, count);
+    let c = record_endpoint::endpoint_map_of(eps, owners, count);
     record_settings::endpoints_match(words, interfaces, alternates, held, c)
 }

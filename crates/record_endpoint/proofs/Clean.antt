@@ -1,4 +1,4 @@
--- Cells that say nothing where there is no endpoint, and the way from cells to arrays and back.
+-- Endpoint maps that say nothing where there is no endpoint, and the way from them to arrays and back.
 use Prim.Native.Nat.{ℕ, zero, suc, _+_, _-_, _≤_, _<_}
 use mathlib.Core.Path.{_≡_, refl, sym, ap, _∙_}
 use mathlib.Core.Logic.{inl, inr}
@@ -15,25 +15,25 @@ use Rattle.laws.proofs.Tests.{and-left, and-right, not-both}
 use Rattle.laws.proofs.Cases.{Decided, decided}
 use Rattle.laws.proofs.Distinct.{elem, elem-at}
 use Rattle.record_endpoint.proofs.Laws.{no-place-low, place-address, place-same, address-rises, claimed-whole, claimed-ring, claimed-owner, claimed-active, active-length, active-other}
-use Rattle.record_endpoint.proofs.Steps.{getD-set, whole-none, whole-cell, addresses-at, addresses-length, take-filled}
+use Rattle.record_endpoint.proofs.Steps.{getD-set, whole-none, whole-entry, addresses-at, addresses-length, take-filled}
 use Rattle.record_endpoint.specs.Order.{addressAt, placeOf}
 use Rattle.record_endpoint.specs.Endpoint.{blank, addresses, addressesFit, padded}
-use Rattle.record_endpoint.specs.Cells.{Whole, noCells, withCell, isActive, handleOf, cellsFrom, cellsOf, gathered, endpointAt, endpointsOf, ownersOf, isOwned, claimedRing, claimedOwner, claimedActive, claimedCells, withActive, EndpointsAs}
+use Rattle.record_endpoint.specs.EndpointMap.{Whole, noEndpoints, withEndpoint, isActive, handleOf, endpointMapFrom, endpointMapOf, gathered, endpointAt, endpointsOf, ownersOf, isOwned, claimedRing, claimedOwner, claimedActive, claimedEndpoints, withActive, EndpointsAs}
 use Rattle.record_endpoint.specs.declared.entry.Endpoint.{Endpoint}
 use Rattle.record_endpoint.specs.declared.entry.Endpoints.{Endpoints}
-use Rattle.record_endpoint.specs.declared.cells.Cells.{Cells}
-use Rattle.record_endpoint.specs.declared.cells.Owner.{Owner}
-use Rattle.record_endpoint.specs.declared.cells.Owner.the-variants.{Interface}
+use Rattle.record_endpoint.specs.declared.endpoint_map.EndpointMap.{EndpointMap}
+use Rattle.record_endpoint.specs.declared.endpoint_map.Owner.{Owner}
+use Rattle.record_endpoint.specs.declared.endpoint_map.Owner.the-variants.{Interface}
 
--- A cell for each place; one without a ring has no owner and is not active.
-pub record CleanCells (c : Cells) : Type 0 where
+-- An entry for each place; one without a ring has no owner and is not active.
+pub record CleanMap (c : EndpointMap) : Type 0 where
   pub whole : Whole c
   pub owner : (p : ℕ) → p < 30 → getD (c .rings) p 0 ≡ 0 → getD (c .owners) p 0 ≡ 0
   pub active : (p : ℕ) → p < 30 → getD (c .rings) p 0 ≡ 0 → getD (c .active) p false ≡ false
 
 -- No endpoints are clean.
-pub clean-none : CleanCells noCells
-unfolding noCells
+pub clean-none : CleanMap noEndpoints
+unfolding noEndpoints
 clean-none =
     record {
       whole = whole-none;
@@ -54,8 +54,8 @@ claimed-gone {A = A} pending ring owned none was new z f = go (decided (eqb pend
     go (inl e) false s = rw e (f (rw e at s))
     go (inr e) o s = absurd (eqb-false pending 0 e (rw e at s))
 
--- A claim keeps cells clean.
-pub clean-claimed : (i : ℕ) (pending : List ℕ) (c : Cells) → CleanCells c → CleanCells (claimedCells i pending c)
+-- A claim keeps a map clean.
+pub clean-claimed : (i : ℕ) (pending : List ℕ) (c : EndpointMap) → CleanMap c → CleanMap (claimedEndpoints i pending c)
 unfolding claimedRing claimedOwner claimedActive
 clean-claimed i pending c clean =
     record {
@@ -64,8 +64,8 @@ clean-claimed i pending c clean =
       active = λ p h z. claimed-active i pending c p h ∙ claimed-gone (getD pending p 0) (getD (c .rings) p 0) (isOwned (Interface i) c p) false _ true (sym (claimed-ring i pending c p h) ∙ z) (clean .active p h);
     }
 
--- Activity keeps cells clean.
-pub clean-active : (who : Owner) (n : ℕ) (c : Cells) → CleanCells c → CleanCells (withActive who n c)
+-- Activity keeps a map clean.
+pub clean-active : (who : Owner) (n : ℕ) (c : EndpointMap) → CleanMap c → CleanMap (withActive who n c)
 unfolding withActive isOwned
 clean-active who n c clean =
     record {
@@ -74,14 +74,14 @@ clean-active who n c clean =
       active = λ p h z. active-other who c p h n (rw (eq-eqb (getD (c .rings) p 0) 0 z)) ∙ clean .active p h z;
     }
 
--- An endpoint with a ring keeps cells clean.
-clean-cell :
-    (c : Cells) (place ring owner : ℕ) (on : Bool) → CleanCells c → (ring ≡ 0 → ⊥) →
-    CleanCells (withCell c place ring owner on)
-unfolding withCell
-clean-cell c place ring owner on clean r =
+-- An endpoint with a ring keeps a map clean.
+clean-entry :
+    (c : EndpointMap) (place ring owner : ℕ) (on : Bool) → CleanMap c → (ring ≡ 0 → ⊥) →
+    CleanMap (withEndpoint c place ring owner on)
+unfolding withEndpoint
+clean-entry c place ring owner on clean r =
     record {
-      whole = whole-cell c place ring owner on (clean .whole);
+      whole = whole-entry c place ring owner on (clean .whole);
       owner = λ p h z. getD-set (c .owners) place p owner 0 (rw (clean .whole .owners) h) ∙ kept p h z owner (getD (c .owners) p 0) 0 (clean .owner p h);
       active = λ p h z. getD-set (c .active) place p on false (rw (clean .whole .active) h) ∙ kept p h z on (getD (c .active) p false) false (clean .active p h);
     }
@@ -102,20 +102,20 @@ second [] i d = refl
 second (x ∷ l) i d = refl
 
 clean-from :
-    (n : ℕ) (eps : List Endpoint) (owners : List ℕ) (c : Cells) → CleanCells c →
-    ((k : ℕ) → k < n → getD eps k blank .ring ≡ 0 → ⊥) → CleanCells (cellsFrom n eps owners c)
-unfolding cellsFrom
+    (n : ℕ) (eps : List Endpoint) (owners : List ℕ) (c : EndpointMap) → CleanMap c →
+    ((k : ℕ) → k < n → getD eps k blank .ring ≡ 0 → ⊥) → CleanMap (endpointMapFrom n eps owners c)
+unfolding endpointMapFrom
 clean-from zero eps owners c clean h = clean
 clean-from (suc n) eps owners c clean h =
-    clean-from n (drop 1 eps) (drop 1 owners) _ (clean-cell c _ _ _ _ clean (h 0 (omega arith)))
+    clean-from n (drop 1 eps) (drop 1 owners) _ (clean-entry c _ _ _ _ clean (h 0 (omega arith)))
     (λ k l z. h (suc k) (omega arith) (rw (second eps k blank) z))
 
--- The cells of endpoints with rings are clean.
+-- The map of endpoints with rings are clean.
 pub clean-of :
     (n : ℕ) (eps : List Endpoint) (owners : List ℕ) → ((k : ℕ) → k < n → getD eps k blank .ring ≡ 0 → ⊥) →
-    CleanCells (cellsOf n eps owners)
-unfolding cellsOf
-clean-of n eps owners h = clean-from n eps owners noCells clean-none h
+    CleanMap (endpointMapOf n eps owners)
+unfolding endpointMapOf
+clean-of n eps owners h = clean-from n eps owners noEndpoints clean-none h
 
 -- To arrays and back.
 
@@ -135,8 +135,8 @@ put-taken :
 put-taken l z a m h =
     set-at (take a l) z (replicate m z) (getD l a z) a (length-take-le a l (omega arith)) ∙ sym (more-taken l z a m h)
 
--- The cells of the first a places.
-front : ℕ → Cells → Cells
+-- The map of the first a places.
+front : ℕ → EndpointMap → EndpointMap
 front a c =
     record {
       rings = take a (c .rings) ++ replicate (30 - a) 0;
@@ -149,11 +149,11 @@ unfolding isActive handleOf
 handle-back true = refl
 handle-back false = refl
 
-module _ (c : Cells) (clean : CleanCells c) where
+module _ (c : EndpointMap) (clean : CleanMap c) where
   front-put :
       (a : ℕ) → a < 30 →
-      withCell (front a c) a (getD (c .rings) a 0) (getD (c .owners) a 0) (getD (c .active) a false) ≡ front (a + 1) c
-  unfolding front withCell
+      withEndpoint (front a c) a (getD (c .rings) a 0) (getD (c .owners) a 0) (getD (c .active) a false) ≡ front (a + 1) c
+  unfolding front withEndpoint
   front-put a h =
       let m = 30 - (a + 1) in
       let e : 30 - a ≡ suc m = omega arith in
@@ -181,8 +181,8 @@ module _ (c : Cells) (clean : CleanCells c) where
         clean .active a h z,
       )
 
-  front-none : front 0 c ≡ noCells
-  unfolding front noCells
+  front-none : front 0 c ≡ noEndpoints
+  unfolding front noEndpoints
   front-none = refl
 
   front-all : front 30 c ≡ c
@@ -201,17 +201,17 @@ module _ (c : Cells) (clean : CleanCells c) where
   ownerAt : ℕ → ℕ
   ownerAt p = getD (c .owners) p 0
 
-  cell-back :
+  entry-back :
       (a : ℕ) → a < 30 →
-      withCell (front a c) (placeOf (endpointAt c a .address)) (endpointAt c a .ring) (ownerAt a) (isActive (endpointAt c a .handle)) ≡ front (a + 1) c
+      withEndpoint (front a c) (placeOf (endpointAt c a .address)) (endpointAt c a .ring) (ownerAt a) (isActive (endpointAt c a .handle)) ≡ front (a + 1) c
   unfolding endpointAt ownerAt
-  cell-back a h = rw (place-address a h, handle-back (getD (c .active) a false)) (front-put a h)
+  entry-back a h = rw (place-address a h, handle-back (getD (c .active) a false)) (front-put a h)
 
   back-from :
       (k a : ℕ) (xs : List Endpoint) (ys : List ℕ) → a + k ≡ 30 →
-      cellsFrom (length (gathered (endpointAt c) (c .rings) k a)) (gathered (endpointAt c) (c .rings) k a ++ xs) (gathered ownerAt (c .rings) k a ++ ys) (front a c)
+      endpointMapFrom (length (gathered (endpointAt c) (c .rings) k a)) (gathered (endpointAt c) (c .rings) k a ++ xs) (gathered ownerAt (c .rings) k a ++ ys) (front a c)
       ≡ front 30 c
-  unfolding gathered cellsFrom
+  unfolding gathered endpointMapFrom
   back-from zero a xs ys h = let e : a ≡ 30 = omega arith in ap (λ (b : ℕ). front b c) e
   back-from (suc k) a xs ys h =
       go (eqb (getD (c .rings) a 0) 0) refl (gathered (endpointAt c) (c .rings) k (a + 1)) (gathered ownerAt (c .rings) k (a + 1))
@@ -219,26 +219,26 @@ module _ (c : Cells) (clean : CleanCells c) where
     where
       go :
           (t : Bool) → eqb (getD (c .rings) a 0) 0 ≡ t → (es : List Endpoint) (os : List ℕ) →
-          cellsFrom (length es) (es ++ xs) (os ++ ys) (front (a + 1) c) ≡ front 30 c →
-          cellsFrom (length (cond t es (endpointAt c a ∷ es))) (cond t es (endpointAt c a ∷ es) ++ xs) (cond t os (ownerAt a ∷ os) ++ ys) (front a c)
+          endpointMapFrom (length es) (es ++ xs) (os ++ ys) (front (a + 1) c) ≡ front 30 c →
+          endpointMapFrom (length (cond t es (endpointAt c a ∷ es))) (cond t es (endpointAt c a ∷ es) ++ xs) (cond t os (ownerAt a ∷ os) ++ ys) (front a c)
           ≡ front 30 c
       go true e es os f = rw (front-skip a (omega arith) (eqb-true (getD (c .rings) a 0) 0 e)) f
-      go false e es os f = ap (cellsFrom (length es) (es ++ xs) (os ++ ys)) (cell-back a (omega arith)) ∙ f
+      go false e es os f = ap (endpointMapFrom (length es) (es ++ xs) (os ++ ys)) (entry-back a (omega arith)) ∙ f
 
-  -- Clean cells come back from their arrays.
-  pub cells-back : cellsOf (length (endpointsOf c)) (padded 30 blank (endpointsOf c)) (padded 30 0 (ownersOf c)) ≡ c
-  unfolding cellsOf endpointsOf ownersOf padded ownerAt
-  cells-back =
+  -- A clean map comes back from its arrays.
+  pub map-back : endpointMapOf (length (endpointsOf c)) (padded 30 blank (endpointsOf c)) (padded 30 0 (ownersOf c)) ≡ c
+  unfolding endpointMapOf endpointsOf ownersOf padded ownerAt
+  map-back =
       rw (← front-none)
       (back-from 30 0 (replicate (30 - length (endpointsOf c)) blank) (replicate (30 - length (ownersOf c)) 0) refl)
       ∙ front-all
 
   -- And so from what `endpoints_of` gives.
-  pub endpoints-back : (r : Endpoints) → EndpointsAs r c → cellsOf (r .count) (r .eps) (r .owners) ≡ c
-  endpoints-back r a = rw (a .eps, a .owners, a .count) cells-back
+  pub endpoints-back : (r : Endpoints) → EndpointsAs r c → endpointMapOf (r .count) (r .eps) (r .owners) ≡ c
+  endpoints-back r a = rw (a .eps, a .owners, a .count) map-back
 
 -- The addresses of the arrays.
-module _ (c : Cells) where
+module _ (c : EndpointMap) where
   elem-outside :
       (x k a : ℕ) → ((p : ℕ) → a ≤ p → x ≡ addressAt p → ⊥) →
       elem x (addresses (gathered (endpointAt c) (c .rings) k a)) ≡ false
@@ -276,50 +276,50 @@ module _ (c : Cells) where
   pub endpoints-as-fit : (r : Endpoints) → EndpointsAs r c → addressesFit (addresses (take (r .count) (r .eps))) ≡ true
   endpoints-as-fit r a = rw (take-filled 30 blank (r .eps) (r .count) (endpointsOf c) (a .eps) (a .count)) endpoints-fit
 
--- What cells hold at a place.
-pub record CellIs (c : Cells) (p ring owner : ℕ) (on : Bool) : Type 0 where
+-- What a map holds at a place.
+pub record EntryIs (c : EndpointMap) (p ring owner : ℕ) (on : Bool) : Type 0 where
   pub rings : getD (c .rings) p 0 ≡ ring
   pub owners : getD (c .owners) p 0 ≡ owner
   pub active : getD (c .active) p false ≡ on
 
-cell-other :
-    (c : Cells) (place r o : ℕ) (b : Bool) (p ring owner : ℕ) (on : Bool) → (place ≡ p → ⊥) → CellIs c p ring owner on →
-    CellIs (withCell c place r o b) p ring owner on
-unfolding withCell
-cell-other c place r o b p ring owner on n i =
+entry-other :
+    (c : EndpointMap) (place r o : ℕ) (b : Bool) (p ring owner : ℕ) (on : Bool) → (place ≡ p → ⊥) → EntryIs c p ring owner on →
+    EntryIs (withEndpoint c place r o b) p ring owner on
+unfolding withEndpoint
+entry-other c place r o b p ring owner on n i =
     record {
       rings = getD-set-other (c .rings) place p r 0 (λ e. n (sym e)) ∙ i .rings;
       owners = getD-set-other (c .owners) place p o 0 (λ e. n (sym e)) ∙ i .owners;
       active = getD-set-other (c .active) place p b false (λ e. n (sym e)) ∙ i .active;
     }
 
-cell-same : (c : Cells) (p r o : ℕ) (b : Bool) → Whole c → p < 30 → CellIs (withCell c p r o b) p r o b
-unfolding withCell
-cell-same c p r o b w h =
+entry-same : (c : EndpointMap) (p r o : ℕ) (b : Bool) → Whole c → p < 30 → EntryIs (withEndpoint c p r o b) p r o b
+unfolding withEndpoint
+entry-same c p r o b w h =
     record {
       rings = getD-set-same (c .rings) p r 0 (rw (w .rings) h);
       owners = getD-set-same (c .owners) p o 0 (rw (w .owners) h);
       active = getD-set-same (c .active) p b false (rw (w .active) h);
     }
 
-cells-kept :
-    (n : ℕ) (eps : List Endpoint) (owners : List ℕ) (c : Cells) (p ring owner : ℕ) (on : Bool) →
-    ((k : ℕ) → k < n → placeOf (getD eps k blank .address) ≡ p → ⊥) → CellIs c p ring owner on →
-    CellIs (cellsFrom n eps owners c) p ring owner on
-unfolding cellsFrom
-cells-kept zero eps owners c p ring owner on h i = i
-cells-kept (suc n) eps owners c p ring owner on h i =
-    cells-kept n (drop 1 eps) (drop 1 owners) _ p ring owner on
+map-kept :
+    (n : ℕ) (eps : List Endpoint) (owners : List ℕ) (c : EndpointMap) (p ring owner : ℕ) (on : Bool) →
+    ((k : ℕ) → k < n → placeOf (getD eps k blank .address) ≡ p → ⊥) → EntryIs c p ring owner on →
+    EntryIs (endpointMapFrom n eps owners c) p ring owner on
+unfolding endpointMapFrom
+map-kept zero eps owners c p ring owner on h i = i
+map-kept (suc n) eps owners c p ring owner on h i =
+    map-kept n (drop 1 eps) (drop 1 owners) _ p ring owner on
     (λ k l e. h (suc k) (omega arith) (rw (second eps k blank) e))
-    (cell-other c _ _ _ _ p ring owner on (h 0 (omega arith)) i)
+    (entry-other c _ _ _ _ p ring owner on (h 0 (omega arith)) i)
 
 -- A place that is none of the endpoints' has none.
-pub cells-none :
+pub map-none :
     (n : ℕ) (eps : List Endpoint) (owners : List ℕ) (p : ℕ) → p < 30 →
-    ((k : ℕ) → k < n → placeOf (getD eps k blank .address) ≡ p → ⊥) → CellIs (cellsOf n eps owners) p 0 0 false
-unfolding cellsOf noCells
-cells-none n eps owners p h f =
-    cells-kept n eps owners noCells p 0 0 false f
+    ((k : ℕ) → k < n → placeOf (getD eps k blank .address) ≡ p → ⊥) → EntryIs (endpointMapOf n eps owners) p 0 0 false
+unfolding endpointMapOf noEndpoints
+map-none n eps owners p h f =
+    map-kept n eps owners noEndpoints p 0 0 false f
     (record { rings = getD-replicate 30 p 0 0 h; owners = getD-replicate 30 p 0 0 h; active = getD-replicate 30 p false false h })
 
 -- What fitting addresses tell of the first one and of the rest.
@@ -353,27 +353,27 @@ apart eps n a h e k l s = go (decLt k (length eps))
         let t : placeOf (getD eps k blank .address) ≡ 30 = rw z (no-place-low 0 (omega arith)) in
         omega arith
 
-cells-from :
-    (n : ℕ) (eps : List Endpoint) (owners : List ℕ) (c : Cells) (k : ℕ) → Whole c →
+map-from :
+    (n : ℕ) (eps : List Endpoint) (owners : List ℕ) (c : EndpointMap) (k : ℕ) → Whole c →
     addressesFit (addresses (take n eps)) ≡ true → k < n → k < length eps →
-    CellIs (cellsFrom n eps owners c) (placeOf (getD eps k blank .address)) (getD eps k blank .ring) (getD owners k 0) (isActive (getD eps k blank .handle))
-unfolding cellsFrom addresses
-cells-from zero eps owners c k w f h r = absurd (omega arith)
-cells-from (suc n) [] owners c k w f h r = absurd (omega arith)
-cells-from (suc n) (e ∷ eps) owners c zero w f h r =
+    EntryIs (endpointMapFrom n eps owners c) (placeOf (getD eps k blank .address)) (getD eps k blank .ring) (getD owners k 0) (isActive (getD eps k blank .handle))
+unfolding endpointMapFrom addresses
+map-from zero eps owners c k w f h r = absurd (omega arith)
+map-from (suc n) [] owners c k w f h r = absurd (omega arith)
+map-from (suc n) (e ∷ eps) owners c zero w f h r =
     let t = fit-cons (e .address) (addresses (take n eps)) f in
-    cells-kept n eps (drop 1 owners) _ (placeOf (e .address)) (e .ring) (getD owners 0 0) (isActive (e .handle))
+    map-kept n eps (drop 1 owners) _ (placeOf (e .address)) (e .ring) (getD owners 0 0) (isActive (e .handle))
     (apart eps n (e .address) (t .0) (t .1))
-    (cell-same c (placeOf (e .address)) (e .ring) (getD owners 0 0) (isActive (e .handle)) w (t .0))
-cells-from (suc n) (e ∷ eps) owners c (suc k) w f h r =
+    (entry-same c (placeOf (e .address)) (e .ring) (getD owners 0 0) (isActive (e .handle)) w (t .0))
+map-from (suc n) (e ∷ eps) owners c (suc k) w f h r =
     let t = fit-cons (e .address) (addresses (take n eps)) f in
     rw (second owners k 0)
-    (cells-from n eps (drop 1 owners) _ k (whole-cell c _ _ _ _ w) (t .2) (omega arith) (omega arith))
+    (map-from n eps (drop 1 owners) _ k (whole-entry c _ _ _ _ w) (t .2) (omega arith) (omega arith))
 
 -- Each endpoint of arrays whose addresses fit is at its place, with its ring, its owner and its handle.
-pub cells-at :
+pub map-at :
     (n : ℕ) (eps : List Endpoint) (owners : List ℕ) (k : ℕ) →
     addressesFit (addresses (take n eps)) ≡ true → k < n → k < length eps →
-    CellIs (cellsOf n eps owners) (placeOf (getD eps k blank .address)) (getD eps k blank .ring) (getD owners k 0) (isActive (getD eps k blank .handle))
-unfolding cellsOf
-cells-at n eps owners k f h r = cells-from n eps owners noCells k whole-none f h r
+    EntryIs (endpointMapOf n eps owners) (placeOf (getD eps k blank .address)) (getD eps k blank .ring) (getD owners k 0) (isActive (getD eps k blank .handle))
+unfolding endpointMapOf
+map-at n eps owners k f h r = map-from n eps owners noEndpoints k whole-none f h r

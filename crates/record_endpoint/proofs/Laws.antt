@@ -1,4 +1,4 @@
--- What callers use of places, cells and queues.
+-- What callers use of places, endpoint maps and queues.
 use Prim.Native.Nat.{ℕ, zero, suc, _+_, _-_, _*_, _/_, _%_, _≤_, _<_}
 use mathlib.Core.Path.{_≡_, refl, sym, ap, _∙_}
 use mathlib.Core.Logic.{_⊎_, inl, inr}
@@ -22,12 +22,12 @@ use Rattle.transfer.specs.Routes.{Queue, queues, names, ringFor, Small}
 use Rattle.transfer.proofs.Laws.{ringFor-none}
 use Rattle.record_endpoint.specs.Endpoint.{padded}
 use Rattle.record_endpoint.specs.Order.{addressAt, dciAt, placeOf}
-use Rattle.record_endpoint.specs.Cells.{Whole, gathered, owns, isOwned, tabulated, ownedRings, queuesOf, pendingFrom, pendingRings, claimedRing, claimedOwner, claimedActive, claimed, claimedCells, activeFrom, withActive, queueDcis, queueRings, QueuesAs}
+use Rattle.record_endpoint.specs.EndpointMap.{Whole, gathered, owns, isOwned, tabulated, ownedRings, queuesOf, pendingFrom, pendingRings, claimedRing, claimedOwner, claimedActive, claimedOr, claimedEndpoints, activeFrom, withActive, queueDcis, queueRings, QueuesAs}
 use Rattle.record_endpoint.proofs.Steps.{gathered-le, getD-set, padded-put}
 use Rattle.record_endpoint.specs.declared.pending.Queues.{Queues}
-use Rattle.record_endpoint.specs.declared.cells.Cells.{Cells}
-use Rattle.record_endpoint.specs.declared.cells.Owner.{Owner}
-use Rattle.record_endpoint.specs.declared.cells.Owner.the-variants.{Any, Interface}
+use Rattle.record_endpoint.specs.declared.endpoint_map.EndpointMap.{EndpointMap}
+use Rattle.record_endpoint.specs.declared.endpoint_map.Owner.{Owner}
+use Rattle.record_endpoint.specs.declared.endpoint_map.Owner.the-variants.{Any, Interface}
 
 -- The order of the addresses.
 
@@ -214,7 +214,7 @@ less-one m n = go (decLt m (n - 1))
     go (no l) = le-ltb m (n - 1) (omega arith) ∙ sym (le-ltb (suc m) n (omega arith))
 
 -- The endpoints of an owner.
-module _ (who : Owner) (c : Cells) where
+module _ (who : Owner) (c : EndpointMap) where
   -- A ring for each place.
   pub owned-length : length (ownedRings who c) ≡ 30
   unfolding ownedRings
@@ -345,11 +345,11 @@ module _ (who : Owner) (c : Cells) where
     pub active-none : isOwned who c p ≡ true → getD ((withActive who 0 c) .active) p false ≡ false
     active-none o = active-at 0 ∙ rw (o, le-ltb (countOwned p 0) 0 (omega arith))
 
--- The cells after a claim of interface i.
-module _ (i : ℕ) (pending : List ℕ) (c : Cells) where
-  -- A cell for each place.
-  pub claimed-whole : Whole (claimedCells i pending c)
-  unfolding claimedCells
+-- The endpoints after a claim of interface i.
+module _ (i : ℕ) (pending : List ℕ) (c : EndpointMap) where
+  -- An entry for each place.
+  pub claimed-whole : Whole (claimedEndpoints i pending c)
+  unfolding claimedEndpoints
   claimed-whole =
       record {
         rings = tabulated-length (claimedRing i pending c) 30 0;
@@ -359,18 +359,18 @@ module _ (i : ℕ) (pending : List ℕ) (c : Cells) where
 
   module _ (p : ℕ) (h : p < 30) where
     -- The ring at a place.
-    pub claimed-ring : getD ((claimedCells i pending c) .rings) p 0 ≡ claimedRing i pending c p
-    unfolding claimedCells
+    pub claimed-ring : getD ((claimedEndpoints i pending c) .rings) p 0 ≡ claimedRing i pending c p
+    unfolding claimedEndpoints
     claimed-ring = tabulated-at (claimedRing i pending c) 30 p 0 h
 
     -- Its owner.
-    pub claimed-owner : getD ((claimedCells i pending c) .owners) p 0 ≡ claimedOwner i pending c p
-    unfolding claimedCells
+    pub claimed-owner : getD ((claimedEndpoints i pending c) .owners) p 0 ≡ claimedOwner i pending c p
+    unfolding claimedEndpoints
     claimed-owner = tabulated-at (claimedOwner i pending c) 30 p 0 h
 
     -- Whether it is active.
-    pub claimed-active : getD ((claimedCells i pending c) .active) p false ≡ claimedActive i pending c p
-    unfolding claimedCells
+    pub claimed-active : getD ((claimedEndpoints i pending c) .active) p false ≡ claimedActive i pending c p
+    unfolding claimedEndpoints
     claimed-active = tabulated-at (claimedActive i pending c) 30 p false h
 
 and-false : (a : Bool) → (a && false) ≡ false
@@ -378,7 +378,7 @@ and-false true = refl
 and-false false = refl
 
 -- The rings of all owners are all rings.
-pub owned-any : (c : Cells) (p : ℕ) → p < 30 → getD (ownedRings Any c) p 0 ≡ getD (c .rings) p 0
+pub owned-any : (c : EndpointMap) (p : ℕ) → p < 30 → getD (ownedRings Any c) p 0 ≡ getD (c .rings) p 0
 unfolding isOwned owns
 owned-any c p h = owned-at Any c p h ∙ go (decided (eqb (getD (c .rings) p 0) 0))
   where
@@ -390,40 +390,40 @@ owned-any c p h = owned-at Any c p h ∙ go (decided (eqb (getD (c .rings) p 0) 
 
 -- One place of a claim of interface i: x is pending, and ring r of owner w was there.
 claimed-i : (x r w i : ℕ) (o : Bool) → (not (eqb r 0) && eqb w i) ≡ o →
-    cond (not (eqb (claimed x o x 0 r) 0) && eqb (claimed x o i 0 w) i) (claimed x o x 0 r) 0 ≡ x
+    cond (not (eqb (claimedOr x o x 0 r) 0) && eqb (claimedOr x o i 0 w) i) (claimedOr x o x 0 r) 0 ≡ x
 claimed-i x r w i o e = go (decided (eqb x 0)) o e
   where
     go :
         Decided (eqb x 0) → (o : Bool) → (not (eqb r 0) && eqb w i) ≡ o →
-        cond (not (eqb (claimed x o x 0 r) 0) && eqb (claimed x o i 0 w) i) (claimed x o x 0 r) 0 ≡ x
+        cond (not (eqb (claimedOr x o x 0 r) 0) && eqb (claimedOr x o i 0 w) i) (claimedOr x o x 0 r) 0 ≡ x
     go (inl z) true f = rw z (sym (eqb-true x 0 z))
     go (inl z) false f = rw (z, f) (sym (eqb-true x 0 z))
     go (inr z) o f = rw (z, z, eq-eqb i i refl)
 
 claimed-j : (x r w i j : ℕ) (o : Bool) → (not (eqb r 0) && eqb w i) ≡ o → (j ≡ i → ⊥) → x ≡ 0 →
-    cond (not (eqb (claimed x o x 0 r) 0) && eqb (claimed x o i 0 w) j) (claimed x o x 0 r) 0
+    cond (not (eqb (claimedOr x o x 0 r) 0) && eqb (claimedOr x o i 0 w) j) (claimedOr x o x 0 r) 0
     ≡ cond (not (eqb r 0) && eqb w j) r 0
 claimed-j x r w i j true e n z =
     let s : w ≡ i = eqb-true w i (and-right (not (eqb r 0)) (eqb w i) e) in
     rw (z, ne-eqb w j (λ q. n (sym q ∙ s)), and-false (not (eqb r 0)))
 claimed-j x r w i j false e n z = rw z
 
-module _ (i : ℕ) (pending : List ℕ) (c : Cells) (p : ℕ) (h : p < 30) where
+module _ (i : ℕ) (pending : List ℕ) (c : EndpointMap) (p : ℕ) (h : p < 30) where
   -- After a claim the interface has the pending rings.
-  pub claimed-own : getD (ownedRings (Interface i) (claimedCells i pending c)) p 0 ≡ getD pending p 0
+  pub claimed-own : getD (ownedRings (Interface i) (claimedEndpoints i pending c)) p 0 ≡ getD pending p 0
   unfolding isOwned owns claimedRing claimedOwner
   claimed-own =
-      owned-at (Interface i) (claimedCells i pending c) p h
+      owned-at (Interface i) (claimedEndpoints i pending c) p h
       ∙ rw (claimed-ring i pending c p h, claimed-owner i pending c p h)
       (claimed-i (getD pending p 0) (getD (c .rings) p 0) (getD (c .owners) p 0) i (isOwned (Interface i) c p) refl)
 
   -- Another interface has its own as before, where none is pending.
   pub claimed-others :
       (j : ℕ) → (j ≡ i → ⊥) → getD pending p 0 ≡ 0 →
-      getD (ownedRings (Interface j) (claimedCells i pending c)) p 0 ≡ getD (ownedRings (Interface j) c) p 0
+      getD (ownedRings (Interface j) (claimedEndpoints i pending c)) p 0 ≡ getD (ownedRings (Interface j) c) p 0
   unfolding isOwned owns claimedRing claimedOwner
   claimed-others j n z =
-      owned-at (Interface j) (claimedCells i pending c) p h
+      owned-at (Interface j) (claimedEndpoints i pending c) p h
       ∙ rw (claimed-ring i pending c p h, claimed-owner i pending c p h)
       (claimed-j (getD pending p 0) (getD (c .rings) p 0) (getD (c .owners) p 0) i j (isOwned (Interface i) c p) refl n z)
       ∙ sym (owned-at (Interface j) c p h)

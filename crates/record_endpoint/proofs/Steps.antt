@@ -17,11 +17,11 @@ use Rattle.descriptor.specs.Word.{endpointDescriptor}
 use Rattle.transfer.specs.Routes.{Queue}
 use Rattle.record_endpoint.specs.Order.{placeOf, addressAt, dciAt}
 use Rattle.record_endpoint.specs.Endpoint.{blank, addresses, padded}
-use Rattle.record_endpoint.specs.Cells.{Whole, noCells, withCell, isActive, cellsFrom, gathered, isOwned, tabulated, claimedRing, claimedOwner, claimedActive, claimedCells, activeFrom, withActive, pendingFrom, queueDcis, queueRings}
+use Rattle.record_endpoint.specs.EndpointMap.{Whole, noEndpoints, withEndpoint, isActive, endpointMapFrom, gathered, isOwned, tabulated, claimedRing, claimedOwner, claimedActive, claimedEndpoints, activeFrom, withActive, pendingFrom, queueDcis, queueRings}
 use Rattle.record_endpoint.specs.declared.entry.Endpoint.{Endpoint}
-use Rattle.record_endpoint.specs.declared.cells.Cells.{Cells}
-use Rattle.record_endpoint.specs.declared.cells.Owner.{Owner}
-use Rattle.record_endpoint.specs.declared.cells.Owner.the-variants.{Interface}
+use Rattle.record_endpoint.specs.declared.endpoint_map.EndpointMap.{EndpointMap}
+use Rattle.record_endpoint.specs.declared.endpoint_map.Owner.{Owner}
+use Rattle.record_endpoint.specs.declared.endpoint_map.Owner.the-variants.{Interface}
 
 -- What stands at a place after one was written.
 pub getD-set :
@@ -166,7 +166,7 @@ gathered-length {A = A} {B = B} f g rings (suc k) a = go (eqb (getD rings a 0) 0
 
 -- `with_active`
 active-next :
-    (who : Owner) (c : Cells) (m : ℕ) (l : List Bool) (p n n′ : ℕ) (v : Bool) →
+    (who : Owner) (c : EndpointMap) (m : ℕ) (l : List Bool) (p n n′ : ℕ) (v : Bool) →
     p < m → p < length l →
     v ≡ cond (isOwned who c p) (ltb 0 n) (getD (c .active) p false) →
     n′ ≡ cond (isOwned who c p) (n - 1) n →
@@ -186,7 +186,7 @@ active-next who c m l p n n′ v h g ev en =
     go false = refl
 
 active-done :
-    (who : Owner) (c : Cells) (m : ℕ) (l : List Bool) (p n : ℕ) →
+    (who : Owner) (c : EndpointMap) (m : ℕ) (l : List Bool) (p n : ℕ) →
     m ≤ p → length l ≤ p → take p l ++ activeFrom (m - p) p who n c ≡ l
 unfolding activeFrom
 active-done who c m l p n h g = let e : m - p ≡ zero = omega arith in rw (e, take-all p l g, append-nil)
@@ -198,24 +198,24 @@ less-than m n = go (decLt m n)
     go (yes l) = lt-ltb m n l ∙ sym (lt-ltb 0 (n - m) (omega arith))
     go (no l) = le-ltb m n (omega arith) ∙ sym (le-ltb 0 (n - m) (omega arith))
 
-cells-as :
-    (c : Cells) (rings owners : List ℕ) (active : List Bool) → c .rings ≡ rings → c .owners ≡ owners → c .active ≡ active →
+map-as :
+    (c : EndpointMap) (rings owners : List ℕ) (active : List Bool) → c .rings ≡ rings → c .owners ≡ owners → c .active ≡ active →
     c ≡ record { rings = rings; owners = owners; active = active }
-cells-as c rings owners active p q r = rw (← p, ← q, ← r)
+map-as c rings owners active p q r = rw (← p, ← q, ← r)
 
 -- of the first p places `seen` are owned, and their marks are those of the definition
-pub record Activated (who : Owner) (n : ℕ) (was : Cells) (seen p : ℕ) (c : Cells) : Type 0 where
+pub record Activated (who : Owner) (n : ℕ) (was : EndpointMap) (seen p : ℕ) (c : EndpointMap) : Type 0 where
   pub rings : c .rings ≡ was .rings
   pub owners : c .owners ≡ was .owners
   pub left : (q : ℕ) → p ≤ q → getD (c .active) q false ≡ getD (was .active) q false
   pub room : length (c .active) ≡ 30
   pub marked : activeFrom 30 0 who n was ≡ take p (c .active) ++ activeFrom (30 - p) p who (n - seen) was
 
-pub activated-none : (who : Owner) (n : ℕ) (c : Cells) → length (c .active) ≡ 30 → Activated who n c 0 0 c
+pub activated-none : (who : Owner) (n : ℕ) (c : EndpointMap) → length (c .active) ≡ 30 → Activated who n c 0 0 c
 activated-none who n c e =
     record { rings = refl; owners = refl; left = λ q h. refl; room = e; marked = rw (sub-zero 30, sub-zero n) }
 
-module _ {who : Owner} {n : ℕ} {was : Cells} {seen p : ℕ} {c : Cells} (a : Activated who n was seen p c) where
+module _ {who : Owner} {n : ℕ} {was : EndpointMap} {seen p : ℕ} {c : EndpointMap} (a : Activated who n was seen p c) where
   owned-was : isOwned who was p ≡ isOwned who c p
   unfolding isOwned
   owned-was = rw (a .rings, a .owners)
@@ -253,7 +253,7 @@ module _ {who : Owner} {n : ℕ} {was : Cells} {seen p : ℕ} {c : Cells} (a : A
   pub activated-done : 30 ≤ p → c ≡ withActive who n was
   unfolding withActive
   activated-done h =
-      cells-as c (was .rings) (was .owners) (activeFrom 30 0 who n was) (a .rings) (a .owners)
+      map-as c (was .rings) (was .owners) (activeFrom 30 0 who n was) (a .rings) (a .owners)
       (sym (a .marked ∙ active-done who was 30 (c .active) p (n - seen) h (rw (a .room) h)))
 
 -- the first of those from the i-th on
@@ -261,38 +261,38 @@ first-drop : {A : Type 0} (i : ℕ) (l : List A) (d : A) → getD (drop i l) 0 d
 first-drop i l d = getD-drop i l 0 d ∙ rw (add-zero i)
 
 -- `cells_of`
-cells-step :
-    (m : ℕ) (eps eps′ : List Endpoint) (owners owners′ : List ℕ) (c : Cells) (e : Endpoint) (o : ℕ) →
+map-step :
+    (m : ℕ) (eps eps′ : List Endpoint) (owners owners′ : List ℕ) (c : EndpointMap) (e : Endpoint) (o : ℕ) →
     drop 1 eps ≡ eps′ → drop 1 owners ≡ owners′ → getD eps 0 blank ≡ e → getD owners 0 0 ≡ o →
-    cellsFrom (suc m) eps owners c ≡ cellsFrom m eps′ owners′ (withCell c (placeOf (e .address)) (e .ring) o (isActive (e .handle)))
-unfolding cellsFrom
-cells-step m eps eps′ owners owners′ c e o p q r s = rw (← p, ← q, ← r, ← s)
+    endpointMapFrom (suc m) eps owners c ≡ endpointMapFrom m eps′ owners′ (withEndpoint c (placeOf (e .address)) (e .ring) o (isActive (e .handle)))
+unfolding endpointMapFrom
+map-step m eps eps′ owners owners′ c e o p q r s = rw (← p, ← q, ← r, ← s)
 
-pub cells-next :
-    (eps : List Endpoint) (owners : List ℕ) (n i : ℕ) (c : Cells) →
+pub map-next :
+    (eps : List Endpoint) (owners : List ℕ) (n i : ℕ) (c : EndpointMap) →
     i < n →
-    cellsFrom (n - i) (drop i eps) (drop i owners) c
-    ≡ cellsFrom (n - (i + 1)) (drop (i + 1) eps) (drop (i + 1) owners)
-    (withCell c (placeOf (getD eps i blank .address)) (getD eps i blank .ring) (getD owners i 0) (isActive (getD eps i blank .handle)))
-cells-next eps owners n i c h =
+    endpointMapFrom (n - i) (drop i eps) (drop i owners) c
+    ≡ endpointMapFrom (n - (i + 1)) (drop (i + 1) eps) (drop (i + 1) owners)
+    (withEndpoint c (placeOf (getD eps i blank .address)) (getD eps i blank .ring) (getD owners i 0) (isActive (getD eps i blank .handle)))
+map-next eps owners n i c h =
     let e : n - i ≡ suc (n - (i + 1)) = omega arith in
     rw e
-    (cells-step (n - (i + 1)) (drop i eps) (drop (i + 1) eps) (drop i owners) (drop (i + 1) owners) c (getD eps i blank) (getD owners i 0)
+    (map-step (n - (i + 1)) (drop i eps) (drop (i + 1) eps) (drop i owners) (drop (i + 1) owners) c (getD eps i blank) (getD owners i 0)
     (drop-drop 1 i eps) (drop-drop 1 i owners) (first-drop i eps blank) (first-drop i owners 0))
 
-pub cells-done :
-    (eps : List Endpoint) (owners : List ℕ) (n i : ℕ) (c : Cells) → n ≤ i → cellsFrom (n - i) eps owners c ≡ c
-unfolding cellsFrom
-cells-done eps owners n i c h = let e : n - i ≡ zero = omega arith in rw e
+pub map-done :
+    (eps : List Endpoint) (owners : List ℕ) (n i : ℕ) (c : EndpointMap) → n ≤ i → endpointMapFrom (n - i) eps owners c ≡ c
+unfolding endpointMapFrom
+map-done eps owners n i c h = let e : n - i ≡ zero = omega arith in rw e
 
-pub whole-none : Whole noCells
-unfolding noCells
+pub whole-none : Whole noEndpoints
+unfolding noEndpoints
 whole-none = record { rings = refl; owners = refl; active = refl }
 
-pub whole-cell :
-    (c : Cells) (place ring owner : ℕ) (on : Bool) → Whole c → Whole (withCell c place ring owner on)
-unfolding withCell
-whole-cell c place ring owner on w =
+pub whole-entry :
+    (c : EndpointMap) (place ring owner : ℕ) (on : Bool) → Whole c → Whole (withEndpoint c place ring owner on)
+unfolding withEndpoint
+whole-entry c place ring owner on w =
     record {
       rings = length-set (c .rings) place ring ∙ w .rings;
       owners = length-set (c .owners) place owner ∙ w .owners;
@@ -300,12 +300,12 @@ whole-cell c place ring owner on w =
     }
 
 -- `claimed_cells`
-pub record Claiming (i : ℕ) (pending : List ℕ) (was : Cells) (p : ℕ) (c : Cells) : Type 0 where
+pub record Claiming (i : ℕ) (pending : List ℕ) (was : EndpointMap) (p : ℕ) (c : EndpointMap) : Type 0 where
   pub rings : Written 30 (claimedRing i pending was) (was .rings) 0 p (c .rings)
   pub owners : Written 30 (claimedOwner i pending was) (was .owners) 0 p (c .owners)
   pub active : Written 30 (claimedActive i pending was) (was .active) false p (c .active)
 
-pub claiming-none : (i : ℕ) (pending : List ℕ) (c : Cells) → Whole c → Claiming i pending c 0 c
+pub claiming-none : (i : ℕ) (pending : List ℕ) (c : EndpointMap) → Whole c → Claiming i pending c 0 c
 claiming-none i pending c w =
     record {
       rings = write-none 30 _ (c .rings) 0 (w .rings);
@@ -313,14 +313,14 @@ claiming-none i pending c w =
       active = write-none 30 _ (c .active) false (w .active);
     }
 
-module _ {i : ℕ} {pending : List ℕ} {was : Cells} {p : ℕ} {c : Cells} (a : Claiming i pending was p c) where
+module _ {i : ℕ} {pending : List ℕ} {was : EndpointMap} {p : ℕ} {c : EndpointMap} (a : Claiming i pending was p c) where
   pub claiming-whole : Whole c
   claiming-whole = record { rings = a .rings .room; owners = a .owners .room; active = a .active .room }
 
   claiming-set :
       (r o : ℕ) (on : Bool) → p < 30 → r ≡ claimedRing i pending was p → o ≡ claimedOwner i pending was p →
-      on ≡ claimedActive i pending was p → Claiming i pending was (p + 1) (withCell c p r o on)
-  unfolding withCell
+      on ≡ claimedActive i pending was p → Claiming i pending was (p + 1) (withEndpoint c p r o on)
+  unfolding withEndpoint
   claiming-set r o on h e f g =
       record {
         rings = write-next r (a .rings) h e;
@@ -334,7 +334,7 @@ module _ {i : ℕ} {pending : List ℕ} {was : Cells} {p : ℕ} {c : Cells} (a :
 
   -- a ring is pending
   pub claiming-put :
-      p < 30 → (getD pending p 0 ≡ 0 → ⊥) → Claiming i pending was (p + 1) (withCell c p (getD pending p 0) i true)
+      p < 30 → (getD pending p 0 ≡ 0 → ⊥) → Claiming i pending was (p + 1) (withEndpoint c p (getD pending p 0) i true)
   unfolding claimedRing claimedOwner claimedActive
   claiming-put h z =
       let e : eqb (getD pending p 0) 0 ≡ false = ne-eqb (getD pending p 0) 0 z in
@@ -345,7 +345,7 @@ module _ {i : ℕ} {pending : List ℕ} {was : Cells} {p : ℕ} {c : Cells} (a :
     unoffered = eq-eqb (getD pending p 0) 0 z
 
     -- none is, and the endpoint is the interface's
-    pub claiming-gone : isOwned (Interface i) c p ≡ true → Claiming i pending was (p + 1) (withCell c p 0 0 false)
+    pub claiming-gone : isOwned (Interface i) c p ≡ true → Claiming i pending was (p + 1) (withEndpoint c p 0 0 false)
     unfolding claimedRing claimedOwner claimedActive
     claiming-gone o =
         claiming-set 0 0 false h (rw (unoffered, owned-before, o)) (rw (unoffered, owned-before, o)) (rw (unoffered, owned-before, o))
@@ -360,10 +360,10 @@ module _ {i : ℕ} {pending : List ℕ} {was : Cells} {p : ℕ} {c : Cells} (a :
           active = write-keep (a .active) h (rw (unoffered, owned-before, o));
         }
 
-  pub claiming-done : 30 ≤ p → p ≤ 30 → c ≡ claimedCells i pending was
-  unfolding claimedCells
+  pub claiming-done : 30 ≤ p → p ≤ 30 → c ≡ claimedEndpoints i pending was
+  unfolding claimedEndpoints
   claiming-done g h =
-      cells-as c _ _ _ (write-done (a .rings) g h) (write-done (a .owners) g h) (write-done (a .active) g h)
+      map-as c _ _ _ (write-done (a .rings) g h) (write-done (a .owners) g h) (write-done (a .active) g h)
 
 -- the addresses of the first n endpoints
 pub addresses-length : (eps : List Endpoint) → length (addresses eps) ≡ length eps

@@ -1,3 +1,3 @@
-pub mod Cells
+pub mod EndpointMap
 pub mod Endpoint
 pub mod Order

@@ -1,5 +1,5 @@
 // The endpoint and owner arrays of a record, beside their count.
-use super::cells::Cells;
+use super::endpoint_map::EndpointMap;
 use super::order;
 use super::order::PLACES;
 ghost use mathlib.Core.Path.{_≡_};
@@ -7,7 +7,7 @@ ghost use Prim.Native.Nat.{_≤_};
 ghost use lib.ListN.{take};
 ghost use Rattle.record_endpoint.specs.Order.{PLACES};
 ghost use Rattle.record_endpoint.specs.Endpoint.{addresses, addressesFit};
-ghost use Rattle.record_endpoint.specs.Cells.{EndpointsAs};
+ghost use Rattle.record_endpoint.specs.EndpointMap.{EndpointsAs};
 
 // Whether transfers may be submitted to an endpoint.
 pub enum Handle {
@@ -27,8 +27,8 @@ pub struct Endpoints {
     pub count: usize,
 }
 
-// The arrays of some cells, by rising address, blank past the count.
-pub fn endpoints_of(c: Cells) -> Endpoints
+// The arrays of a map of endpoints, by rising address, blank past the count.
+pub fn endpoints_of(c: EndpointMap) -> Endpoints
     ensures { λ r. ⌜ EndpointsAs r c ⌝ }
 {
     let mut eps = [Endpoint {

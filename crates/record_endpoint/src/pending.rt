@@ -1,11 +1,11 @@
-// The rings of a claim, and what they make of the cells.
-use super::cells;
-use super::cells::Cells;
-use super::cells::Owner;
+// The rings of a claim, and what they make of the endpoints.
+use super::endpoint_map;
+use super::endpoint_map::EndpointMap;
+use super::endpoint_map::Owner;
 use super::order;
 use super::order::PLACES;
 ghost use mathlib.Core.Path.{_≡_};
-ghost use Rattle.record_endpoint.specs.Cells.{pendingRings, claimedCells, QueuesAs};
+ghost use Rattle.record_endpoint.specs.EndpointMap.{pendingRings, claimedEndpoints, QueuesAs};
 
 // Endpoints and their rings side by side, by rising address.
 pub struct Queues {
@@ -58,21 +58,21 @@ pub fn pending_rings(words: &[u32], rings: &[u64]) -> [u64; PLACES]
     by
 }
 
-// The cells after a claim of an interface: a pending ring is its own, active; without one an endpoint of its own is gone. With no
+// The endpoints after a claim of an interface: a pending ring is its own, active; without one an endpoint of its own is gone. With no
 // ring pending, after its release.
-pub fn claimed_cells(interface: u8, pending: [u64; PLACES], mut c: Cells) -> Cells
-    ensures { λ r. ⌜ r ≡ claimedCells interface pending c ⌝ }
+pub fn claimed_endpoints(interface: u8, pending: [u64; PLACES], mut c: EndpointMap) -> EndpointMap
+    ensures { λ r. ⌜ r ≡ claimedEndpoints interface pending c ⌝ }
 {
     let mut p = 0;
     while p < PLACES {
         let place = p;
         let ring = pending[p];
-        let owned = cells::is_owned(Owner::Interface(interface), c.rings[p], c.owners[p]);
+        let owned = endpoint_map::is_owned(Owner::Interface(interface), c.rings[p], c.owners[p]);
         p += 1;
         if ring != 0 {
-            c = cells::with_cell(c, place, ring, interface, true);
+            c = endpoint_map::with_endpoint(c, place, ring, interface, true);
         } else if owned {
-            c = cells::with_cell(c, place, 0, 0, false);
+            c = endpoint_map::with_endpoint(c, place, 0, 0, false);
         }
     }
     c

@@ -22,12 +22,12 @@ use Rattle.descriptor_list.specs.declared.Found.the-variants.{Endpoints, NotFou
 use Rattle.descriptor_list.proofs.Laws.{found-interface, found-endpoints, valid-count, valid-found, valid-held}
 use Rattle.record_endpoint.specs.Order.{dciAt, placeOf}
 use Rattle.record_endpoint.specs.Endpoint.{padded}
-use Rattle.record_endpoint.specs.Cells.{noCells, isOwned, owns, pendingRings, claimedRing, claimedOwner, claimedCells, withActive}
-use Rattle.record_endpoint.specs.declared.cells.Cells.{Cells}
-use Rattle.record_endpoint.specs.declared.cells.Owner.{Owner}
-use Rattle.record_endpoint.specs.declared.cells.Owner.the-variants.{Interface}
+use Rattle.record_endpoint.specs.EndpointMap.{noEndpoints, isOwned, owns, pendingRings, claimedRing, claimedOwner, claimedEndpoints, withActive}
+use Rattle.record_endpoint.specs.declared.endpoint_map.EndpointMap.{EndpointMap}
+use Rattle.record_endpoint.specs.declared.endpoint_map.Owner.{Owner}
+use Rattle.record_endpoint.specs.declared.endpoint_map.Owner.the-variants.{Interface}
 use Rattle.record_endpoint.proofs.Laws.{word-place, wordDcis, word-at, pending-some, claimed-ring, claimed-owner}
-use Rattle.record_settings.specs.Match.{hasPlace, same, eachFrom, eachPlace, ownsPlaces, allOwn, ownersHeld, endpointsMatch, addressFree, addressesFree}
+use Rattle.record_settings.specs.Match.{hasPlace, agree, eachFrom, eachPlace, ownsPlaces, allOwn, ownersHeld, endpointsMatch, addressFree, addressesFree}
 use Rattle.record_settings.specs.declared.held.Settings.{Settings}
 use Rattle.record_settings.specs.Held.{Held, heldIn, interfacesOf, alternatesOf, isHeld, alternateOf, withoutSetting, withSetting, foundWords, settingWords, isFound, eachSetting, allFound, settingsSound, SettingsAs}
 
@@ -520,23 +520,23 @@ pending-place words rings p h z = pending-some words rings p h z ∙ ap not (has
 -- Endpoints that match the held settings.
 
 -- Each held interface has endpoints exactly at the places of its setting's words, and each endpoint's owner is held.
-pub record Matches (list : List ℕ) (hs : List Held) (c : Cells) : Type 0 where
+pub record Matches (list : List ℕ) (hs : List Held) (c : EndpointMap) : Type 0 where
   pub owned :
       (i p : ℕ) → isHeld i hs ≡ true → p < 30 →
       isOwned (Interface i) c p ≡ hasPlace p (settingWords list i (alternateOf i hs))
   pub held : (p : ℕ) → p < 30 → (getD (c .rings) p 0 ≡ 0 → ⊥) → isHeld (getD (c .owners) p 0) hs ≡ true
 
-same-true : (a b : Bool) → same a b ≡ true → b ≡ a
-unfolding same
+same-true : (a b : Bool) → agree a b ≡ true → b ≡ a
+unfolding agree
 same-true true b e = e
 same-true false b e = not-true b e
 
-same-if : (a b : Bool) → b ≡ a → same a b ≡ true
-unfolding same
+same-if : (a b : Bool) → b ≡ a → agree a b ≡ true
+unfolding agree
 same-if true b e = e
 same-if false b e = rw e
 
-module _ (list : List ℕ) (hs : List Held) (c : Cells) where
+module _ (list : List ℕ) (hs : List Held) (c : EndpointMap) where
   -- What the test says.
   pub match-facts : endpointsMatch list hs c ≡ true → Matches list hs c
   unfolding endpointsMatch allOwn ownersHeld ownsPlaces
@@ -580,14 +580,14 @@ module _ (list : List ℕ) (hs : List Held) (c : Cells) where
 
 -- Making endpoints active or revoked keeps the match.
 pub match-active :
-    (list : List ℕ) (hs : List Held) (who : Owner) (n : ℕ) (c : Cells) →
+    (list : List ℕ) (hs : List Held) (who : Owner) (n : ℕ) (c : EndpointMap) →
     endpointsMatch list hs (withActive who n c) ≡ endpointsMatch list hs c
 unfolding endpointsMatch allOwn ownersHeld ownsPlaces isOwned withActive
 match-active list hs who n c = refl
 
 -- No settings and no endpoints match.
-pub match-none : (list : List ℕ) → endpointsMatch list [] noCells ≡ true
-unfolding endpointsMatch allOwn eachSetting ownersHeld eachPlace eachFrom noCells
+pub match-none : (list : List ℕ) → endpointsMatch list [] noEndpoints ≡ true
+unfolding endpointsMatch allOwn eachSetting ownersHeld eachPlace eachFrom noEndpoints
 match-none list = refl
 
 -- Claims and releases.
@@ -604,7 +604,7 @@ free-other ring owner i j n e = go (or-cases (eqb ring 0) (eqb owner i) e)
 
 -- By place: where a word's address is there is no endpoint, or the interface's.
 pub free-at :
-    (words : List ℕ) (i : ℕ) (c : Cells) (p : ℕ) → addressesFree words i c ≡ true → hasPlace p words ≡ true →
+    (words : List ℕ) (i : ℕ) (c : EndpointMap) (p : ℕ) → addressesFree words i c ≡ true → hasPlace p words ≡ true →
     (eqb (getD (c .rings) p 0) 0 || eqb (getD (c .owners) p 0) i) ≡ true
 unfolding addressesFree addressFree hasPlace
 free-at [] i c p f h = not-both false h refl
@@ -623,17 +623,17 @@ free-at (w ∷ ws) i c p f h =
 
 -- At a free address no other interface has an endpoint.
 pub free-apart :
-    (words : List ℕ) (i j : ℕ) (c : Cells) (p : ℕ) → addressesFree words i c ≡ true → p < 30 → hasPlace p words ≡ true →
+    (words : List ℕ) (i j : ℕ) (c : EndpointMap) (p : ℕ) → addressesFree words i c ≡ true → p < 30 → hasPlace p words ≡ true →
     (i ≡ j → ⊥) → isOwned (Interface j) c p ≡ false
 unfolding isOwned owns
 free-apart words i j c p free l h n =
     free-other (getD (c .rings) p 0) (getD (c .owners) p 0) i j n (free-at words i c p free h)
 
-claimed-cell :
+claimed-entry :
     (pending ring owner i j : ℕ) (own : Bool) →
     not (eqb (cond (eqb pending 0) (cond own 0 ring) pending) 0) && eqb (cond (eqb pending 0) (cond own 0 owner) i) j
     ≡ cond (eqb pending 0) ((not (eqb ring 0) && eqb owner j) && not own) (eqb i j)
-claimed-cell pending ring owner i j own = go (decided (eqb pending 0)) own
+claimed-entry pending ring owner i j own = go (decided (eqb pending 0)) own
   where
     go :
         Decided (eqb pending 0) → (own : Bool) →
@@ -644,25 +644,25 @@ claimed-cell pending ring owner i j own = go (decided (eqb pending 0)) own
     go (inr p) own = rw (p, p)
 
 claimed-at :
-    (i j : ℕ) (pending : List ℕ) (c : Cells) (p : ℕ) →
+    (i j : ℕ) (pending : List ℕ) (c : EndpointMap) (p : ℕ) →
     not (eqb (claimedRing i pending c p) 0) && eqb (claimedOwner i pending c p) j
     ≡ cond (eqb (getD pending p 0) 0)
     ((not (eqb (getD (c .rings) p 0) 0) && eqb (getD (c .owners) p 0) j) && not (isOwned (Interface i) c p)) (eqb i j)
 unfolding claimedRing claimedOwner
 claimed-at i j pending c p =
-    claimed-cell (getD pending p 0) (getD (c .rings) p 0) (getD (c .owners) p 0) i j (isOwned (Interface i) c p)
+    claimed-entry (getD pending p 0) (getD (c .rings) p 0) (getD (c .owners) p 0) i j (isOwned (Interface i) c p)
 
 -- Who owns a place after a claim: the interface where a ring is pending, and elsewhere another as before.
 pub claimed-owned :
-    (i j : ℕ) (pending : List ℕ) (c : Cells) (p : ℕ) → p < 30 →
-    isOwned (Interface j) (claimedCells i pending c) p
+    (i j : ℕ) (pending : List ℕ) (c : EndpointMap) (p : ℕ) → p < 30 →
+    isOwned (Interface j) (claimedEndpoints i pending c) p
     ≡ cond (eqb (getD pending p 0) 0) (isOwned (Interface j) c p && not (isOwned (Interface i) c p)) (eqb i j)
 unfolding isOwned owns
 claimed-owned i j pending c p h =
     rw (claimed-ring i pending c p h, claimed-owner i pending c p h) (claimed-at i j pending c p)
 
 -- The endpoints after a claim, or a release, of interface i, whose words are then `words`.
-module _ (list : List ℕ) (hs after : List Held) (i : ℕ) (words pending : List ℕ) (c : Cells)
+module _ (list : List ℕ) (hs after : List Held) (i : ℕ) (words pending : List ℕ) (c : EndpointMap)
     (m : Matches list hs c)
     (rings : (p : ℕ) → p < 30 → eqb (getD pending p 0) 0 ≡ not (hasPlace p words))
     (free : addressesFree words i c ≡ true)
@@ -676,7 +676,7 @@ module _ (list : List ℕ) (hs after : List Held) (i : ℕ) (words pending : Lis
       free-other (getD (c .rings) p 0) (getD (c .owners) p 0) i j n
       (or-right (eqb (getD (c .rings) p 0) 0) _ (and-right (not (eqb (getD (c .rings) p 0) 0)) _ e))
 
-  own-place : (p : ℕ) → p < 30 → isHeld i after ≡ true → isOwned (Interface i) (claimedCells i pending c) p ≡ hasPlace p words
+  own-place : (p : ℕ) → p < 30 → isHeld i after ≡ true → isOwned (Interface i) (claimedEndpoints i pending c) p ≡ hasPlace p words
   own-place p l h =
       claimed-owned i i pending c p l ∙ rw (rings p l, eq-eqb i i refl) (go (hasPlace p words) (isOwned (Interface i) c p))
     where
@@ -685,7 +685,7 @@ module _ (list : List ℕ) (hs after : List Held) (i : ℕ) (words pending : Lis
       go false o = and-not-self o
 
   other-place :
-      (p j : ℕ) → p < 30 → (i ≡ j → ⊥) → isOwned (Interface j) (claimedCells i pending c) p ≡ isOwned (Interface j) c p
+      (p j : ℕ) → p < 30 → (i ≡ j → ⊥) → isOwned (Interface j) (claimedEndpoints i pending c) p ≡ isOwned (Interface j) c p
   other-place p j l n =
       claimed-owned i j pending c p l
       ∙ rw (rings p l, ne-eqb i j n)
@@ -701,12 +701,12 @@ module _ (list : List ℕ) (hs after : List Held) (i : ℕ) (words pending : Lis
 
   owned-after :
       (j p : ℕ) → isHeld j after ≡ true → p < 30 →
-      isOwned (Interface j) (claimedCells i pending c) p ≡ hasPlace p (settingWords list j (alternateOf j after))
+      isOwned (Interface j) (claimedEndpoints i pending c) p ≡ hasPlace p (settingWords list j (alternateOf j after))
   owned-after j p h l = go (decided (eqb i j))
     where
       go :
           Decided (eqb i j) →
-          isOwned (Interface j) (claimedCells i pending c) p ≡ hasPlace p (settingWords list j (alternateOf j after))
+          isOwned (Interface j) (claimedEndpoints i pending c) p ≡ hasPlace p (settingWords list j (alternateOf j after))
       go (inl q) =
           let s : j ≡ i = sym (eqb-true i j q) in
           let k : isHeld i after ≡ true = rw s at h in
@@ -716,8 +716,8 @@ module _ (list : List ℕ) (hs after : List Held) (i : ℕ) (words pending : Lis
           other-place p j l n ∙ m .owned j p (sym (held-other j n) ∙ h) l ∙ rw (alternate-other j n)
 
   held-after :
-      (p : ℕ) → p < 30 → (getD ((claimedCells i pending c) .rings) p 0 ≡ 0 → ⊥) →
-      isHeld (getD ((claimedCells i pending c) .owners) p 0) after ≡ true
+      (p : ℕ) → p < 30 → (getD ((claimedEndpoints i pending c) .rings) p 0 ≡ 0 → ⊥) →
+      isHeld (getD ((claimedEndpoints i pending c) .owners) p 0) after ≡ true
   unfolding claimedRing claimedOwner isOwned owns
   held-after p l r =
       rw (claimed-owner i pending c p l)
@@ -735,18 +735,18 @@ module _ (list : List ℕ) (hs after : List Held) (i : ℕ) (words pending : Lis
           in
           rw (q, o) (held-other (getD (c .owners) p 0) n ∙ m .held p l ring)
 
-  matches-after : Matches list after (claimedCells i pending c)
+  matches-after : Matches list after (claimedEndpoints i pending c)
   matches-after = record { owned = owned-after; held = held-after }
 
-module _ (list : List ℕ) (hs : List Held) (i : ℕ) (pending : List ℕ) (c : Cells)
+module _ (list : List ℕ) (hs : List Held) (i : ℕ) (pending : List ℕ) (c : EndpointMap)
     (sound : settingsSound list hs ≡ true) (m : endpointsMatch list hs c ≡ true) where
   -- A claim whose rings are at the places of its words keeps the match, where the addresses are free.
   pub match-claimed :
       (a : ℕ) → addressesFree (settingWords list i a) i c ≡ true →
       ((p : ℕ) → p < 30 → eqb (getD pending p 0) 0 ≡ not (hasPlace p (settingWords list i a))) →
-      endpointsMatch list (withSetting i a hs) (claimedCells i pending c) ≡ true
+      endpointsMatch list (withSetting i a hs) (claimedEndpoints i pending c) ≡ true
   match-claimed a free rings =
-      match-if list (withSetting i a hs) (claimedCells i pending c) (distinct-with-setting i a hs (sound-distinct list hs sound))
+      match-if list (withSetting i a hs) (claimedEndpoints i pending c) (distinct-with-setting i a hs (sound-distinct list hs sound))
       (matches-after list hs (withSetting i a hs) i (settingWords list i a) pending c (match-facts list hs c m) rings free
       (λ j n. held-with-other i a j hs n) (λ j n. alternate-with-other i a j hs n) (λ h. rw (alternate-with i a hs))
       (λ p h. held-with i a hs))
@@ -754,10 +754,10 @@ module _ (list : List ℕ) (hs : List Held) (i : ℕ) (pending : List ℕ) (c : 
   -- A release keeps it.
   pub match-released :
       ((p : ℕ) → p < 30 → getD pending p 0 ≡ 0) →
-      endpointsMatch list (withoutSetting i hs) (claimedCells i pending c) ≡ true
+      endpointsMatch list (withoutSetting i hs) (claimedEndpoints i pending c) ≡ true
   unfolding hasPlace addressesFree
   match-released none =
-      match-if list (withoutSetting i hs) (claimedCells i pending c) (distinct-without-setting i hs (sound-distinct list hs sound))
+      match-if list (withoutSetting i hs) (claimedEndpoints i pending c) (distinct-without-setting i hs (sound-distinct list hs sound))
       (matches-after list hs (withoutSetting i hs) i [] pending c (match-facts list hs c m)
       (λ p l. eq-eqb (getD pending p 0) 0 (none p l)) refl
       (λ j n. held-without-other i j hs n) (λ j n. alternate-without-other i j hs n)

@@ -19,13 +19,13 @@ use Rattle.descriptor_list.specs.Lookup.{findEndpoints}
 use Rattle.descriptor.specs.Word.{endpointDescriptor}
 use Rattle.record_endpoint.specs.Order.{placeOf}
 use Rattle.record_endpoint.specs.Endpoint.{padded}
-use Rattle.record_endpoint.specs.Cells.{isOwned}
-use Rattle.record_endpoint.specs.declared.cells.Owner.the-variants.{Interface}
-use Rattle.record_endpoint.specs.declared.cells.Cells.{Cells}
+use Rattle.record_endpoint.specs.EndpointMap.{isOwned}
+use Rattle.record_endpoint.specs.declared.endpoint_map.Owner.the-variants.{Interface}
+use Rattle.record_endpoint.specs.declared.endpoint_map.EndpointMap.{EndpointMap}
 use Rattle.record_endpoint.proofs.Laws.{tabulated-at, tabulated-length}
 use Rattle.record_settings.specs.declared.held.Settings.{Settings}
 use Rattle.record_settings.specs.Held.{Held, heldIn, interfacesOf, alternatesOf, isHeld, withoutSetting, isFound, eachSetting, allFound, settingsSound, SettingsAs}
-use Rattle.record_settings.specs.Match.{hasPlace, placesOf, same, eachFrom, eachPlace, ownsPlaces, allOwn, ownersHeld, endpointsMatch, addressFree, addressesFree}
+use Rattle.record_settings.specs.Match.{hasPlace, placesOf, agree, eachFrom, eachPlace, ownsPlaces, allOwn, ownersHeld, endpointsMatch, addressFree, addressesFree}
 use Rattle.record_settings.proofs.Laws.{eqb-turned, passed-append, held-elem, interfaces-any, interfaces-length, alternates-length, interfaces-append, alternates-append, each-same}
 
 abbrev pub heldAt : List ℕ → List ℕ → ℕ → Held
@@ -289,8 +289,8 @@ unfolding placesOf
 place-at words p h = tabulated-at (λ q. hasPlace q words) 30 p false h
 
 -- A place has a word exactly if it has an endpoint.
-pub same-test : (word own : Bool) → same word own ≡ Bool·beq word own
-unfolding same
+pub same-test : (word own : Bool) → agree word own ≡ Bool·beq word own
+unfolding agree
 same-test true true = refl
 same-test true false = refl
 same-test false true = refl
@@ -298,14 +298,14 @@ same-test false false = refl
 
 -- The endpoints of an interface against the places of its words.
 pub owns-same :
-    (places : List Bool) (words : List ℕ) (i : ℕ) (c : Cells) →
+    (places : List Bool) (words : List ℕ) (i : ℕ) (c : EndpointMap) →
     places ≡ placesOf words →
-    ownsPlaces words i c ≡ eachPlace (λ p. same (getD places p false) (isOwned (Interface i) c p))
+    ownsPlaces words i c ≡ eachPlace (λ p. agree (getD places p false) (isOwned (Interface i) c p))
 unfolding ownsPlaces
 owns-same places words i c e = each-same _ _ (λ p h. rw (e, place-at words p h))
 
 -- `addresses_free`
-module _ (words : List ℕ) (i : ℕ) (c : Cells) (k q : ℕ) (h : k < length words)
+module _ (words : List ℕ) (i : ℕ) (c : EndpointMap) (k q : ℕ) (h : k < length words)
     (e : q ≡ placeOf ((endpointDescriptor (getD words k 0)) .address)) where
   pub free-next :
       addressesFree (drop k words) i c
@@ -318,12 +318,12 @@ module _ (words : List ℕ) (i : ℕ) (c : Cells) (k q : ℕ) (h : k < length wo
   free-skip l o = let z : length (c .rings) ≤ q = rw l o in free-next ∙ rw (List·getD-eq-default (c .rings) 0 z)
 
 pub free-none :
-    (words : List ℕ) (i : ℕ) (c : Cells) (k : ℕ) → length words ≤ k → addressesFree (drop k words) i c ≡ true
+    (words : List ℕ) (i : ℕ) (c : EndpointMap) (k : ℕ) → length words ≤ k → addressesFree (drop k words) i c ≡ true
 unfolding addressesFree
 free-none words i c k h = rw (drop-of-length-le words h)
 
 -- `endpoints_match`: first the endpoints of each setting, then the owners.
-module _ (list : List ℕ) (hs : List Held) (c : Cells) where
+module _ (list : List ℕ) (hs : List Held) (c : EndpointMap) where
   pub match-not : allOwn list hs c ≡ false → endpointsMatch list hs c ≡ false
   unfolding endpointsMatch
   match-not e = rw e

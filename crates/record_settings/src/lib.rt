@@ -10,5 +10,5 @@ pub use held::setting_words;
 pub use held::settings_sound;
 pub use held::with_setting;
 pub use held::without_setting;
-pub use matching::addresses_free;
 pub use matching::endpoints_match;
+pub use matching::validate_endpoint_addresses;

@@ -1,7 +1,7 @@
 // Whether a record's endpoints are those of its held settings, compared by place.
 use super::held;
 use super::held::HELD_ROOM;
-use record_endpoint::Cells;
+use record_endpoint::EndpointMap;
 use record_endpoint::PLACES;
 ghost use mathlib.Core.Path.{_≡_};
 ghost use mathlib.Core.List.{List};
@@ -27,7 +27,7 @@ fn places_of(words: &[u32]) -> [bool; PLACES]
 }
 
 // Whether an interface's endpoints are at the places of its setting's words.
-fn owns_places(list: &[u32], interface: u8, alternate: u8, c: Cells) -> bool
+fn owns_places(list: &[u32], interface: u8, alternate: u8, c: EndpointMap) -> bool
     ensures { λ r. ⌜ r ≡ ownsPlaces (settingWords (now (list .entry)) interface alternate) interface c ⌝ }
 {
     let words = held::setting_words(list, interface, alternate);
@@ -45,7 +45,7 @@ fn owns_places(list: &[u32], interface: u8, alternate: u8, c: Cells) -> bool
 }
 
 // Whether each endpoint's owner holds a setting.
-fn owners_held(interfaces: [u8; HELD_ROOM], n: usize, c: Cells) -> bool
+fn owners_held(interfaces: [u8; HELD_ROOM], n: usize, c: EndpointMap) -> bool
     requires { ⌜ n ≤ HELD-ROOM ⌝ }
     ensures { λ r. ⌜ ((alternates : List ℕ) → r ≡ ownersHeld (heldIn n interfaces alternates) c) ⌝ }
 {
@@ -69,7 +69,7 @@ pub fn endpoints_match(
     interfaces: [u8; HELD_ROOM],
     alternates: [u8; HELD_ROOM],
     n: usize,
-    c: Cells,
+    c: EndpointMap,
 ) -> bool
     requires { ⌜ n ≤ HELD-ROOM ⌝ }
     ensures { λ r. ⌜ r ≡ endpointsMatch (now (list .entry)) (heldIn n interfaces alternates) c ⌝ }
@@ -86,7 +86,7 @@ pub fn endpoints_match(
 }
 
 // Whether no word's address has an endpoint of another interface.
-pub fn addresses_free(words: &[u32], interface: u8, c: Cells) -> bool
+pub fn validate_endpoint_addresses(words: &[u32], interface: u8, c: EndpointMap) -> bool
     ensures { λ r. ⌜ r ≡ addressesFree (now (words .entry)) interface c ⌝ }
 {
     let mut i = 0;

@@ -17,12 +17,12 @@ use Rattle.descriptor.specs.Word.{endpointDescriptor}
 use Rattle.context_block.specs.Blocks.{wordDci}
 use Rattle.context_block.specs.Promises.{someDci}
 use Rattle.context.specs.Steps.{wordDcis}
-use Rattle.transfer.specs.Routes.{routeOf, queues, ringFor, Outside}
+use Rattle.transfer.specs.Routes.{routeOf, queues, ringFor, OutsideSlot}
 use Rattle.transfer.proofs.Laws.{ringFor-none}
 use Rattle.record_endpoint.specs.Order.{dciAt, placeOf}
-use Rattle.record_endpoint.specs.declared.cells.Cells.{Cells}
-use Rattle.record_endpoint.specs.declared.cells.Owner.the-variants.{Interface}
-use Rattle.record_endpoint.specs.Cells.{noCells, isOwned, pendingRings, claimedRing, claimedCells}
+use Rattle.record_endpoint.specs.declared.endpoint_map.EndpointMap.{EndpointMap}
+use Rattle.record_endpoint.specs.declared.endpoint_map.Owner.the-variants.{Interface}
+use Rattle.record_endpoint.specs.EndpointMap.{noEndpoints, isOwned, pendingRings, claimedRing, claimedEndpoints}
 use Rattle.record_endpoint.proofs.Laws.{place-dci, claimed-ring}
 use Rattle.record_settings.specs.Held.{Held, isHeld, settingWords, withoutSetting}
 use Rattle.record_settings.specs.Match.{hasPlace}
@@ -30,7 +30,7 @@ use Rattle.record_settings.proofs.Laws.{held-with, alternate-with, has-place, s
 use Rattle.theorem_routing.proofs.Laws.{each-dci, words-dci, words-ring, low-kept, outside-kept, length-kept}
 use Rattle.course_steps.specs.End.{answerOf}
 use Rattle.device.specs.declared.record.Device.{Device}
-use Rattle.device.specs.Device.{listOf, cellsIn, heldOf}
+use Rattle.device.specs.Device.{listOf, endpointMapIn, heldOf}
 use Rattle.device.specs.Left.{Left, ended, marked}
 use Rattle.device.specs.Check.{recordCheck}
 use Rattle.device.specs.Calls.{onCheck, hubCourse, hubLeft, hubUpdate}
@@ -42,12 +42,12 @@ use Rattle.device.proofs.Made.{made-usable, sound-clean}
 use Rattle.device.proofs.Kept.{claim-passed, set-value}
 use Rattle.device.proofs.Laws.{passed}
 use Rattle.theorem_accepting.specs.Accepting.{Ready, Enough, Accepted, ClaimAccepted, ReleaseAccepted, ReleaseBack, SetAccepted, SetAgain, HubAccepted}
-use Rattle.theorem_accepting.proofs.Back.{same-words, setting-back, cells-back, free-ring}
+use Rattle.theorem_accepting.proofs.Back.{same-words, setting-back, map-back, free-ring}
 use Rattle.theorem_accepting.proofs.Runs.{Ran, done-at, offer-nonzero, offer-places, claim-ran, release-ran, setEnd, set-end, set-ran}
 
 -- What a call that ran gives.
 accepted :
-    (d : Device) (routes : List ℕ) (hs : List Held) (c : Cells) (x y : List ℕ) (l : Left) →
+    (d : Device) (routes : List ℕ) (hs : List Held) (c : EndpointMap) (x y : List ℕ) (l : Left) →
     Ran d routes hs c x y l → length routes ≡ 32 * (d .n + 1) → Accepted d l
 accepted d routes hs c x y l r t =
     record {
@@ -56,7 +56,7 @@ accepted d routes hs c x y l r t =
       usable = made-usable (r .made) refl;
       is-sound = r .made .is-sound;
       table = rw (r .left, r .made .same .n) (length-kept routes (d .slot .0) x y ∙ t);
-      routed = λ p h. rw (r .made .cells, r .made .same .slot) (r .routed p h);
+      routed = λ p h. rw (r .made .endpoints, r .made .same .slot) (r .routed p h);
     }
 
 table-length :
@@ -132,7 +132,7 @@ module _ (d : Device) (ctx routes log o : List ℕ) (i a : ℕ) (rings : List �
   unfolding claimedRing
   place-route p h e =
       claim-ran d ctx routes log o i a rings g .routed p h
-      ∙ claimed-ring i (pendingRings claimedWords rings) (cellsIn d) p h
+      ∙ claimed-ring i (pendingRings claimedWords rings) (endpointMapIn d) p h
       ∙ rw (offer-places d ctx routes log o i a rings g p h, e)
 
   word-route :
@@ -169,7 +169,7 @@ release-accepts d ctx routes log o i g =
       held = r .made .held;
       routes = λ p h e.
           let none : getD {A = ℕ} (replicate 30 0) p 0 ≡ 0 = getD-replicate 30 p 0 0 h in
-          r .routed p h ∙ claimed-ring i (replicate 30 0) (cellsIn d) p h ∙ rw (none, e);
+          r .routed p h ∙ claimed-ring i (replicate 30 0) (endpointMapIn d) p h ∙ rw (none, e);
     }
 
 -- What the set configuration returns.
@@ -180,7 +180,7 @@ unfolding setConfiguration onCheck ended played
 set-device d ctx routes log o value g = rw (g .passes, set-end d ctx routes log o value g)
 
 pub set-accepts : SetAccepted
-unfolding noCells setEnd
+unfolding noEndpoints setEnd
 set-accepts d ctx routes log o value g =
     let r = set-ran d ctx routes log o value g in
     let v = set-value d value (setEnd d ctx routes log o value g) refl refl in
@@ -211,8 +211,8 @@ hub-accepts d ctx routes log o ports multi ns p h =
     rw (p, e) (refl, refl, refl, refl)
 
 -- What a call that ran keeps of the table.
-module _ (d : Device) (routes : List ℕ) (hs : List Held) (c : Cells) (x y : List ℕ) (l : Left) (r : Ran d routes hs c x y l) where
-  ran-outside : (k : ℕ) → Outside (d .slot .0) k → getD (l .routes) k 0 ≡ getD routes k 0
+module _ (d : Device) (routes : List ℕ) (hs : List Held) (c : EndpointMap) (x y : List ℕ) (l : Left) (r : Ran d routes hs c x y l) where
+  ran-outside : (k : ℕ) → OutsideSlot (d .slot .0) k → getD (l .routes) k 0 ≡ getD routes k 0
   ran-outside k o = rw (r .left) (outside-kept routes (d .slot .0) x y k o)
 
   ran-low : (e : ℕ) → e < 2 → routeOf (l .routes) (d .slot .0) e ≡ routeOf routes (d .slot .0) e
@@ -253,26 +253,26 @@ module _ (d : Device) (ctx routes log o : List ℕ) (i a : ℕ) (rings : List �
       ∙ ap (withoutSetting i) (claim-ran d ctx routes log o i a rings g .made .held)
       ∙ setting-back i a (heldOf d) unheld
 
-  unowned : (p : ℕ) → p < 30 → isOwned (Interface i) (cellsIn d) p ≡ false
+  unowned : (p : ℕ) → p < 30 → isOwned (Interface i) (endpointMapIn d) p ≡ false
   unowned p h =
       let f = passed d (length ctx) (length routes) (length log) (claimCheck d i a rings Pass) (g .passes) .0 .facts in
-      match-unheld (listOf d) (heldOf d) (cellsIn d) (match-facts (listOf d) (heldOf d) (cellsIn d) (f .endpoints)) i p unheld h
+      match-unheld (listOf d) (heldOf d) (endpointMapIn d) (match-facts (listOf d) (heldOf d) (endpointMapIn d) (f .endpoints)) i p unheld h
 
-  unringed : (p : ℕ) → p < 30 → eqb (getD pending p 0) 0 ≡ false → getD ((cellsIn d) .rings) p 0 ≡ 0
+  unringed : (p : ℕ) → p < 30 → eqb (getD pending p 0) 0 ≡ false → getD ((endpointMapIn d) .rings) p 0 ≡ 0
   unringed p h e =
       let words = settingWords (listOf d) i a in
       let t = passed d (length ctx) (length routes) (length log) (claimCheck d i a rings Pass) (g .passes) .1 in
-      free-ring words i (cellsIn d) p (claim-passed d i a rings t .free) h
+      free-ring words i (endpointMapIn d) p (claim-passed d i a rings t .free) h
       (not-false (hasPlace p words) (sym (offer-places d ctx routes log o i a rings g p h) ∙ e)) (unowned p h)
 
-  last-cells : cellsIn (last .device) ≡ cellsIn d
-  last-cells =
+  last-map : endpointMapIn (last .device) ≡ endpointMapIn d
+  last-map =
       let s = passed d (length ctx) (length routes) (length log) (claimCheck d i a rings Pass) (g .passes) .0 .is-sound in
-      release-ran (first .device) ctx₂ (first .routes) log₂ o₂ i last-ready .made .cells
-      ∙ ap (claimedCells i (replicate 30 0)) (claim-ran d ctx routes log o i a rings g .made .cells)
-      ∙ cells-back i pending (cellsIn d) (sound-clean d s) unowned unringed
+      release-ran (first .device) ctx₂ (first .routes) log₂ o₂ i last-ready .made .endpoints
+      ∙ ap (claimedEndpoints i (replicate 30 0)) (claim-ran d ctx routes log o i a rings g .made .endpoints)
+      ∙ map-back i pending (endpointMapIn d) (sound-clean d s) unowned unringed
 
-  outside-back : (k : ℕ) → Outside (d .slot .0) k → getD (last .routes) k 0 ≡ getD routes k 0
+  outside-back : (k : ℕ) → OutsideSlot (d .slot .0) k → getD (last .routes) k 0 ≡ getD routes k 0
   outside-back k out =
       ran-outside (first .device) (first .routes) _ _ _ _ last (release-ran (first .device) ctx₂ (first .routes) log₂ o₂ i last-ready) k
       (rw (first-accepted .same .slot) out)
@@ -292,7 +292,7 @@ module _ (d : Device) (ctx routes log o : List ℕ) (i a : ℕ) (rings : List �
           (λ p q.
           slot-route d (last .device) (last .routes) (last-accepted .same .slot) (dciAt p)
           ∙ last-accepted .routed p q
-          ∙ ap (λ (c : Cells). getD (c .rings) p 0) last-cells
+          ∙ ap (λ (c : EndpointMap). getD (c .rings) p 0) last-map
           ∙ sym (g .routed p q))
           e (omega arith) h
 
@@ -308,5 +308,5 @@ release-back d ctx routes log o i a rings g unheld ctx₂ log₂ o₂ enough =
       accepted = last-accepted d ctx routes log o i a rings g unheld ctx₂ log₂ o₂ enough;
       table = last-table d ctx routes log o i a rings g unheld ctx₂ log₂ o₂ enough;
       held = last-held d ctx routes log o i a rings g unheld ctx₂ log₂ o₂ enough;
-      cells = last-cells d ctx routes log o i a rings g unheld ctx₂ log₂ o₂ enough;
+      endpoints = last-map d ctx routes log o i a rings g unheld ctx₂ log₂ o₂ enough;
     }

@@ -12,19 +12,19 @@ use lib.ListN.{getD, replicate, getD-replicate}
 use lib.Seq.{ext-getD}
 use Rattle.laws.proofs.Tests.{not-both}
 use Rattle.laws.proofs.Cases.{Decided, decided, or-none}
-use Rattle.transfer.specs.Routes.{routeIndex, routeOf, Outside}
-use Rattle.record_endpoint.specs.declared.cells.Cells.{Cells}
-use Rattle.record_endpoint.specs.declared.cells.Owner.the-variants.{Interface}
-use Rattle.record_endpoint.specs.Cells.{isOwned, owns, claimedRing, claimedOwner, claimedActive, claimedCells}
+use Rattle.transfer.specs.Routes.{routeIndex, routeOf, OutsideSlot}
+use Rattle.record_endpoint.specs.declared.endpoint_map.EndpointMap.{EndpointMap}
+use Rattle.record_endpoint.specs.declared.endpoint_map.Owner.the-variants.{Interface}
+use Rattle.record_endpoint.specs.EndpointMap.{isOwned, owns, claimedRing, claimedOwner, claimedActive, claimedEndpoints}
 use Rattle.record_endpoint.proofs.Laws.{claimed-whole, claimed-ring, claimed-owner, claimed-active}
-use Rattle.record_endpoint.proofs.Clean.{CleanCells}
+use Rattle.record_endpoint.proofs.Clean.{CleanMap}
 use Rattle.record_settings.specs.Held.{Held, isHeld, withoutSetting, withSetting}
 use Rattle.record_settings.specs.Match.{hasPlace, addressesFree}
 use Rattle.record_settings.proofs.Laws.{free-at, without-unheld, claimed-owned}
 
 -- A table that agrees with another outside a slot and at each of its Dcis is the same.
 pub same-words :
-    (slot : ℕ) (s t : List ℕ) → ((k : ℕ) → Outside slot k → getD s k 0 ≡ getD t k 0) →
+    (slot : ℕ) (s t : List ℕ) → ((k : ℕ) → OutsideSlot slot k → getD s k 0 ≡ getD t k 0) →
     ((e : ℕ) → e < 32 → routeOf s slot e ≡ routeOf t slot e) → (k : ℕ) → getD s k 0 ≡ getD t k 0
 unfolding routeOf routeIndex
 same-words slot s t out own k = go (decLt k (32 * slot)) (decLt k (32 * slot + 32))
@@ -49,27 +49,27 @@ unfolding withSetting
 setting-back i a hs e = rw (without-unheld i hs e) (without-last i a hs e)
 
 -- One place, claimed and released.
-cell-back :
+entry-back :
     {A : Type 0} (pending : ℕ) (owned was : Bool) (new none old : A) → owned ≡ not (eqb pending 0) → was ≡ false →
     (eqb pending 0 ≡ false → old ≡ none) → cond owned none (cond (eqb pending 0) (cond was none old) new) ≡ old
-cell-back {A = A} pending owned was new none old o w f = rw (o, w) (go (decided (eqb pending 0)))
+entry-back {A = A} pending owned was new none old o w f = rw (o, w) (go (decided (eqb pending 0)))
   where
     go : Decided (eqb pending 0) → cond (not (eqb pending 0)) none (cond (eqb pending 0) old new) ≡ old
     go (inl e) = rw e
     go (inr e) = rw e (sym (f e))
 
-same-cells : (b c : Cells) → b .rings ≡ c .rings → b .owners ≡ c .owners → b .active ≡ c .active → b ≡ c
-same-cells b c r o a =
+same-map : (b c : EndpointMap) → b .rings ≡ c .rings → b .owners ≡ c .owners → b .active ≡ c .active → b ≡ c
+same-map b c r o a =
     ap (λ (l : List ℕ). record { rings = l; owners = b .owners; active = b .active }) r
     ∙ ap (λ (l : List ℕ). record { rings = c .rings; owners = l; active = b .active }) o
     ∙ ap (λ (l : List Bool). record { rings = c .rings; owners = c .owners; active = l }) a
 
 -- A claim by an interface without endpoints, at places without one, and then a release.
-module _ (i : ℕ) (pending : List ℕ) (c : Cells) (clean : CleanCells c)
+module _ (i : ℕ) (pending : List ℕ) (c : EndpointMap) (clean : CleanMap c)
     (unowned : (p : ℕ) → p < 30 → isOwned (Interface i) c p ≡ false)
     (free : (p : ℕ) → p < 30 → eqb (getD pending p 0) 0 ≡ false → getD (c .rings) p 0 ≡ 0) where
-  once : Cells
-  once = claimedCells i pending c
+  once : EndpointMap
+  once = claimedEndpoints i pending c
 
   owned-once : (p : ℕ) → p < 30 → isOwned (Interface i) once p ≡ not (eqb (getD pending p 0) 0)
   unfolding once
@@ -82,44 +82,44 @@ module _ (i : ℕ) (pending : List ℕ) (c : Cells) (clean : CleanCells c)
   none : (p : ℕ) → p < 30 → getD {A = ℕ} (replicate 30 0) p 0 ≡ 0
   none p h = getD-replicate 30 p 0 0 h
 
-  ring-back : (p : ℕ) → p < 30 → getD ((claimedCells i (replicate 30 0) once) .rings) p 0 ≡ getD (c .rings) p 0
+  ring-back : (p : ℕ) → p < 30 → getD ((claimedEndpoints i (replicate 30 0) once) .rings) p 0 ≡ getD (c .rings) p 0
   unfolding claimedRing once
   ring-back p h =
       claimed-ring i (replicate 30 0) once p h
       ∙ rw (none p h, claimed-ring i pending c p h)
-      (cell-back (getD pending p 0) (isOwned (Interface i) once p) (isOwned (Interface i) c p) (getD pending p 0) 0 (getD (c .rings) p 0)
+      (entry-back (getD pending p 0) (isOwned (Interface i) once p) (isOwned (Interface i) c p) (getD pending p 0) 0 (getD (c .rings) p 0)
       (owned-once p h) (unowned p h) (free p h))
 
-  owner-back : (p : ℕ) → p < 30 → getD ((claimedCells i (replicate 30 0) once) .owners) p 0 ≡ getD (c .owners) p 0
+  owner-back : (p : ℕ) → p < 30 → getD ((claimedEndpoints i (replicate 30 0) once) .owners) p 0 ≡ getD (c .owners) p 0
   unfolding claimedOwner once
   owner-back p h =
       claimed-owner i (replicate 30 0) once p h
       ∙ rw (none p h, claimed-owner i pending c p h)
-      (cell-back (getD pending p 0) (isOwned (Interface i) once p) (isOwned (Interface i) c p) i 0 (getD (c .owners) p 0)
+      (entry-back (getD pending p 0) (isOwned (Interface i) once p) (isOwned (Interface i) c p) i 0 (getD (c .owners) p 0)
       (owned-once p h) (unowned p h) (λ e. clean .owner p h (free p h e)))
 
-  active-back : (p : ℕ) → p < 30 → getD ((claimedCells i (replicate 30 0) once) .active) p false ≡ getD (c .active) p false
+  active-back : (p : ℕ) → p < 30 → getD ((claimedEndpoints i (replicate 30 0) once) .active) p false ≡ getD (c .active) p false
   unfolding claimedActive once
   active-back p h =
       claimed-active i (replicate 30 0) once p h
       ∙ rw (none p h, claimed-active i pending c p h)
-      (cell-back (getD pending p 0) (isOwned (Interface i) once p) (isOwned (Interface i) c p) true false (getD (c .active) p false)
+      (entry-back (getD pending p 0) (isOwned (Interface i) once p) (isOwned (Interface i) c p) true false (getD (c .active) p false)
       (owned-once p h) (unowned p h) (λ e. clean .active p h (free p h e)))
 
-  pub cells-back : claimedCells i (replicate 30 0) (claimedCells i pending c) ≡ c
+  pub map-back : claimedEndpoints i (replicate 30 0) (claimedEndpoints i pending c) ≡ c
   unfolding once
-  cells-back =
-      let two = claimedCells i (replicate 30 0) (claimedCells i pending c) in
-      let w = claimed-whole i (replicate 30 0) (claimedCells i pending c) in
+  map-back =
+      let two = claimedEndpoints i (replicate 30 0) (claimedEndpoints i pending c) in
+      let w = claimed-whole i (replicate 30 0) (claimedEndpoints i pending c) in
       let v = clean .whole in
-      same-cells two c
+      same-map two c
       (ext-getD 0 (two .rings) (c .rings) (w .rings ∙ sym (v .rings)) (λ p h. ring-back p (omega (arith, w .rings))))
       (ext-getD 0 (two .owners) (c .owners) (w .owners ∙ sym (v .owners)) (λ p h. owner-back p (omega (arith, w .owners))))
       (ext-getD false (two .active) (c .active) (w .active ∙ sym (v .active)) (λ p h. active-back p (omega (arith, w .active))))
 
 -- A free address of an interface without endpoints has no endpoint.
 pub free-ring :
-    (words : List ℕ) (i : ℕ) (c : Cells) (p : ℕ) → addressesFree words i c ≡ true → p < 30 → hasPlace p words ≡ true →
+    (words : List ℕ) (i : ℕ) (c : EndpointMap) (p : ℕ) → addressesFree words i c ≡ true → p < 30 → hasPlace p words ≡ true →
     isOwned (Interface i) c p ≡ false → getD (c .rings) p 0 ≡ 0
 unfolding isOwned owns
 free-ring words i c p f h w o =

@@ -7,7 +7,7 @@ use lib.ListN.{length, length-set, getD-replicate}
 use Rattle.answer.specs.declared.Answer.the-variants as answer
 use Rattle.transfer.specs.Routes.{routeOf, routeIndex, withRoute}
 use Rattle.descriptor_list.proofs.Laws.{valid-configurations}
-use Rattle.record_endpoint.specs.Cells.{noCells}
+use Rattle.record_endpoint.specs.EndpointMap.{noEndpoints}
 use Rattle.record_endpoint.proofs.Laws.{dci-low, dci-high}
 use Rattle.device.specs.Left.{Left}
 use Rattle.device.proofs.Updates.{same-self}
@@ -22,7 +22,7 @@ use Rattle.theorem_accepting.proofs.Runs.{done-at}
 module _ (a : BringUp) (ctx routes log : List ℕ) (l : Left) (b : Brought a ctx routes log l) (e : l .answer ≡ answer.Accepted)
     (none : (d : ℕ) → 2 ≤ d → d < 32 → routeOf routes (a .slot) d ≡ 0) where
   accepted : Accepted (l .device) l
-  unfolding withRoute noCells
+  unfolding withRoute noEndpoints
   accepted =
       record {
         answer = e;
@@ -33,7 +33,7 @@ module _ (a : BringUp) (ctx routes log : List ℕ) (l : Left) (b : Brought a ctx
         routed =
             λ p h.
             let low = dci-low p h in
-            rw (b .cells, b .slot)
+            rw (b .endpoints, b .slot)
             (brought-others a ctx routes log l b _ (λ x. omega arith) ∙ none _ low (dci-high p h) ∙ sym (getD-replicate 30 p 0 0 h));
       }
 

@@ -12,12 +12,12 @@ use Rattle.context_block.specs.Blocks.{wordDci}
 use Rattle.context_block.specs.Promises.{someDci}
 use Rattle.transfer.specs.Routes.{routeOf}
 use Rattle.record_endpoint.specs.Order.{PLACES, dciAt}
-use Rattle.record_endpoint.specs.Cells.{isOwned}
-use Rattle.record_endpoint.specs.declared.cells.Owner.the-variants.{Interface}
+use Rattle.record_endpoint.specs.EndpointMap.{isOwned}
+use Rattle.record_endpoint.specs.declared.endpoint_map.Owner.the-variants.{Interface}
 use Rattle.record_settings.specs.Held.{isHeld, alternateOf, settingWords, withoutSetting}
 use Rattle.theorem_routing.specs.Routing.{RoutedBy}
 use Rattle.device.specs.declared.record.Device.{Device}
-use Rattle.device.specs.Device.{listOf, cellsIn, heldOf}
+use Rattle.device.specs.Device.{listOf, endpointMapIn, heldOf}
 use Rattle.device.specs.Sound.{sound}
 use Rattle.device.specs.Left.{Left}
 use Rattle.device.specs.Check.{recordCheck, hubCheck}
@@ -31,7 +31,7 @@ use Rattle.device_bring_up.specs.BringUp.{bringUpCheck, bringUp}
 
 -- A record and a table agree: the slot's routes are those of the record's endpoints.
 abbrev pub Routed : Device → List ℕ → Type 0
-Routed d routes = RoutedBy routes (d .slot .0) (cellsIn d)
+Routed d routes = RoutedBy routes (d .slot .0) (endpointMapIn d)
 
 -- The first n outcomes are there and done.
 abbrev pub AllDone : List ℕ → ℕ → Type 0
@@ -100,7 +100,7 @@ pub record Released (d : Device) (interface : ℕ) (l : Left) : Type 0 where
   pub accepted : Accepted d l
   pub held : heldOf (l .device) ≡ withoutSetting interface (heldOf d)
   pub routes :
-      (p : ℕ) → p < PLACES → isOwned (Interface interface) (cellsIn d) p ≡ true → routeOf (l .routes) (d .slot .0) (dciAt p) ≡ 0
+      (p : ℕ) → p < PLACES → isOwned (Interface interface) (endpointMapIn d) p ≡ true → routeOf (l .routes) (d .slot .0) (dciAt p) ≡ 0
 
 abbrev pub ReleaseAccepted : Type 0
 ReleaseAccepted =
@@ -113,7 +113,7 @@ pub record Back (d : Device) (routes : List ℕ) (l : Left) : Type 0 where
   pub accepted : Accepted d l
   pub table : l .routes ≡ routes
   pub held : heldOf (l .device) ≡ heldOf d
-  pub cells : cellsIn (l .device) ≡ cellsIn d
+  pub endpoints : endpointMapIn (l .device) ≡ endpointMapIn d
 
 -- A claim of an interface that holds nothing, and then its release.
 abbrev pub ReleaseBack : Type 0

@@ -22,18 +22,18 @@ use Rattle.descriptor_list.specs.Valid.{beginsWithConfiguration, wordsOk, runFi
 use Rattle.context_field.specs.Field.{wordAt, putWord, readField, withBits, writeField}
 use Rattle.transfer.specs.Routes.{queues, ringFor, routeIndex, routeOf, withRoute, registered, withRegistered, names, oldMatch, isFree, newFree, replaced, cleared, published, moved, withReplaced}
 use Rattle.record_ring.specs.Rings.{ringOk, ringsOk, disjoint, offerOk}
-use Rattle.context_block.specs.Blocks.{changed, ringSettings, errorCount, periodicSettings, burstOf, basicSettings, endpointSettings, wordDci, dropFlags}
+use Rattle.context_block.specs.Blocks.{changed, ringFields, errorCount, periodicFields, burstOf, basicFields, endpointFields, wordDci, dropFlags}
 use Rattle.context.specs.Place.{inBlock, onPart, writeAt, written, blockAt, readAt, spacingOf}
 use Rattle.context.specs.Steps.{addWrites, addAll, highestDci, wordDcis, contextEntries, configureWrites}
 use Rattle.command.specs.Command.{commandWord, outcomeAt}
 use Rattle.command.specs.Course.{onSent, then, words, result, played}
-use Rattle.command.specs.Sweep.{resumeFrom, resumeAll, orCode, undoStops, stopFrom, stopAll}
+use Rattle.command.specs.Sweep.{resumeFrom, resumeStoppedEndpoints, orCode, undoStops, stopFrom, stopEndpoints}
 use Rattle.answer.specs.Answer.{number, codeOf}
-use Rattle.record_endpoint.specs.Cells.{noCells, withCell, isActive, handleOf, cellsFrom, cellsOf, gathered, endpointAt, endpointsOf, ownersOf, owns, isOwned, tabulated, ownedRings, queuesOf, pendingFrom, pendingRings, claimedRing, claimedOwner, claimedActive, claimedCells, activeFrom, withActive, queueDcis, queueRings}
+use Rattle.record_endpoint.specs.EndpointMap.{noEndpoints, withEndpoint, isActive, handleOf, endpointMapFrom, endpointMapOf, gathered, endpointAt, endpointsOf, ownersOf, owns, isOwned, tabulated, ownedRings, queuesOf, pendingFrom, pendingRings, claimedRing, claimedOwner, claimedActive, claimedEndpoints, activeFrom, withActive, queueDcis, queueRings}
 use Rattle.record_endpoint.specs.Endpoint.{addresses, ringsOf, addressesFit, padded}
 use Rattle.record_endpoint.specs.Order.{addressAt, dciAt, placeOf}
 use Rattle.record_settings.specs.Held.{heldIn, interfacesOf, alternatesOf, isHeld, alternateOf, withoutSetting, withSetting, foundWords, settingWords, heldWords, isFound, eachSetting, allFound, settingsSound}
-use Rattle.record_settings.specs.Match.{hasPlace, placesOf, same, eachFrom, eachPlace, ownsPlaces, allOwn, ownersHeld, endpointsMatch, addressFree, addressesFree}
+use Rattle.record_settings.specs.Match.{hasPlace, placesOf, agree, eachFrom, eachPlace, ownsPlaces, allOwn, ownersHeld, endpointsMatch, addressFree, addressesFree}
 use Rattle.course_steps.specs.End.{answerOf, configureFailed}
 use Rattle.course_release.specs.Release.{releaseContext, releasePublished, releasePublish, releaseResume, releaseConfigure, releaseCourse}
 use Rattle.course_claim.specs.Claim.{claimContext, undoContext, claimPublished, claimPublish, claimSwitchBack, claimUndone, claimUndo, claimSwitch, claimResume, claimConfigure, claimCourse}
@@ -42,18 +42,18 @@ use Rattle.device.specs.Calls.{onCheck, hubContext, hubCourse, hubLeft, hubUpda
 use Rattle.record_checks.specs.Think.{isThought, thinkValue}
 use Rattle.device.specs.Check.{recordCheck, hubCheck}
 use Rattle.device.specs.Claim.{claimCheck, pendingOf, claimIn, quarantines, claimRecord, claim}
-use Rattle.device.specs.Device.{listOf, cellsIn, heldOf, quarantinedOf, withCells, withHeld, noDevice, withConfiguration, withQuarantined, unusable}
+use Rattle.device.specs.Device.{listOf, endpointMapIn, heldOf, quarantinedOf, withEndpoints, withHeld, noDevice, withConfiguration, withQuarantined, unusable}
 use Rattle.device.specs.Left.{Left, refused, marked, ended}
 use Rattle.device.specs.Release.{releaseCheck, releaseIn, releaseRecord, release}
 use Rattle.device.specs.SetConfiguration.{settingsIn, bare, setRecord, setConfiguration}
-use Rattle.device.specs.Sound.{placeSound, countsFit, listsSound, allRings, ringsSound, sound}
+use Rattle.device.specs.Sound.{slotSound, countsFit, listsSound, allRings, ringsSound, sound}
 use Rattle.course_init.specs.Reading.{firstConfigurations, nothingRead, readUpTo}
 use Rattle.course_init.specs.Init.{step, bringUpSettings, bringUpSet, bringUpConfigs, bringUpDevice, bringUpHeader, bringUpConfiguration, bringUpPacket, bringUpAddress}
 use Rattle.device_bring_up.specs.BringUp.{bringUpCheck, bringUpCourse, broughtRecord, broughtLeft, bringUp, slotCheck, deviceCheck, queueCheck}
 use Rattle.theorem_controller.specs.Controller.{isDone, controlled, enabledAfter, doneWord}
 use Rattle.theorem_controller.specs.Controller as controller
 use Rattle.theorem_slot.specs.Call.{left}
-use Rattle.theorem_slot.specs.Plain.{heldQueues, plainRoute, isHeldDci, without, hasSetting, settingOf, effectOf, heldAfter, isLoose, begun, anew, observed, seen}
+use Rattle.theorem_slot.specs.Plain.{heldQueues, plainRoute, isHeldDci, without, hasSetting, settingOf, effectOf, heldAfter, isUnheldRelease, begun, anew, observed, seen}
 use Rattle.theorem_slot.specs.Theorem.{cutAt, contextCut, called, after, start}
 use Rattle.theorem_cases.specs.Added.{interrupt81, addedHolds}
 use Rattle.theorem_cases.specs.Lists.{lists, allListed}
@@ -193,21 +193,21 @@ sameWords [] (w ∷ ws) = false
 sameWords (v ∷ vs) [] = false
 sameWords (v ∷ vs) (w ∷ ws) = eqb v w && sameWords vs ws
 
-abbrev pub holds : Case → Bool
-holds (route hubs hasParent parent port expected) =
+abbrev pub caseHolds : Case → Bool
+caseHolds (route hubs hasParent parent port expected) =
     chainOk hubs hasParent parent && eqb (routeString hubs hasParent parent port) expected
-holds (think ns expected) = isValue expected (thinkTime ns)
-holds (added spacing speed word ring first second fifth entries) =
+caseHolds (think ns expected) = isValue expected (thinkTime ns)
+caseHolds (added spacing speed word ring first second fifth entries) =
     addedHolds spacing speed word ring first second fifth entries
-holds (logged left words alternate) =
+caseHolds (logged left words alternate) =
     sameWords (take (left .count) (left .log)) words
     && (isHeld 0 (heldOf (left .device)) && eqb (alternateOf 0 (heldOf (left .device))) alternate)
-holds (answered left expected code) = eqb (number (left .answer)) expected && eqb (codeOf (left .answer)) code
+caseHolds (answered left expected code) = eqb (number (left .answer)) expected && eqb (codeOf (left .answer)) code
 
 abbrev pub allHold : List Case → Bool
 allHold [] = true
-allHold (c ∷ cs) = holds c && allHold cs
+allHold (c ∷ cs) = caseHolds c && allHold cs
 
 pub all-hold : (ring : ℕ) → (allHold (cases ring) && allListed lists) ≡ true
-unfolding hub-route.routeOf speedKnown hubInfo hubAt hubFits chainFrom chainOk ports clamp routeOf routeString thinkTime directionIn endpointNumber typeNumber transferType endpointDescriptor dciOf endpointType periodicInterval xhciInterval isPeriodic periodicBurst esitPayload wordAt putWord readField withBits writeField queues ringFor changed ringSettings errorCount periodicSettings burstOf basicSettings endpointSettings wordDci dropFlags inBlock onPart writeAt written blockAt readAt addWrites addAll highestDci wordDcis contextEntries configureWrites firstPacketSize headerPacketSize kind configurationValue interfaceNumber alternateSetting endpointOk wordOk endpointRun ofInterface isAlternate findFrom findEndpoints beginsWithConfiguration wordsOk runFits runsFit configurations hasInterface lastAlternate interfaces validList routeIndex withRoute registered withRegistered names oldMatch isFree newFree replaced cleared published moved withReplaced commandWord outcomeAt onSent then words result played resumeFrom resumeAll orCode undoStops stopFrom stopAll number codeOf ringOk ringsOk disjoint offerOk noCells withCell isActive handleOf cellsFrom cellsOf gathered endpointAt endpointsOf ownersOf owns isOwned tabulated ownedRings queuesOf pendingFrom pendingRings claimedRing claimedOwner claimedActive claimedCells activeFrom withActive queueDcis queueRings addresses addressesFit padded addressAt dciAt placeOf heldIn interfacesOf alternatesOf isHeld alternateOf withoutSetting withSetting foundWords settingWords heldWords isFound eachSetting allFound settingsSound hasPlace placesOf same eachFrom eachPlace ownsPlaces allOwn ownersHeld endpointsMatch addressesFree answerOf configureFailed releaseContext releasePublished releasePublish releaseResume releaseConfigure releaseCourse claimContext undoContext claimPublished claimPublish claimSwitchBack claimUndone claimUndo claimSwitch claimResume claimConfigure claimCourse dropContext restoreContext valueContext setEvaluate setPublished setPublish setRestored setRestore setSwitch setResume setConfigure setCourse onCheck thinkValue hubContext hubCourse hubLeft hubUpdate recordCheck isThought hubCheck claimCheck pendingOf claimIn quarantines claimRecord claim listOf cellsIn heldOf quarantinedOf withCells withHeld withConfiguration withQuarantined unusable refused marked ended releaseCheck releaseIn releaseRecord release settingsIn bare setRecord setConfiguration placeSound countsFit listsSound ringsOf allRings ringsSound sound spacingOf bringUpCheck step firstConfigurations nothingRead readUpTo bringUpSettings bringUpSet bringUpConfigs bringUpDevice bringUpHeader bringUpCourse broughtRecord noDevice broughtLeft bringUp elem distinct left controller.configured isDone controlled enabledAfter doneWord heldQueues plainRoute isHeldDci without hasSetting settingOf effectOf heldAfter isLoose begun anew observed cutAt contextCut called after start slotCheck deviceCheck queueCheck bringUpConfiguration bringUpPacket bringUpAddress seen addressFree
+unfolding hub-route.routeOfPorts speedKnown hubInfo hubAt hubFits chainFrom chainOk ports clamp routeOf routeString thinkTime directionIn endpointNumber typeNumber transferType endpointDescriptor dciOf endpointType periodicInterval xhciInterval isPeriodic periodicBurst esitPayload wordAt putWord readField withBits writeField queues ringFor changed ringFields errorCount periodicFields burstOf basicFields endpointFields wordDci dropFlags inBlock onPart writeAt written blockAt readAt addWrites addAll highestDci wordDcis contextEntries configureWrites firstPacketSize headerPacketSize kind configurationValue interfaceNumber alternateSetting endpointOk wordOk endpointRun ofInterface isAlternate findFrom findEndpoints beginsWithConfiguration wordsOk runFits runsFit configurations hasInterface lastAlternate interfaces validList routeIndex withRoute registered withRegistered names oldMatch isFree newFree replaced cleared published moved withReplaced commandWord outcomeAt onSent then words result played resumeFrom resumeStoppedEndpoints orCode undoStops stopFrom stopEndpoints number codeOf ringOk ringsOk disjoint offerOk noEndpoints withEndpoint isActive handleOf endpointMapFrom endpointMapOf gathered endpointAt endpointsOf ownersOf owns isOwned tabulated ownedRings queuesOf pendingFrom pendingRings claimedRing claimedOwner claimedActive claimedEndpoints activeFrom withActive queueDcis queueRings addresses addressesFit padded addressAt dciAt placeOf heldIn interfacesOf alternatesOf isHeld alternateOf withoutSetting withSetting foundWords settingWords heldWords isFound eachSetting allFound settingsSound hasPlace placesOf agree eachFrom eachPlace ownsPlaces allOwn ownersHeld endpointsMatch addressesFree answerOf configureFailed releaseContext releasePublished releasePublish releaseResume releaseConfigure releaseCourse claimContext undoContext claimPublished claimPublish claimSwitchBack claimUndone claimUndo claimSwitch claimResume claimConfigure claimCourse dropContext restoreContext valueContext setEvaluate setPublished setPublish setRestored setRestore setSwitch setResume setConfigure setCourse onCheck thinkValue hubContext hubCourse hubLeft hubUpdate recordCheck isThought hubCheck claimCheck pendingOf claimIn quarantines claimRecord claim listOf endpointMapIn heldOf quarantinedOf withEndpoints withHeld withConfiguration withQuarantined unusable refused marked ended releaseCheck releaseIn releaseRecord release settingsIn bare setRecord setConfiguration slotSound countsFit listsSound ringsOf allRings ringsSound sound spacingOf bringUpCheck step firstConfigurations nothingRead readUpTo bringUpSettings bringUpSet bringUpConfigs bringUpDevice bringUpHeader bringUpCourse broughtRecord noDevice broughtLeft bringUp elem distinct left controller.configured isDone controlled enabledAfter doneWord heldQueues plainRoute isHeldDci without hasSetting settingOf effectOf heldAfter isUnheldRelease begun anew observed cutAt contextCut called after start slotCheck deviceCheck queueCheck bringUpConfiguration bringUpPacket bringUpAddress seen addressFree
 all-hold ring = refl

@@ -8,7 +8,7 @@ use Rattle.transfer.specs.Routes.{Queue, routeOf}
 use Rattle.course_init.specs.Reading.{BringUp}
 use Rattle.device_bring_up.specs.BringUp.{bringUp}
 use Rattle.theorem_slot.specs.Call.{Asked, Call, bringsUp, claims, releases, configures}
-use Rattle.theorem_slot.specs.Plain.{Setting}
+use Rattle.theorem_slot.specs.Plain.{HeldSetting}
 use Rattle.theorem_slot.specs.Theorem.{State, after, start}
 use Rattle.theorem_cases.specs.Added.{endpointWord}
 use Rattle.theorem_cases.specs.Example.{asked, ctx, log, free, done}
@@ -40,8 +40,8 @@ abbrev pub call : Asked → List ℕ → Call
 call a outcomes = record { asked = a; buffers = record { ctx = ctx; log = log; outcomes = outcomes } }
 
 -- Interface 0 claimed at alternate 0, with ring 32 for 0x81.
-abbrev pub claimed : Call
-claimed = call (claims 0 0 (32 ∷ [])) done
+abbrev pub firstClaim : Call
+firstClaim = call (claims 0 0 (32 ∷ [])) done
 
 -- A list of calls after the bring-up; the interfaces held after it, the endpoints with a route, those enabled, and the two marks.
 pub record Listed : Type 0 where
@@ -50,41 +50,41 @@ pub record Listed : Type 0 where
   pub routed : List Queue
   pub enabled : List ℕ
   pub broken : Bool
-  pub loose : Bool
+  pub unheldRelease : Bool
 
 abbrev pub route : ℕ → ℕ → Queue
 route dci ring = record { dci = dci; ring = ring }
 
 abbrev pub list : List Call → List ℕ → List Queue → List ℕ → Bool → Bool → Listed
-list calls held routed enabled broken loose =
-    record { calls = calls; held = held; routed = routed; enabled = enabled; broken = broken; loose = loose }
+list calls held routed enabled broken unheldRelease =
+    record { calls = calls; held = held; routed = routed; enabled = enabled; broken = broken; unheldRelease = unheldRelease }
 
 abbrev pub lists : List Listed
 lists =
     -- 1: a claim, and one of the other alternate in its place
-    list (claimed ∷ call (claims 0 1 (48 ∷ 64 ∷ [])) done ∷ []) (0 ∷ []) (route 3 48 ∷ route 4 64 ∷ []) (3 ∷ 4 ∷ []) false false
+    list (firstClaim ∷ call (claims 0 1 (48 ∷ 64 ∷ [])) done ∷ []) (0 ∷ []) (route 3 48 ∷ route 4 64 ∷ []) (3 ∷ 4 ∷ []) false false
     -- 2: a claim undone: its SetInterface fails
-    ∷ list (claimed ∷ call (claims 0 1 (48 ∷ 64 ∷ [])) (0 ∷ 0 ∷ 7 ∷ 0 ∷ 0 ∷ []) ∷ []) (0 ∷ []) (route 3 32 ∷ []) (3 ∷ []) false false
+    ∷ list (firstClaim ∷ call (claims 0 1 (48 ∷ 64 ∷ [])) (0 ∷ 0 ∷ 7 ∷ 0 ∷ 0 ∷ []) ∷ []) (0 ∷ []) (route 3 32 ∷ []) (3 ∷ []) false false
     -- 3: the undoing fails too: broken, with the new endpoints in the controller
-    ∷ list (claimed ∷ call (claims 0 1 (48 ∷ 64 ∷ [])) (0 ∷ 0 ∷ 7 ∷ 5 ∷ []) ∷ []) (0 ∷ []) (route 3 32 ∷ []) (3 ∷ 4 ∷ []) true false
+    ∷ list (firstClaim ∷ call (claims 0 1 (48 ∷ 64 ∷ [])) (0 ∷ 0 ∷ 7 ∷ 5 ∷ []) ∷ []) (0 ∷ []) (route 3 32 ∷ []) (3 ∷ 4 ∷ []) true false
     -- 4: a claim and its release
-    ∷ list (claimed ∷ call (releases 0) done ∷ []) [] [] [] false false
+    ∷ list (firstClaim ∷ call (releases 0) done ∷ []) [] [] [] false false
     -- 5: a repeated address: the last word's ring
     ∷ list (call (claims 2 0 (32 ∷ 48 ∷ [])) done ∷ []) (2 ∷ []) (route 7 48 ∷ []) (7 ∷ []) false false
     -- 6: a set configuration cut at its last Evaluate
-    ∷ list (claimed ∷ call (configures 1) (0 ∷ 0 ∷ 0 ∷ []) ∷ []) [] [] [] true false
+    ∷ list (firstClaim ∷ call (configures 1) (0 ∷ 0 ∷ 0 ∷ []) ∷ []) [] [] [] true false
     -- 7: a set configuration that fails and is undone
-    ∷ list (claimed ∷ call (configures 1) (0 ∷ 0 ∷ 9 ∷ 0 ∷ 0 ∷ []) ∷ []) (0 ∷ []) (route 3 32 ∷ []) (3 ∷ []) false false
+    ∷ list (firstClaim ∷ call (configures 1) (0 ∷ 0 ∷ 9 ∷ 0 ∷ 0 ∷ []) ∷ []) (0 ∷ []) (route 3 32 ∷ []) (3 ∷ []) false false
     -- 8: a second bring-up is refused (17), and every call after it (12)
-    ∷ list (claimed ∷ call (bringsUp device) done ∷ call (releases 0) done ∷ []) (0 ∷ []) (route 3 32 ∷ []) (3 ∷ []) false false
+    ∷ list (firstClaim ∷ call (bringsUp device) done ∷ call (releases 0) done ∷ []) (0 ∷ []) (route 3 32 ∷ []) (3 ∷ []) false false
     -- 9: a claim of an address that another interface has is refused (9)
-    ∷ list (claimed ∷ call (claims 1 0 (48 ∷ [])) done ∷ call (claims 2 0 (48 ∷ 64 ∷ [])) done ∷ []) (0 ∷ 2 ∷ []) (route 3 32 ∷ route 7 64 ∷ []) (3 ∷ 7 ∷ []) false false
+    ∷ list (firstClaim ∷ call (claims 1 0 (48 ∷ [])) done ∷ call (claims 2 0 (48 ∷ 64 ∷ [])) done ∷ []) (0 ∷ 2 ∷ []) (route 3 32 ∷ route 7 64 ∷ []) (3 ∷ 7 ∷ []) false false
     -- 10: a release of an interface that holds nothing but lists the same address: the controller drops a held endpoint
-    ∷ list (claimed ∷ call (releases 1) done ∷ []) (0 ∷ []) (route 3 32 ∷ []) [] false true
+    ∷ list (firstClaim ∷ call (releases 1) done ∷ []) (0 ∷ []) (route 3 32 ∷ []) [] false true
     ∷ []
 
 -- The interfaces of settings, in order.
-abbrev pub sameHeld : List Setting → List ℕ → Bool
+abbrev pub sameHeld : List HeldSetting → List ℕ → Bool
 sameHeld [] [] = true
 sameHeld [] (i ∷ is) = false
 sameHeld (s ∷ ss) [] = false
@@ -112,7 +112,7 @@ abbrev pub listedHolds : Listed → Bool
 listedHolds l =
     let s = after (start device (bringUp device ctx free log done)) (l .calls) in
     sameHeld (s .plain .held) (l .held)
-    && (same (s .plain .broken) (l .broken) && (same (s .plain .loose) (l .loose) && dcisHold 30 2 s l))
+    && (same (s .plain .broken) (l .broken) && (same (s .plain .unheldRelease) (l .unheldRelease) && dcisHold 30 2 s l))
 
 abbrev pub allListed : List Listed → Bool
 allListed [] = true

@@ -10,7 +10,7 @@ use Rattle.command.specs.declared.Sent.{Sent}
 use Rattle.command.specs.declared.Sent.the-variants.{Done, Failed, Cut}
 use Rattle.command.specs.Command.{outcomeAt}
 use Rattle.command.specs.Course.{Course, ends, sends, onSent, then, words, result, contextAt, CutEnds}
-use Rattle.command.specs.Sweep.{Sweep, stopAll, resumeAll}
+use Rattle.command.specs.Sweep.{Sweep, stopEndpoints, resumeStoppedEndpoints}
 use Rattle.command.proofs.Cuts.{cut-context}
 use Rattle.command.proofs.Operations.{ByteOperands, operation, operation-command, EachCommand}
 use Rattle.command.proofs.Sweeps.{stop-each, resume-each}
@@ -90,10 +90,10 @@ module _ {S : Type 0} (step : Step S) where
 
     module _ (resumes : Idle 5) (ctx ds : List ℕ) (f : Sweep → Course A) (next : (r : Sweep) → Follows Q state (f r)) where
       -- as after a sweep
-      pub resume-then : Follows Q state (then (resumeAll ctx ds) f)
+      pub resume-then : Follows Q state (then (resumeStoppedEndpoints ctx ds) f)
       unfolding operation
-      resume-then = follows-then (resumeAll ctx ds) f (resume-each _ ctx ds (λ k. resumes)) next
+      resume-then = follows-then (resumeStoppedEndpoints ctx ds) f (resume-each _ ctx ds (λ k. resumes)) next
 
-      pub stop-then : Idle 4 → Follows Q state (then (stopAll ctx ds) f)
+      pub stop-then : Idle 4 → Follows Q state (then (stopEndpoints ctx ds) f)
       unfolding operation
-      stop-then stops = follows-then (stopAll ctx ds) f (stop-each _ ctx ds (λ k. (stops, resumes))) next
+      stop-then stops = follows-then (stopEndpoints ctx ds) f (stop-each _ ctx ds (λ k. (stops, resumes))) next

@@ -15,7 +15,7 @@ use Rattle.answer.specs.Answer.{number}
 use Rattle.command.specs.declared.Command.{Command}
 use Rattle.command.specs.declared.Command.the-variants as command
 use Rattle.command.specs.Course.{Course, sends, onSent, then}
-use Rattle.command.specs.Sweep.{Sweep, stopAll, resumeAll}
+use Rattle.command.specs.Sweep.{Sweep, stopEndpoints, resumeStoppedEndpoints}
 use Rattle.command.proofs.Operations.{operation}
 use Rattle.context_field.specs.declared.Field.{Field}
 use Rattle.context_field.specs.Field.{readField}
@@ -100,11 +100,11 @@ idle-other op e s ctx enabled = rw e
 module _ {A : Type 0} (Q : A → (ℕ → Bool) → Type 0) (enabled : ℕ → Bool) where
   -- what comes after a sweep decides
   pub follows-stop : (ctx ds : List ℕ) (f : Sweep → Course A) → ((r : Sweep) → Follows enabledAfter Q enabled (f r)) →
-      Follows enabledAfter Q enabled (then (stopAll ctx ds) f)
+      Follows enabledAfter Q enabled (then (stopEndpoints ctx ds) f)
   follows-stop ctx ds f next = stop-then enabledAfter Q enabled (idle-other 5 refl) ctx ds f next (idle-other 4 refl)
 
   pub follows-resume : (ctx ds : List ℕ) (f : Sweep → Course A) → ((r : Sweep) → Follows enabledAfter Q enabled (f r)) →
-      Follows enabledAfter Q enabled (then (resumeAll ctx ds) f)
+      Follows enabledAfter Q enabled (then (resumeStoppedEndpoints ctx ds) f)
   follows-resume = resume-then enabledAfter Q enabled (idle-other 5 refl)
 
   -- a Configure, where it is done

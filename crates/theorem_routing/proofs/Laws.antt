@@ -19,13 +19,13 @@ use Rattle.context_block.specs.Blocks.{wordDci}
 use Rattle.context_block.specs.Promises.{someDci}
 use Rattle.context.specs.Steps.{wordDcis}
 use Rattle.transfer.specs.declared.Replaced.the-variants as replace
-use Rattle.transfer.specs.Routes.{Queue, queues, names, routeIndex, routeOf, oldMatch, isFree, newFree, replaced, withReplaced, ringFor, Outside}
+use Rattle.transfer.specs.Routes.{Queue, queues, names, routeIndex, routeOf, oldMatch, isFree, newFree, replaced, withReplaced, ringFor, OutsideSlot}
 use Rattle.transfer.proofs.Laws.{Apart, index-same, ringFor-none, done-replaced, replaced-at, replaced-length, replaced-other, replaced-outside}
 use Rattle.record_endpoint.specs.Order.{PLACES, dciAt}
-use Rattle.record_endpoint.specs.Cells.{noCells, gathered, isOwned, owns, ownedRings, queuesOf, pendingRings, claimedRing, claimedCells}
-use Rattle.record_endpoint.specs.declared.cells.Cells.{Cells}
-use Rattle.record_endpoint.specs.declared.cells.Owner.{Owner}
-use Rattle.record_endpoint.specs.declared.cells.Owner.the-variants.{Interface}
+use Rattle.record_endpoint.specs.EndpointMap.{noEndpoints, gathered, isOwned, owns, ownedRings, queuesOf, pendingRings, claimedRing, claimedEndpoints}
+use Rattle.record_endpoint.specs.declared.endpoint_map.EndpointMap.{EndpointMap}
+use Rattle.record_endpoint.specs.declared.endpoint_map.Owner.{Owner}
+use Rattle.record_endpoint.specs.declared.endpoint_map.Owner.the-variants.{Interface}
 use Rattle.record_endpoint.proofs.Laws.{dci-place, dci-low, dci-high, owned-at, owned-zero, claimed-ring, pending-at, word-at, wordDcis as endpointDcis, queues-name, queues-other, queues-ring, queues-small}
 use Rattle.record_settings.specs.Match.{hasPlace, addressesFree}
 use Rattle.record_settings.proofs.Laws.{each-at, each-if, free-at, pending-place}
@@ -80,7 +80,7 @@ module _ (routes : List ℕ) (slot : ℕ) (rings : List ℕ) where
           (h a (omega arith) (eqb-false (getD rings a 0) 0 e)) f
 
 -- Some endpoints' queues x replaced by y.
-module _ (routes : List ℕ) (slot : ℕ) (c : Cells) (x y : List ℕ)
+module _ (routes : List ℕ) (slot : ℕ) (c : EndpointMap) (x y : List ℕ)
     (part : (p : ℕ) → p < 30 → (getD x p 0 ≡ 0 → ⊥) → getD (c .rings) p 0 ≡ getD x p 0) where
   part-old : NamedBy routes slot c → oldMatch routes slot (queuesOf x) ≡ true
   unfolding queuesOf queueAt
@@ -125,7 +125,7 @@ module _ (routes : List ℕ) (slot : ℕ) (c : Cells) (x y : List ℕ)
 
 -- The endpoints of an owner are some of the endpoints.
 owned-part :
-    (who : Owner) (c : Cells) (p : ℕ) → p < 30 → (getD (ownedRings who c) p 0 ≡ 0 → ⊥) →
+    (who : Owner) (c : EndpointMap) (p : ℕ) → p < 30 → (getD (ownedRings who c) p 0 ≡ 0 → ⊥) →
     getD (c .rings) p 0 ≡ getD (ownedRings who c) p 0
 owned-part who c p h z = go (decided (isOwned who c p))
   where
@@ -135,7 +135,7 @@ owned-part who c p h z = go (decided (isOwned who c p))
 
 -- A free address without an endpoint of the interface has none.
 free-none :
-    (words : List ℕ) (i : ℕ) (c : Cells) (p : ℕ) → addressesFree words i c ≡ true → p < 30 → hasPlace p words ≡ true →
+    (words : List ℕ) (i : ℕ) (c : EndpointMap) (p : ℕ) → addressesFree words i c ≡ true → p < 30 → hasPlace p words ≡ true →
     getD (ownedRings (Interface i) c) p 0 ≡ 0 → getD (c .rings) p 0 ≡ 0
 unfolding isOwned owns
 free-none words i c p f h w z =
@@ -153,7 +153,7 @@ free-none words i c p f h w z =
     go (inr e) (inr d) = sym (owned-at (Interface i) c p h ∙ rw (d, e)) ∙ z
 
 -- Interface i's queues replaced by pending ones: at each place.
-module _ (routes : List ℕ) (slot : ℕ) (i : ℕ) (pending : List ℕ) (c : Cells) where
+module _ (routes : List ℕ) (slot : ℕ) (i : ℕ) (pending : List ℕ) (c : EndpointMap) where
   abbrev old : List ℕ
   old = ownedRings (Interface i) c
 
@@ -170,7 +170,7 @@ module _ (routes : List ℕ) (slot : ℕ) (i : ℕ) (pending : List ℕ) (c : Ce
   -- Whatever else the slot's words hold.
   pub claim-named :
       replaced routes slot (queuesOf old) (queuesOf pending) ≡ replace.Done → NamedBy routes slot c → InTable routes slot →
-      NamedBy (withReplaced routes slot (queuesOf old) (queuesOf pending)) slot (claimedCells i pending c)
+      NamedBy (withReplaced routes slot (queuesOf old) (queuesOf pending)) slot (claimedEndpoints i pending c)
   unfolding claimedRing
   claim-named done n room p h z =
       part-at routes slot c old pending (owned-part (Interface i) c) done room p h
@@ -194,7 +194,7 @@ module _ (routes : List ℕ) (slot : ℕ) (i : ℕ) (pending : List ℕ) (c : Ce
     claim-free : (p : ℕ) → p < 30 → (getD pending p 0 ≡ 0 → ⊥) → getD old p 0 ≡ 0 → getD (c .rings) p 0 ≡ 0
     claim-free p h z = free-none words i c p free h (at p h z)
 
-    pub claim-routed : Rerouted routes slot (queuesOf old) (queuesOf pending) (claimedCells i pending c)
+    pub claim-routed : Rerouted routes slot (queuesOf old) (queuesOf pending) (claimedEndpoints i pending c)
     unfolding claimedRing
     claim-routed =
         record {
@@ -210,12 +210,12 @@ pub no-queues : queuesOf (replicate PLACES 0) ≡ []
 unfolding queuesOf gathered
 no-queues = refl
 
-no-words : (i : ℕ) (c : Cells) → addressesFree [] i c ≡ true
+no-words : (i : ℕ) (c : EndpointMap) → addressesFree [] i c ≡ true
 unfolding addressesFree
 no-words i c = refl
 
 -- Queues taken out, where they are routed.
-module _ (routes : List ℕ) (slot : ℕ) (c : Cells) (n : NamedBy routes slot c) where
+module _ (routes : List ℕ) (slot : ℕ) (c : EndpointMap) (n : NamedBy routes slot c) where
   out-done :
       (x : List ℕ) → ((p : ℕ) → p < 30 → (getD x p 0 ≡ 0 → ⊥) → getD (c .rings) p 0 ≡ getD x p 0) →
       replaced routes slot (queuesOf x) [] ≡ replace.Done
@@ -230,17 +230,17 @@ module _ (routes : List ℕ) (slot : ℕ) (c : Cells) (n : NamedBy routes slot c
   pub bare-done : replaced routes slot (queuesOf (c .rings)) [] ≡ replace.Done
   bare-done = out-done (c .rings) (λ p h z. refl)
 
-module _ (routes : List ℕ) (slot : ℕ) (c : Cells) (r : RoutedBy routes slot c) (room : InTable routes slot) where
+module _ (routes : List ℕ) (slot : ℕ) (c : EndpointMap) (r : RoutedBy routes slot c) (room : InTable routes slot) where
   -- A release takes the interface's routes out.
   pub release-routed :
-      (i : ℕ) → Rerouted routes slot (queuesOf (ownedRings (Interface i) c)) [] (claimedCells i (replicate PLACES 0) c)
+      (i : ℕ) → Rerouted routes slot (queuesOf (ownedRings (Interface i) c)) [] (claimedEndpoints i (replicate PLACES 0) c)
   release-routed i =
       rw (← no-queues)
       (claim-routed routes slot i (replicate PLACES 0) c [] r room (no-words i c) (λ p h z. absurd (z (getD-replicate 30 p 0 0 h))))
 
   -- A set configuration takes all out.
-  pub bare-routed : Rerouted routes slot (queuesOf (c .rings)) [] noCells
-  unfolding noCells
+  pub bare-routed : Rerouted routes slot (queuesOf (c .rings)) [] noEndpoints
+  unfolding noEndpoints
   bare-routed =
       rw (← no-queues)
       (record {
@@ -273,7 +273,7 @@ module _ (routes : List ℕ) (slot : ℕ) (x y : List ℕ) where
 
   -- Every word outside the slot.
   pub outside-kept :
-      (k : ℕ) → Outside slot k → getD (withReplaced routes slot (queuesOf x) (queuesOf y)) k 0 ≡ getD routes k 0
+      (k : ℕ) → OutsideSlot slot k → getD (withReplaced routes slot (queuesOf x) (queuesOf y)) k 0 ≡ getD routes k 0
   outside-kept k o = replaced-outside routes slot (queuesOf x) (queuesOf y) k (queues-small x) (queues-small y) o
 
   -- The length.
@@ -379,10 +379,10 @@ offer-places words rings live control quarantined e p h =
 
 -- So a claim whose addresses are free and whose offer passed replaces the interface's routes by the offered rings.
 pub offer-routed :
-    (routes : List ℕ) (slot i : ℕ) (words rings : List ℕ) (control : ℕ) (quarantined : List ℕ) (c : Cells) →
+    (routes : List ℕ) (slot i : ℕ) (words rings : List ℕ) (control : ℕ) (quarantined : List ℕ) (c : EndpointMap) →
     RoutedBy routes slot c → InTable routes slot → addressesFree words i c ≡ true →
     offerOk (length words) rings (c .rings) control quarantined ≡ true →
-    Rerouted routes slot (queuesOf (ownedRings (Interface i) c)) (queuesOf (pendingRings words rings)) (claimedCells i (pendingRings words rings) c)
+    Rerouted routes slot (queuesOf (ownedRings (Interface i) c)) (queuesOf (pendingRings words rings)) (claimedEndpoints i (pendingRings words rings) c)
 offer-routed routes slot i words rings control quarantined c r room free offer =
     claim-routed routes slot i (pendingRings words rings) c words r room free
     (λ p h z.

@@ -10,7 +10,7 @@ use Rattle.course_init.specs.Reading.{BringUp}
 use Rattle.device.specs.Device.{noDevice}
 use Rattle.device_bring_up.specs.BringUp.{bringUp}
 use Rattle.device_bring_up.proofs.Laws.{Refusal, Refused, bring-up-full}
-use Rattle.device.specs.Sound.{placeSound, sound}
+use Rattle.device.specs.Sound.{slotSound, sound}
 use Rattle.theorem_slot.specs.Call.{Buffers, bringsUp, left}
 use Rattle.theorem_slot.specs.Plain.{begins, effectOf}
 use Rattle.theorem_slot.specs.Theorem.{State, contextCut, called}
@@ -19,7 +19,7 @@ use Rattle.theorem_slot.proofs.Step.{Mild, observed-refused}
 
 -- What a refused bring-up returns is no sound record.
 no-device : sound noDevice ≡ false
-unfolding noDevice sound placeSound
+unfolding noDevice sound slotSound
 no-device = refl
 
 module _ (slot : ℕ) (before : List ℕ) (s : State) (buffers : Buffers) (a : BringUp) (same : a .slot ≡ slot) (g : Good slot before s) where
@@ -46,7 +46,7 @@ module _ (slot : ℕ) (before : List ℕ) (s : State) (buffers : Buffers) (a : B
         good-same slot before s now g (r .table) (ap (λ p. p .control) plain-same) (ap (λ p. p .held) plain-same)
         (λ b f d two h.
         ap (λ p. p .enabled d) plain-same
-        ∙ g .enabled (sym (ap (λ p. p .broken) plain-same) ∙ b) (sym (ap (λ p. p .loose) plain-same) ∙ f) d two h)
+        ∙ g .enabled (sym (ap (λ p. p .broken) plain-same) ∙ b) (sym (ap (λ p. p .unheldRelease) plain-same) ∙ f) d two h)
         (inl (ap (λ d. d .usable) (r .device), ap sound (r .device) ∙ no-device))
 
   pub bring-up-good : Good slot before (called s (record { asked = bringsUp a; buffers = buffers }))

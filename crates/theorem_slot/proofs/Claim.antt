@@ -26,8 +26,8 @@ use Rattle.context.specs.Steps.{wordDcis}
 use Rattle.transfer.specs.declared.Replaced.the-variants as replace
 use Rattle.transfer.specs.Routes.{routeOf, queues, ringFor, replaced, withReplaced}
 use Rattle.record_endpoint.specs.Order.{dciAt}
-use Rattle.record_endpoint.specs.Cells.{isOwned, ownedRings, queuesOf, pendingRings, claimedCells, withActive}
-use Rattle.record_endpoint.specs.declared.cells.Owner.the-variants.{Interface}
+use Rattle.record_endpoint.specs.EndpointMap.{isOwned, ownedRings, queuesOf, pendingRings, claimedEndpoints, withActive}
+use Rattle.record_endpoint.specs.declared.endpoint_map.Owner.the-variants.{Interface}
 use Rattle.record_endpoint.proofs.Laws.{queues-fit, dci-low, dci-high}
 use Rattle.record_settings.specs.Held.{isHeld, alternateOf, isFound, settingWords, withSetting}
 use Rattle.record_settings.specs.Match.{hasPlace, addressesFree}
@@ -41,7 +41,7 @@ use Rattle.course_claim.specs.Claim.{claimCourse}
 use Rattle.course_claim.proofs.Laws.{claim-accepted, claim-words, claim-answers, claim-moved, claim-cuts, Refused}
 use Rattle.course_claim.proofs.Controlled.{claim-operands, claim-accepted-enabled, claim-failed-enabled}
 use Rattle.device.specs.declared.record.Device.{Device}
-use Rattle.device.specs.Device.{listOf, cellsIn, heldOf, quarantinedOf}
+use Rattle.device.specs.Device.{listOf, endpointMapIn, heldOf, quarantinedOf}
 use Rattle.device.specs.Left.{Left, refused, ended}
 use Rattle.device.specs.Check.{recordCheck}
 use Rattle.device.specs.Calls.{onCheck}
@@ -49,7 +49,7 @@ use Rattle.device.specs.Claim.{claimCheck, pendingOf, claimIn, claimRecord, cla
 use Rattle.device.proofs.Laws.{Passed, passed, pass-if}
 use Rattle.device.proofs.Kept.{claim-moves, claim-stays}
 use Rattle.theorem_slot.specs.Call.{Buffers, claims, left}
-use Rattle.theorem_slot.specs.Plain.{Setting, Plain, plainRoute, isHeldDci, without, settingOf, Effect, holds, effectOf, heldAfter, anew, observed, seen}
+use Rattle.theorem_slot.specs.Plain.{HeldSetting, Plain, plainRoute, isHeldDci, without, settingOf, Effect, holdsInterface, effectOf, heldAfter, anew, observed, seen}
 use Rattle.theorem_slot.specs.Theorem.{State, cutAt, contextCut, called}
 use Rattle.theorem_slot.proofs.Settings.{last-ring, AllFit, pairs, pairs-append, pairs-without, fit-without, fit-append, alternate-byte}
 use Rattle.theorem_slot.proofs.Good.{Live, Unrouted, Good, live-tells, routed-from, named-from, enabled-was, live-here}
@@ -59,16 +59,16 @@ use Rattle.theorem_slot.proofs.Claimed.{some-place, owned-ring, free-ri
 
 -- What the check of a claim says, as tests.
 record Passes (d : Device) (i a : ℕ) (rings : List ℕ) : Type 0 where
-  pub free : addressesFree (settingWords (listOf d) i a) i (cellsIn d) ≡ true
-  pub offer : offerOk (length (settingWords (listOf d) i a)) rings ((cellsIn d) .rings) (d .control) (quarantinedOf d) ≡ true
+  pub free : addressesFree (settingWords (listOf d) i a) i (endpointMapIn d) ≡ true
+  pub offer : offerOk (length (settingWords (listOf d) i a)) rings ((endpointMapIn d) .rings) (d .control) (quarantinedOf d) ≡ true
 
 passes : (d : Device) (i a : ℕ) (rings : List ℕ) → claimCheck d i a rings Pass ≡ Pass → Passes d i a rings
 unfolding claimCheck
 passes d i a rings e =
     let words = settingWords (listOf d) i a in
     let f : (isFound (findEndpoints (listOf d) i a) ≡ true) × _ = pass-if _ _ _ e in
-    let g : (addressesFree words i (cellsIn d) ≡ true) × _ = pass-if _ _ _ (f .1) in
-    let h : (offerOk (length words) rings ((cellsIn d) .rings) (d .control) (quarantinedOf d) ≡ true) × _ = pass-if _ _ _ (g .1) in
+    let g : (addressesFree words i (endpointMapIn d) ≡ true) × _ = pass-if _ _ _ (f .1) in
+    let h : (offerOk (length words) rings ((endpointMapIn d) .rings) (d .control) (quarantinedOf d) ≡ true) × _ = pass-if _ _ _ (g .1) in
     record { free = g .0; offer = h .0 }
 
 module _ (slot : ℕ) (before : List ℕ) (s : State) (buffers : Buffers) (i a : ℕ) (rings : List ℕ)
@@ -80,7 +80,7 @@ module _ (slot : ℕ) (before : List ℕ) (s : State) (buffers : Buffers) (i a :
   p = s .plain
 
   abbrev effect : Effect
-  effect = holds i a rings
+  effect = holdsInterface i a rings
 
   abbrev newWords : List ℕ
   newWords = settingWords (listOf d) i a
@@ -116,22 +116,22 @@ module _ (slot : ℕ) (before : List ℕ) (s : State) (buffers : Buffers) (i a :
     old-place :
         (q : ℕ) → q < 30 →
         hasPlace q (cond (isHeld i (heldOf d)) (settingWords (listOf d) i (alternateOf i (heldOf d))) [])
-        ≡ isOwned (Interface i) (cellsIn d) q
+        ≡ isOwned (Interface i) (endpointMapIn d) q
     unfolding hasPlace
     old-place q h = go (decided (isHeld i (heldOf d)))
       where
         go :
             Decided (isHeld i (heldOf d)) →
             hasPlace q (cond (isHeld i (heldOf d)) (settingWords (listOf d) i (alternateOf i (heldOf d))) [])
-            ≡ isOwned (Interface i) (cellsIn d) q
+            ≡ isOwned (Interface i) (endpointMapIn d) q
         go (inl t) =
-            rw t (sym (match-facts (listOf d) (heldOf d) (cellsIn d) (pass .facts .endpoints) .owned i q t h))
+            rw t (sym (match-facts (listOf d) (heldOf d) (endpointMapIn d) (pass .facts .endpoints) .owned i q t h))
         go (inr t) =
             rw t
-            (sym (match-unheld (listOf d) (heldOf d) (cellsIn d)
-            (match-facts (listOf d) (heldOf d) (cellsIn d) (pass .facts .endpoints)) i q t h))
+            (sym (match-unheld (listOf d) (heldOf d) (endpointMapIn d)
+            (match-facts (listOf d) (heldOf d) (endpointMapIn d) (pass .facts .endpoints)) i q t h))
 
-    old-dci : (q : ℕ) → q < 30 → someDci (dciAt q) ((claimIn d i a rings) .oldWords) ≡ isOwned (Interface i) (cellsIn d) q
+    old-dci : (q : ℕ) → q < 30 → someDci (dciAt q) ((claimIn d i a rings) .oldWords) ≡ isOwned (Interface i) (endpointMapIn d) q
     unfolding claimIn
     old-dci q h = some-place _ q h ∙ old-place q h
 
@@ -140,30 +140,30 @@ module _ (slot : ℕ) (before : List ℕ) (s : State) (buffers : Buffers) (i a :
     new-dci q h = some-place newWords q h
 
     places : (q : ℕ) → q < 30 → eqb (getD pending q 0) 0 ≡ not (hasPlace q newWords)
-    places = offer-places newWords rings ((cellsIn d) .rings) (d .control) (quarantinedOf d) (tests .offer)
+    places = offer-places newWords rings ((endpointMapIn d) .rings) (d .control) (quarantinedOf d) (tests .offer)
 
     abbrev old : List ℕ
-    old = ownedRings (Interface i) (cellsIn d)
+    old = ownedRings (Interface i) (endpointMapIn d)
 
-    rerouted : Unrouted before slot → Rerouted (s .routes) slot (queuesOf old) (queuesOf pending) (claimedCells i pending (cellsIn d))
+    rerouted : Unrouted before slot → Rerouted (s .routes) slot (queuesOf old) (queuesOf pending) (claimedEndpoints i pending (endpointMapIn d))
     rerouted u =
-        offer-routed (s .routes) slot i newWords rings (d .control) (quarantinedOf d) (cellsIn d)
-        (routed-from slot (s .routes) p (cellsIn d) (g .own u) (live-tells slot d p l)) (rw (g .long) (g .room)) (tests .free)
+        offer-routed (s .routes) slot i newWords rings (d .control) (quarantinedOf d) (endpointMapIn d)
+        (routed-from slot (s .routes) p (endpointMapIn d) (g .own u) (live-tells slot d p l)) (rw (g .long) (g .room)) (tests .free)
         (tests .offer)
 
     named :
         replaced (s .routes) slot (queuesOf old) (queuesOf pending) ≡ replace.Done →
-        NamedBy (withReplaced (s .routes) slot (queuesOf old) (queuesOf pending)) slot (claimedCells i pending (cellsIn d))
+        NamedBy (withReplaced (s .routes) slot (queuesOf old) (queuesOf pending)) slot (claimedEndpoints i pending (endpointMapIn d))
     named done =
-        claim-named (s .routes) slot i pending (cellsIn d) done
-        (named-from slot (s .routes) p (cellsIn d) (g .named) (live-tells slot d p l)) (rw (g .long) (g .room))
+        claim-named (s .routes) slot i pending (endpointMapIn d) done
+        (named-from slot (s .routes) p (endpointMapIn d) (g .named) (live-tells slot d p l)) (rw (g .long) (g .room))
 
     was :
-        p .broken ≡ false → p .loose ≡ false → (q : ℕ) → q < 30 →
-        p .enabled (dciAt q) ≡ not (eqb (getD ((cellsIn d) .rings) q 0) 0)
+        p .broken ≡ false → p .unheldRelease ≡ false → (q : ℕ) → q < 30 →
+        p .enabled (dciAt q) ≡ not (eqb (getD ((endpointMapIn d) .rings) q 0) 0)
     was = enabled-was slot before s g l
 
-    settings : List Setting
+    settings : List HeldSetting
     settings = without i (p .held) ++ (settingOf (p .list) i a rings ∷ [])
 
     settings-pairs : pairs settings ≡ withSetting i a (heldOf d)
@@ -172,28 +172,28 @@ module _ (slot : ℕ) (before : List ℕ) (s : State) (buffers : Buffers) (i a :
         pairs-append (without i (p .held)) (settingOf (p .list) i a rings ∷ [])
         ∙ rw (pairs-without i (p .held), l .held)
 
-    settings-fit : AllFit (claimedCells i pending (cellsIn d)) settings
+    settings-fit : AllFit (claimedEndpoints i pending (endpointMapIn d)) settings
     unfolding settings AllFit
     settings-fit =
-        fit-append (claimedCells i pending (cellsIn d)) (without i (p .held)) _
-        (fit-without (cellsIn d) (claimedCells i pending (cellsIn d)) i (p .held)
-        (λ x n. fits-other i pending (cellsIn d) x n (pending-free newWords i pending (cellsIn d) (tests .free) places (x .interface) n))
+        fit-append (claimedEndpoints i pending (endpointMapIn d)) (without i (p .held)) _
+        (fit-without (endpointMapIn d) (claimedEndpoints i pending (endpointMapIn d)) i (p .held)
+        (λ x n. fits-other i pending (endpointMapIn d) x n (pending-free newWords i pending (endpointMapIn d) (tests .free) places (x .interface) n))
         (l .fits))
-        (rw (← l .list) (fits-own (listOf d) (pass .facts .list) i a rings (cellsIn d) places alternate-byte-new), tt)
+        (rw (← l .list) (fits-own (listOf d) (pass .facts .list) i a rings (endpointMapIn d) places alternate-byte-new), tt)
 
     spaced : Spaced ((claimIn d i a rings) .args .spacing) (length (buffers .ctx))
     unfolding claimIn
     spaced = pass .spaced
 
     accepted-enabled :
-        end .answer ≡ answer.Accepted → p .broken ≡ false → p .loose ≡ false → (q : ℕ) → q < 30 →
+        end .answer ≡ answer.Accepted → p .broken ≡ false → p .unheldRelease ≡ false → (q : ℕ) → q < 30 →
         followed enabledAfter (buffers .outcomes) 0 course (p .enabled) (dciAt q)
-        ≡ not (eqb (getD ((claimedCells i pending (cellsIn d)) .rings) q 0) 0)
+        ≡ not (eqb (getD ((claimedEndpoints i pending (endpointMapIn d)) .rings) q 0) 0)
     unfolding end course
     accepted-enabled e b f q h =
         claim-accepted-enabled (claimIn d i a rings) (buffers .ctx) (s .routes) (buffers .outcomes) 0 spaced (dciAt q) (dci-low q h)
         (dci-high q h) (p .enabled) e
-        ∙ rw (was b f q h, old-dci q h, new-dci q h) (claimed-some i pending (cellsIn d) q (hasPlace q newWords) h (places q h))
+        ∙ rw (was b f q h, old-dci q h, new-dci q h) (claimed-some i pending (endpointMapIn d) q (hasPlace q newWords) h (places q h))
 
     -- Accepted: the interface's setting is the claimed one.
     accepted-good : end .answer ≡ answer.Accepted → Good slot before now
@@ -203,17 +203,17 @@ module _ (slot : ℕ) (before : List ℕ) (s : State) (buffers : Buffers) (i a :
         let moved : end .moved ≡ true = v .by-answer .1 e in
         let m = claim-moves d _ _ _ i a rings k end moved in
         let held : now .plain .held ≡ settings = rw e refl in
-        made-moved slot before s now g l (withSetting i a (heldOf d)) (claimedCells i pending (cellsIn d)) (isLost (end .answer)) m refl refl
+        made-moved slot before s now g l (withSetting i a (heldOf d)) (claimedEndpoints i pending (endpointMapIn d)) (isLost (end .answer)) m refl refl
         (ap pairs held ∙ settings-pairs) (rw held settings-fit) old pending
         (v .routed moved ∙ ap (λ x. withReplaced (s .routes) x (queuesOf old) (queuesOf pending)) (l .place))
         (named (ap (λ x. replaced (s .routes) x (queuesOf old) (queuesOf pending)) (sym (l .place)) ∙ v .allowed moved))
         (λ u. rerouted u .routed)
-        (λ b f. accepted-enabled e (or-left-false (p .broken) _ b) (or-left-false (p .loose) _ f))
+        (λ b f. accepted-enabled e (or-left-false (p .broken) _ b) (or-left-false (p .unheldRelease) _ f))
 
     -- Otherwise it is as it was.
     stayed-good :
         end .moved ≡ false → isAccepted (end .answer) ≡ false →
-        (now .plain .broken ≡ false → now .plain .loose ≡ false → (x : ℕ) → 2 ≤ x → x < 32 →
+        (now .plain .broken ≡ false → now .plain .unheldRelease ≡ false → (x : ℕ) → 2 ≤ x → x < 32 →
         now .plain .enabled x ≡ isHeldDci p x) →
         Good slot before now
     unfolding now ran seen heldAfter end course
@@ -221,12 +221,12 @@ module _ (slot : ℕ) (before : List ℕ) (s : State) (buffers : Buffers) (i a :
         let v = claim-moved (claimIn d i a rings) (buffers .ctx) (s .routes) (buffers .outcomes) 0 in
         let m = claim-stays d _ _ _ i a rings k end moved in
         let held : now .plain .held ≡ p .held = rw n refl in
-        made-same slot before s now g l (heldOf d) (withActive (Interface i) (end .active) (cellsIn d)) (isLost (end .answer)) m refl refl
-        (ap pairs held ∙ l .held) (rw held (fit-active (Interface i) (end .active) (cellsIn d) (p .held) (l .fits))) (v .kept moved)
+        made-same slot before s now g l (heldOf d) (withActive (Interface i) (end .active) (endpointMapIn d)) (isLost (end .answer)) m refl refl
+        (ap pairs held ∙ l .held) (rw held (fit-active (Interface i) (end .active) (endpointMapIn d) (p .held) (l .fits))) (v .kept moved)
         held e
 
     failed-enabled :
-        (code : ℕ) → end .answer ≡ answer.Failed code → p .broken ≡ false → p .loose ≡ false → (x : ℕ) → 2 ≤ x → x < 32 →
+        (code : ℕ) → end .answer ≡ answer.Failed code → p .broken ≡ false → p .unheldRelease ≡ false → (x : ℕ) → 2 ≤ x → x < 32 →
         followed enabledAfter (buffers .outcomes) 0 course (p .enabled) x ≡ isHeldDci p x
     unfolding end course
     failed-enabled code e b f =
@@ -234,8 +234,8 @@ module _ (slot : ℕ) (before : List ℕ) (s : State) (buffers : Buffers) (i a :
         (λ q h.
         claim-failed-enabled (claimIn d i a rings) (buffers .ctx) (s .routes) (buffers .outcomes) 0 spaced (dciAt q) (dci-low q h)
         (dci-high q h) (p .enabled) code e
-        (λ o. was b f q h ∙ ap not (owned-ring i (cellsIn d) q (sym (old-dci q h) ∙ o)))
-        (λ w o. was b f q h ∙ ap not (free-ring newWords i (cellsIn d) q (tests .free) h (sym (new-dci q h) ∙ w) (sym (old-dci q h) ∙ o)))
+        (λ o. was b f q h ∙ ap not (owned-ring i (endpointMapIn d) q (sym (old-dci q h) ∙ o)))
+        (λ w o. was b f q h ∙ ap not (free-ring newWords i (endpointMapIn d) q (tests .free) h (sym (new-dci q h) ∙ w) (sym (old-dci q h) ∙ o)))
         ∙ g .enabled b f (dciAt q) (dci-low q h) (dci-high q h))
 
     ended-good :
@@ -246,7 +246,7 @@ module _ (slot : ℕ) (before : List ℕ) (s : State) (buffers : Buffers) (i a :
     ended-good (inr (inl (code, e))) m =
         let n : isAccepted (end .answer) ≡ false = rw e refl in
         stayed-good (false-if (end .moved) (λ t. accepted-not n (m .0 t))) n
-        (λ b f. failed-enabled code e (or-left-false (p .broken) _ b) (or-left-false (p .loose) _ f))
+        (λ b f. failed-enabled code e (or-left-false (p .broken) _ b) (or-left-false (p .unheldRelease) _ f))
     ended-good (inr (inr (inl e))) m =
         let n : isAccepted (end .answer) ≡ false = rw e refl in
         stayed-good (false-if (end .moved) (λ t. accepted-not n (m .0 t))) n
@@ -262,7 +262,7 @@ module _ (slot : ℕ) (before : List ℕ) (s : State) (buffers : Buffers) (i a :
         omega (
           arith,
           claim-words (claimIn d i a rings) (buffers .ctx) (s .routes) (buffers .outcomes) 0
-              (queues-fit (ownedRings (Interface i) (cellsIn d))),
+              (queues-fit (ownedRings (Interface i) (endpointMapIn d))),
           pass .room,
         )
 
@@ -270,8 +270,8 @@ module _ (slot : ℕ) (before : List ℕ) (s : State) (buffers : Buffers) (i a :
     unfolding course claimIn
     bytes =
         claim-operands (claimIn d i a rings) (buffers .ctx) (s .routes) byte alternate-byte-new
-        (rw (← l .held) (alternate-byte (cellsIn d) i (p .held) (l .fits)))
-        (byte-dcis (ownedRings (Interface i) (cellsIn d)))
+        (rw (← l .held) (alternate-byte (endpointMapIn d) i (p .held) (l .fits)))
+        (byte-dcis (ownedRings (Interface i) (endpointMapIn d)))
 
     good-end : Good slot before now
     unfolding end course
@@ -304,7 +304,7 @@ module _ (slot : ℕ) (before : List ℕ) (s : State) (buffers : Buffers) (i a :
     unfolding end course claimIn pendingOf
     end-accepted u =
         let l = live-here slot before s g (passed d _ _ _ _ k .0 .is-sound) in
-        let were = ownedRings (Interface i) (cellsIn d) in
+        let were = ownedRings (Interface i) (endpointMapIn d) in
         ap (λ (e : End). e .answer)
         (claim-accepted (claimIn d i a rings) (buffers .ctx) (s .routes) (buffers .outcomes) 0
         (λ n l h. done n (omega (arith, h, queues-fit were)))

@@ -13,15 +13,15 @@ use Rattle.laws.proofs.Cases.{Decided, decided, or-cases}
 use Rattle.descriptor_list.specs.Valid.{validList}
 use Rattle.context_block.specs.Promises.{someDci}
 use Rattle.record_endpoint.specs.Order.{dciAt}
-use Rattle.record_endpoint.specs.Cells.{isOwned, owns, pendingRings, claimedRing, claimedCells}
-use Rattle.record_endpoint.specs.declared.cells.Cells.{Cells}
-use Rattle.record_endpoint.specs.declared.cells.Owner.the-variants.{Interface}
+use Rattle.record_endpoint.specs.EndpointMap.{isOwned, owns, pendingRings, claimedRing, claimedEndpoints}
+use Rattle.record_endpoint.specs.declared.endpoint_map.EndpointMap.{EndpointMap}
+use Rattle.record_endpoint.specs.declared.endpoint_map.Owner.the-variants.{Interface}
 use Rattle.record_endpoint.proofs.Laws.{claimed-ring}
 use Rattle.record_settings.specs.Held.{settingWords}
 use Rattle.record_settings.specs.Match.{hasPlace, addressesFree}
 use Rattle.record_settings.proofs.Laws.{setting-word, claimed-owned, free-at, free-apart}
 use Rattle.theorem_routing.proofs.Laws.{words-dci, words-name, words-ring, words-low-name}
-use Rattle.theorem_slot.specs.Plain.{Setting, settingOf}
+use Rattle.theorem_slot.specs.Plain.{HeldSetting, settingOf}
 use Rattle.theorem_slot.proofs.Settings.{Fits}
 
 -- The Dcis of words are at their places.
@@ -29,13 +29,13 @@ pub some-place : (words : List ℕ) (p : ℕ) → p < 30 → someDci (dciAt p) w
 some-place words p h = sym (words-dci (dciAt p) words []) ∙ words-name words [] p h
 
 -- An endpoint that is owned has a ring.
-pub owned-ring : (i : ℕ) (c : Cells) (p : ℕ) → isOwned (Interface i) c p ≡ true → eqb (getD (c .rings) p 0) 0 ≡ false
+pub owned-ring : (i : ℕ) (c : EndpointMap) (p : ℕ) → isOwned (Interface i) c p ≡ true → eqb (getD (c .rings) p 0) 0 ≡ false
 unfolding isOwned owns
 owned-ring i c p o = not-true (eqb (getD (c .rings) p 0) 0) (and-left (not (eqb (getD (c .rings) p 0) 0)) _ o)
 
 -- It has one owner.
 one-owner :
-    (i j : ℕ) (c : Cells) (p : ℕ) → (i ≡ j → ⊥) → isOwned (Interface i) c p ≡ true → isOwned (Interface j) c p ≡ false
+    (i j : ℕ) (c : EndpointMap) (p : ℕ) → (i ≡ j → ⊥) → isOwned (Interface i) c p ≡ true → isOwned (Interface j) c p ≡ false
 unfolding isOwned owns
 one-owner i j c p n o =
     let w : getD (c .owners) p 0 ≡ i = eqb-true (getD (c .owners) p 0) i (and-right (not (eqb (getD (c .rings) p 0) 0)) _ o) in
@@ -47,7 +47,7 @@ one-owner i j c p n o =
 
 -- At a free address there is no endpoint, or the interface's.
 pub free-ring :
-    (words : List ℕ) (i : ℕ) (c : Cells) (p : ℕ) → addressesFree words i c ≡ true → p < 30 → hasPlace p words ≡ true →
+    (words : List ℕ) (i : ℕ) (c : EndpointMap) (p : ℕ) → addressesFree words i c ≡ true → p < 30 → hasPlace p words ≡ true →
     isOwned (Interface i) c p ≡ false → eqb (getD (c .rings) p 0) 0 ≡ true
 unfolding isOwned owns
 free-ring words i c p free h w o =
@@ -65,9 +65,9 @@ free-ring words i c p free h w o =
     go (inr e) (inr d) = not-both true refl (rw (d, e) at o)
 
 -- The endpoints of another interface, after a claim of interface i with these pending rings.
-module _ (i j : ℕ) (pending : List ℕ) (c : Cells) (p : ℕ) (h : p < 30) (n : i ≡ j → ⊥)
+module _ (i j : ℕ) (pending : List ℕ) (c : EndpointMap) (p : ℕ) (h : p < 30) (n : i ≡ j → ⊥)
     (free : eqb (getD pending p 0) 0 ≡ false → isOwned (Interface j) c p ≡ false) where
-  other-owned : isOwned (Interface j) (claimedCells i pending c) p ≡ isOwned (Interface j) c p
+  other-owned : isOwned (Interface j) (claimedEndpoints i pending c) p ≡ isOwned (Interface j) c p
   other-owned = claimed-owned i j pending c p h ∙ go (decided (eqb (getD pending p 0) 0)) (decided (isOwned (Interface i) c p))
     where
       and-yes : (a : Bool) → (a && true) ≡ a
@@ -82,7 +82,7 @@ module _ (i j : ℕ) (pending : List ℕ) (c : Cells) (p : ℕ) (h : p < 30) (n 
       go (inl z) (inr o) = rw (z, o) (and-yes (isOwned (Interface j) c p))
       go (inr z) o = rw (z, ne-eqb i j n, free z)
 
-  other-ring : isOwned (Interface j) c p ≡ true → getD ((claimedCells i pending c) .rings) p 0 ≡ getD (c .rings) p 0
+  other-ring : isOwned (Interface j) c p ≡ true → getD ((claimedEndpoints i pending c) .rings) p 0 ≡ getD (c .rings) p 0
   unfolding claimedRing
   other-ring o = claimed-ring i pending c p h ∙ go (decided (eqb (getD pending p 0) 0)) (decided (isOwned (Interface i) c p))
     where
@@ -96,9 +96,9 @@ module _ (i j : ℕ) (pending : List ℕ) (c : Cells) (p : ℕ) (h : p < 30) (n 
 
 -- Its settings stay.
 pub fits-other :
-    (i : ℕ) (pending : List ℕ) (c : Cells) (s : Setting) → (i ≡ s .interface → ⊥) →
+    (i : ℕ) (pending : List ℕ) (c : EndpointMap) (s : HeldSetting) → (i ≡ s .interface → ⊥) →
     ((p : ℕ) → p < 30 → eqb (getD pending p 0) 0 ≡ false → isOwned (Interface (s .interface)) c p ≡ false) →
-    Fits c s → Fits (claimedCells i pending c) s
+    Fits c s → Fits (claimedEndpoints i pending c) s
 fits-other i pending c s n free f =
     record {
       named = λ p h. f .named p h ∙ sym (other-owned i (s .interface) pending c p h n (free p h));
@@ -110,7 +110,7 @@ fits-other i pending c s n free f =
     }
 
 -- The setting that was claimed.
-module _ (list : List ℕ) (valid : validList list ≡ true) (i a : ℕ) (rings : List ℕ) (c : Cells)
+module _ (list : List ℕ) (valid : validList list ≡ true) (i a : ℕ) (rings : List ℕ) (c : EndpointMap)
     (places : (p : ℕ) → p < 30 →
     eqb (getD (pendingRings (settingWords list i a) rings) p 0) 0 ≡ not (hasPlace p (settingWords list i a))) where
   abbrev words : List ℕ
@@ -119,7 +119,7 @@ module _ (list : List ℕ) (valid : validList list ≡ true) (i a : ℕ) (rings 
   abbrev pending : List ℕ
   pending = pendingRings (settingWords list i a) rings
 
-  pub own-owned : (p : ℕ) → p < 30 → isOwned (Interface i) (claimedCells i pending c) p ≡ hasPlace p words
+  pub own-owned : (p : ℕ) → p < 30 → isOwned (Interface i) (claimedEndpoints i pending c) p ≡ hasPlace p words
   own-owned p h =
       claimed-owned i i pending c p h ∙ rw (places p h, eq-eqb i i refl) (go (hasPlace p words) (isOwned (Interface i) c p))
     where
@@ -128,11 +128,11 @@ module _ (list : List ℕ) (valid : validList list ≡ true) (i a : ℕ) (rings 
       go false true = refl
       go false false = refl
 
-  own-ring : (p : ℕ) → p < 30 → hasPlace p words ≡ true → getD ((claimedCells i pending c) .rings) p 0 ≡ getD pending p 0
+  own-ring : (p : ℕ) → p < 30 → hasPlace p words ≡ true → getD ((claimedEndpoints i pending c) .rings) p 0 ≡ getD pending p 0
   unfolding claimedRing
   own-ring p h w = claimed-ring i pending c p h ∙ rw (places p h, w)
 
-  pub fits-own : a < 256 → Fits (claimedCells i pending c) (settingOf list i a rings)
+  pub fits-own : a < 256 → Fits (claimedEndpoints i pending c) (settingOf list i a rings)
   unfolding settingOf
   fits-own b =
       record {
@@ -144,7 +144,7 @@ module _ (list : List ℕ) (valid : validList list ≡ true) (i a : ℕ) (rings 
 
 -- Where other interfaces' endpoints are not at the words' places.
 pub pending-free :
-    (words : List ℕ) (i : ℕ) (pending : List ℕ) (c : Cells) → addressesFree words i c ≡ true →
+    (words : List ℕ) (i : ℕ) (pending : List ℕ) (c : EndpointMap) → addressesFree words i c ≡ true →
     ((p : ℕ) → p < 30 → eqb (getD pending p 0) 0 ≡ not (hasPlace p words)) →
     (j : ℕ) → (i ≡ j → ⊥) → (p : ℕ) → p < 30 → eqb (getD pending p 0) 0 ≡ false → isOwned (Interface j) c p ≡ false
 pending-free words i pending c free places j n p h z =
@@ -156,9 +156,9 @@ pending-free words i pending c free places j n p h z =
 
 -- What a claim makes of an endpoint's ring.
 pub claimed-some :
-    (i : ℕ) (pending : List ℕ) (c : Cells) (p : ℕ) (w : Bool) → p < 30 → eqb (getD pending p 0) 0 ≡ not w →
+    (i : ℕ) (pending : List ℕ) (c : EndpointMap) (p : ℕ) (w : Bool) → p < 30 → eqb (getD pending p 0) 0 ≡ not w →
     ((not (eqb (getD (c .rings) p 0) 0) && not (isOwned (Interface i) c p)) || w)
-    ≡ not (eqb (getD ((claimedCells i pending c) .rings) p 0) 0)
+    ≡ not (eqb (getD ((claimedEndpoints i pending c) .rings) p 0) 0)
 unfolding claimedRing
 claimed-some i pending c p w h e =
     rw (claimed-ring i pending c p h) (go w (isOwned (Interface i) c p) e)

@@ -7,14 +7,14 @@ use lib.ListN.{length}
 use Rattle.command.specs.Course.{words, played}
 use Rattle.context.specs.Place.{spacingOf}
 use Rattle.descriptor_list.proofs.Laws.{valid-configurations}
-use Rattle.record_endpoint.specs.declared.cells.Owner.the-variants.{Interface}
-use Rattle.record_endpoint.specs.Cells.{ownedRings}
+use Rattle.record_endpoint.specs.declared.endpoint_map.Owner.the-variants.{Interface}
+use Rattle.record_endpoint.specs.EndpointMap.{ownedRings}
 use Rattle.record_endpoint.proofs.Laws.{queues-fit}
 use Rattle.course_claim.proofs.Laws.{claim-words}
 use Rattle.course_release.proofs.Laws.{release-words}
 use Rattle.course_set_configuration.proofs.Laws.{set-words}
 use Rattle.device.specs.declared.record.Device.{Device}
-use Rattle.device.specs.Device.{cellsIn}
+use Rattle.device.specs.Device.{endpointMapIn}
 use Rattle.device.specs.Left.{Left, refused, ended}
 use Rattle.device.specs.Calls.{hubCourse, hubLeft, hubUpdate}
 use Rattle.device.specs.Claim.{claimIn, claim}
@@ -46,15 +46,15 @@ each (bringsUp a) b d routes =
     brought a (b .ctx) routes (b .log) (b .outcomes) _ (bring-up-cases a (b .ctx) routes (b .log) (b .outcomes))
 each (claims i a rings) b d routes =
     on-check (λ (l : Left). l .count ≤ 64) _ _ _
-    (omega (arith, claim-words (claimIn d i a rings) (b .ctx) routes (b .outcomes) 0 (queues-fit (ownedRings (Interface i) (cellsIn d)))))
+    (omega (arith, claim-words (claimIn d i a rings) (b .ctx) routes (b .outcomes) 0 (queues-fit (ownedRings (Interface i) (endpointMapIn d)))))
     (λ x. omega arith)
 each (releases i) b d routes =
     on-check (λ (l : Left). l .count ≤ 64) _ _ _
-    (omega (arith, release-words (releaseIn d i) routes (b .outcomes) (b .ctx) 0 (queues-fit (ownedRings (Interface i) (cellsIn d)))))
+    (omega (arith, release-words (releaseIn d i) routes (b .outcomes) (b .ctx) 0 (queues-fit (ownedRings (Interface i) (endpointMapIn d)))))
     (λ x. omega arith)
 each (configures value) b d routes =
     on-check (λ (l : Left). l .count ≤ 64) _ _ _
-    (omega (arith, set-words (settingsIn d value) routes (b .outcomes) (b .ctx) 0, queues-fit ((cellsIn d) .rings)))
+    (omega (arith, set-words (settingsIn d value) routes (b .outcomes) (b .ctx) 0, queues-fit ((endpointMapIn d) .rings)))
     (λ x. omega arith)
 each (updatesHub ports multi ns) b d routes =
     on-check (λ (l : Left). l .count ≤ 64) _ _ _ (omega arith) (λ x. omega arith)

@@ -10,17 +10,17 @@ use lib.Dec.{eqb}
 use lib.ListN.{length, getD}
 use Rattle.laws.proofs.Tests.{not-both}
 use Rattle.laws.proofs.Cases.{Decided, decided}
-use Rattle.transfer.specs.Routes.{ringFor, names, routeOf, Outside}
+use Rattle.transfer.specs.Routes.{ringFor, names, routeOf, OutsideSlot}
 use Rattle.transfer.proofs.Laws.{ringFor-none}
 use Rattle.record_endpoint.specs.Order.{dciAt}
-use Rattle.record_endpoint.specs.declared.cells.Cells.{Cells}
+use Rattle.record_endpoint.specs.declared.endpoint_map.EndpointMap.{EndpointMap}
 use Rattle.record_endpoint.proofs.Laws.{dci-low, dci-high}
 use Rattle.record_settings.specs.Held.{isHeld}
 use Rattle.record_settings.proofs.Laws.{match-facts}
 use Rattle.theorem_routing.specs.Routing.{RoutedBy, NamedBy}
 use Rattle.theorem_routing.proofs.Laws.{each-dci}
 use Rattle.device.specs.declared.record.Device.{Device}
-use Rattle.device.specs.Device.{listOf, cellsIn, heldOf}
+use Rattle.device.specs.Device.{listOf, endpointMapIn, heldOf}
 use Rattle.device.specs.Sound.{sound}
 use Rattle.device.proofs.Facts.{sound-facts}
 use Rattle.theorem_slot.specs.Plain.{Plain, plainRoute, isHeldDci, heldQueues, hasSetting}
@@ -33,7 +33,7 @@ pub record Live (slot : ℕ) (d : Device) (p : Plain) : Type 0 where
   pub place : d .slot .0 ≡ slot
   pub list : listOf d ≡ p .list
   pub held : pairs (p .held) ≡ heldOf d
-  pub fits : AllFit (cellsIn d) (p .held)
+  pub fits : AllFit (endpointMapIn d) (p .held)
 
 -- A record of no slot, as a refused bring-up returns it.
 abbrev pub Slotless : Device → Type 0
@@ -46,10 +46,10 @@ Unrouted routes slot = (d : ℕ) → d < 32 → routeOf routes slot d ≡ 0
 pub record Good (slot : ℕ) (before : List ℕ) (s : State) : Type 0 where
   pub long : length (s .routes) ≡ length before
   pub room : 32 * slot + 32 ≤ length before
-  pub others : (k : ℕ) → Outside slot k → getD (s .routes) k 0 ≡ getD before k 0
+  pub others : (k : ℕ) → OutsideSlot slot k → getD (s .routes) k 0 ≡ getD before k 0
   pub live : Slotless (s .device) ⊎ Live slot (s .device) (s .plain)
   pub enabled :
-      s .plain .broken ≡ false → s .plain .loose ≡ false → (d : ℕ) → 2 ≤ d → d < 32 →
+      s .plain .broken ≡ false → s .plain .unheldRelease ≡ false → (d : ℕ) → 2 ≤ d → d < 32 →
       s .plain .enabled d ≡ isHeldDci (s .plain) d
   -- whatever the slot's words held before its bring-up, control and the held endpoints are routed
   pub control : s .plain .control ≡ 0 → ⊥
@@ -64,36 +64,36 @@ pub good-kept : (slot : ℕ) (before : List ℕ) (s : State) → Unrouted before
 good-kept slot before s e g = record { own = g .own e; others = g .others; enabled = g .enabled }
 
 -- The plain slot's queues are those of some endpoints.
-pub record Tells (p : Plain) (c : Cells) : Type 0 where
+pub record Tells (p : Plain) (c : EndpointMap) : Type 0 where
   pub ring : (q : ℕ) → q < 30 → ringFor (dciAt q) (heldQueues (p .held)) 0 ≡ getD (c .rings) q 0
   pub named : (q : ℕ) → q < 30 → names (dciAt q) (heldQueues (p .held)) ≡ not (eqb (getD (c .rings) q 0) 0)
   pub low : names 0 (heldQueues (p .held)) ≡ false
 
 -- A sound record's endpoints.
-pub live-tells : (slot : ℕ) (d : Device) (p : Plain) → Live slot d p → Tells p (cellsIn d)
+pub live-tells : (slot : ℕ) (d : Device) (p : Plain) → Live slot d p → Tells p (endpointMapIn d)
 live-tells slot d p l =
     record {
-      ring = λ q h. held-ring (cellsIn d) (p .held) q 0 (l .fits) h ∙ ring-all q h (decided (eqb (getD ((cellsIn d) .rings) q 0) 0));
-      named = λ q h. held-names (cellsIn d) (p .held) q (l .fits) h ∙ name-all q h (decided (eqb (getD ((cellsIn d) .rings) q 0) 0));
-      low = held-low (cellsIn d) (p .held) (l .fits);
+      ring = λ q h. held-ring (endpointMapIn d) (p .held) q 0 (l .fits) h ∙ ring-all q h (decided (eqb (getD ((endpointMapIn d) .rings) q 0) 0));
+      named = λ q h. held-names (endpointMapIn d) (p .held) q (l .fits) h ∙ name-all q h (decided (eqb (getD ((endpointMapIn d) .rings) q 0) 0));
+      low = held-low (endpointMapIn d) (p .held) (l .fits);
     }
   where
-    owned : (q : ℕ) → q < 30 → eqb (getD ((cellsIn d) .rings) q 0) 0 ≡ false → hasSetting (getD ((cellsIn d) .owners) q 0) (p .held) ≡ true
+    owned : (q : ℕ) → q < 30 → eqb (getD ((endpointMapIn d) .rings) q 0) 0 ≡ false → hasSetting (getD ((endpointMapIn d) .owners) q 0) (p .held) ≡ true
     owned q h e =
-        pairs-setting (getD ((cellsIn d) .owners) q 0) (p .held)
-        ∙ ap (isHeld (getD ((cellsIn d) .owners) q 0)) (l .held)
-        ∙ match-facts (listOf d) (heldOf d) (cellsIn d) (sound-facts d (l .is-sound) .endpoints) .held q h
-        (eqb-false (getD ((cellsIn d) .rings) q 0) 0 e)
+        pairs-setting (getD ((endpointMapIn d) .owners) q 0) (p .held)
+        ∙ ap (isHeld (getD ((endpointMapIn d) .owners) q 0)) (l .held)
+        ∙ match-facts (listOf d) (heldOf d) (endpointMapIn d) (sound-facts d (l .is-sound) .endpoints) .held q h
+        (eqb-false (getD ((endpointMapIn d) .rings) q 0) 0 e)
 
     ring-all :
-        (q : ℕ) → q < 30 → Decided (eqb (getD ((cellsIn d) .rings) q 0) 0) →
-        cond (heldAt (cellsIn d) q (p .held)) (getD ((cellsIn d) .rings) q 0) 0 ≡ getD ((cellsIn d) .rings) q 0
-    ring-all q h (inl e) = rw e (sym (eqb-true (getD ((cellsIn d) .rings) q 0) 0 e))
+        (q : ℕ) → q < 30 → Decided (eqb (getD ((endpointMapIn d) .rings) q 0) 0) →
+        cond (heldAt (endpointMapIn d) q (p .held)) (getD ((endpointMapIn d) .rings) q 0) 0 ≡ getD ((endpointMapIn d) .rings) q 0
+    ring-all q h (inl e) = rw e (sym (eqb-true (getD ((endpointMapIn d) .rings) q 0) 0 e))
     ring-all q h (inr e) = rw (e, owned q h e)
 
     name-all :
-        (q : ℕ) → q < 30 → Decided (eqb (getD ((cellsIn d) .rings) q 0) 0) →
-        heldAt (cellsIn d) q (p .held) ≡ not (eqb (getD ((cellsIn d) .rings) q 0) 0)
+        (q : ℕ) → q < 30 → Decided (eqb (getD ((endpointMapIn d) .rings) q 0) 0) →
+        heldAt (endpointMapIn d) q (p .held) ≡ not (eqb (getD ((endpointMapIn d) .rings) q 0) 0)
     name-all q h (inl e) = rw e
     name-all q h (inr e) = rw (e, owned q h e)
 
@@ -118,13 +118,13 @@ each-word P z o h (suc (suc d)) l = each-dci P h (suc (suc d)) (omega arith) l
 
 -- The routes are the endpoints', where they are the plain slot's.
 pub routed-from :
-    (slot : ℕ) (routes : List ℕ) (p : Plain) (c : Cells) →
+    (slot : ℕ) (routes : List ℕ) (p : Plain) (c : EndpointMap) →
     ((d : ℕ) → d < 32 → routeOf routes slot d ≡ plainRoute p d) → Tells p c → RoutedBy routes slot c
 routed-from slot routes p c own t q h = own (dciAt q) (dci-high q h) ∙ route-at p q h ∙ t .ring q h
 
 -- Each that is there is routed.
 pub named-from :
-    (slot : ℕ) (routes : List ℕ) (p : Plain) (c : Cells) →
+    (slot : ℕ) (routes : List ℕ) (p : Plain) (c : EndpointMap) →
     ((q : ℕ) → q < 30 → isHeldDci p (dciAt q) ≡ true → routeOf routes slot (dciAt q) ≡ ringFor (dciAt q) (heldQueues (p .held)) 0) →
     Tells p c → NamedBy routes slot c
 unfolding isHeldDci
@@ -133,7 +133,7 @@ named-from slot routes p c named t q h z =
 
 -- And the other way round.
 pub own-from :
-    (slot : ℕ) (routes : List ℕ) (p : Plain) (c : Cells) → RoutedBy routes slot c → Tells p c →
+    (slot : ℕ) (routes : List ℕ) (p : Plain) (c : EndpointMap) → RoutedBy routes slot c → Tells p c →
     routeOf routes slot 0 ≡ 0 → routeOf routes slot 1 ≡ p .control →
     (d : ℕ) → d < 32 → routeOf routes slot d ≡ plainRoute p d
 own-from slot routes p c r t z o =
@@ -141,7 +141,7 @@ own-from slot routes p c r t z o =
     (λ q h. r q h ∙ sym (t .ring q h) ∙ sym (route-at p q h))
 
 pub named-of :
-    (slot : ℕ) (routes : List ℕ) (p : Plain) (c : Cells) → NamedBy routes slot c → Tells p c →
+    (slot : ℕ) (routes : List ℕ) (p : Plain) (c : EndpointMap) → NamedBy routes slot c → Tells p c →
     (q : ℕ) → q < 30 → isHeldDci p (dciAt q) ≡ true → routeOf routes slot (dciAt q) ≡ ringFor (dciAt q) (heldQueues (p .held)) 0
 unfolding isHeldDci
 named-of slot routes p c n t q h e =
@@ -152,11 +152,11 @@ module _ (slot : ℕ) (before : List ℕ) (s now : State) (g : Good slot before 
   -- A call that moves routes of the slot: words 0 and 1 stay, and the others are those of the endpoints that the plain slot tells of.
   pub good-moved :
       Untouched slot (s .routes) (now .routes) →
-      (old c : Cells) → Tells (s .plain) old → Tells (now .plain) c → NamedBy (now .routes) slot c →
+      (old c : EndpointMap) → Tells (s .plain) old → Tells (now .plain) c → NamedBy (now .routes) slot c →
       (Unrouted before slot → RoutedBy (now .routes) slot c) →
       ((d : ℕ) → d < 2 → routeOf (now .routes) slot d ≡ routeOf (s .routes) slot d) →
       now .plain .control ≡ s .plain .control →
-      (now .plain .broken ≡ false → now .plain .loose ≡ false → (q : ℕ) → q < 30 →
+      (now .plain .broken ≡ false → now .plain .unheldRelease ≡ false → (q : ℕ) → q < 30 →
       now .plain .enabled (dciAt q) ≡ not (eqb (getD (c .rings) q 0) 0)) →
       Slotless (now .device) ⊎ Live slot (now .device) (now .plain) →
       Good slot before now
@@ -182,7 +182,7 @@ module _ (slot : ℕ) (before : List ℕ) (s now : State) (g : Good slot before 
   -- A call that leaves routes and held settings.
   pub good-same :
       now .routes ≡ s .routes → now .plain .control ≡ s .plain .control → now .plain .held ≡ s .plain .held →
-      (now .plain .broken ≡ false → now .plain .loose ≡ false → (d : ℕ) → 2 ≤ d → d < 32 →
+      (now .plain .broken ≡ false → now .plain .unheldRelease ≡ false → (d : ℕ) → 2 ≤ d → d < 32 →
       now .plain .enabled d ≡ isHeldDci (s .plain) d) →
       Slotless (now .device) ⊎ Live slot (now .device) (now .plain) →
       Good slot before now
@@ -203,8 +203,8 @@ module _ (slot : ℕ) (before : List ℕ) (s now : State) (g : Good slot before 
 -- While neither mark is set, the enabled endpoints are the record's.
 pub enabled-was :
     (slot : ℕ) (before : List ℕ) (s : State) → Good slot before s → Live slot (s .device) (s .plain) →
-    s .plain .broken ≡ false → s .plain .loose ≡ false → (q : ℕ) → q < 30 →
-    s .plain .enabled (dciAt q) ≡ not (eqb (getD ((cellsIn (s .device)) .rings) q 0) 0)
+    s .plain .broken ≡ false → s .plain .unheldRelease ≡ false → (q : ℕ) → q < 30 →
+    s .plain .enabled (dciAt q) ≡ not (eqb (getD ((endpointMapIn (s .device)) .rings) q 0) 0)
 unfolding isHeldDci
 enabled-was slot before s g l b f q h =
     g .enabled b f (dciAt q) (dci-low q h) (dci-high q h) ∙ live-tells slot (s .device) (s .plain) l .named q h

@@ -14,14 +14,14 @@ use Rattle.command.specs.Command.{commandWord, outcomeAt}
 use Rattle.command.specs.Course.{words, result, played}
 use Rattle.course_steps.specs.End.{answerOf}
 use Rattle.theorem_controller.specs.Controller.{controlled, enabledAfter}
-use Rattle.device.specs.Device.{cellsIn, heldOf}
+use Rattle.device.specs.Device.{endpointMapIn, heldOf}
 use Rattle.device.specs.Sound.{sound}
 use Rattle.device.specs.Left.{Left, refused, marked}
 use Rattle.device.specs.Calls.{onCheck, hubContext, hubCourse, hubLeft, hubUpdate}
 use Rattle.device.proofs.Made.{marked-made}
 use Rattle.device.proofs.Laws.{passed}
 use Rattle.theorem_slot.specs.Call.{Buffers, updatesHub, left}
-use Rattle.theorem_slot.specs.Plain.{nothing, effectOf, heldAfter, isLoose, anew, observed, seen}
+use Rattle.theorem_slot.specs.Plain.{nothing, effectOf, heldAfter, isUnheldRelease, anew, observed, seen}
 use Rattle.theorem_slot.specs.Theorem.{State, cutAt, contextCut, called}
 use Rattle.theorem_slot.proofs.Good.{Good, live-here}
 use Rattle.theorem_slot.proofs.Step.{checked, good-checked, mild-hub}
@@ -42,12 +42,12 @@ module _ (slot : ℕ) (before : List ℕ) (s : State) (buffers : Buffers) (ports
       }
 
   good-answered : s .device .usable ≡ true → sound (s .device) ≡ true → (a : Answer) → Good slot before (answered a)
-  unfolding answered seen heldAfter isLoose
+  unfolding answered seen heldAfter isUnheldRelease
   good-answered u t a =
       let l = live-here slot before s g t in
-      made-same slot before s (answered a) g l (heldOf (s .device)) (cellsIn (s .device)) (isLost a) (marked-made (s .device) u t a) refl
+      made-same slot before s (answered a) g l (heldOf (s .device)) (endpointMapIn (s .device)) (isLost a) (marked-made (s .device) u t a) refl
       refl (l .held) (l .fits) refl refl
-      (λ b f. g .enabled (or-left-false (s .plain .broken) _ b) (or-left-false (s .plain .loose) _ f))
+      (λ b f. g .enabled (or-left-false (s .plain .broken) _ b) (or-left-false (s .plain .unheldRelease) _ f))
 
   run : List ℕ → Left
   run o = hubLeft (s .device) ctx (s .routes) (played o 0 (hubCourse ctx) (buffers .log))

@@ -9,23 +9,23 @@ use lib.Dec.{eqb}
 use lib.ListN.{getD}
 use Rattle.transfer.specs.Routes.{Queue, withReplaced, Small}
 use Rattle.record_endpoint.specs.Order.{dciAt}
-use Rattle.record_endpoint.specs.Cells.{isOwned, withActive, queuesOf, queueDcis}
-use Rattle.record_endpoint.specs.declared.cells.Cells.{Cells}
-use Rattle.record_endpoint.specs.declared.cells.Owner.{Owner}
+use Rattle.record_endpoint.specs.EndpointMap.{isOwned, withActive, queuesOf, queueDcis}
+use Rattle.record_endpoint.specs.declared.endpoint_map.EndpointMap.{EndpointMap}
+use Rattle.record_endpoint.specs.declared.endpoint_map.Owner.{Owner}
 use Rattle.record_endpoint.proofs.Laws.{queues-small}
 use Rattle.record_settings.specs.Held.{Held}
 use Rattle.theorem_routing.specs.Routing.{RoutedBy, NamedBy}
 use Rattle.theorem_routing.proofs.Laws.{low-kept, outside-kept, length-kept}
 use Rattle.device.specs.declared.record.Device.{Device}
-use Rattle.device.specs.Device.{cellsIn}
+use Rattle.device.specs.Device.{endpointMapIn}
 use Rattle.device.proofs.Made.{Made}
-use Rattle.theorem_slot.specs.Plain.{Setting, Plain, isHeldDci}
+use Rattle.theorem_slot.specs.Plain.{HeldSetting, Plain, isHeldDci}
 use Rattle.theorem_slot.specs.Theorem.{State}
 use Rattle.theorem_slot.proofs.Settings.{AllFit, fit-other, pairs}
 use Rattle.theorem_slot.proofs.Good.{Live, Unrouted, Good, Tells, live-tells, good-moved, good-same}
 
 -- Which endpoints are active does not matter.
-pub fit-active : (who : Owner) (n : ℕ) (c : Cells) (ss : List Setting) → AllFit c ss → AllFit (withActive who n c) ss
+pub fit-active : (who : Owner) (n : ℕ) (c : EndpointMap) (ss : List HeldSetting) → AllFit c ss → AllFit (withActive who n c) ss
 unfolding withActive isOwned
 fit-active who n c ss f =
     fit-other c (withActive who n c) ss
@@ -34,7 +34,7 @@ fit-active who n c ss f =
 
 -- A record, lost or not, and a plain slot with its settings and endpoints.
 pub made-live :
-    (slot : ℕ) (d e : Device) (p q : Plain) (hs : List Held) (c : Cells) (lost : Bool) → Made d e hs c lost → Live slot d p →
+    (slot : ℕ) (d e : Device) (p q : Plain) (hs : List Held) (c : EndpointMap) (lost : Bool) → Made d e hs c lost → Live slot d p →
     q .list ≡ p .list → pairs (q .held) ≡ hs → AllFit c (q .held) → Live slot e q
 made-live slot d e p q hs c lost m l same held fits =
     record {
@@ -42,25 +42,25 @@ made-live slot d e p q hs c lost m l same held fits =
       place = ap (λ x. x .0) (m .same .slot) ∙ l .place;
       list = m .same .list ∙ l .list ∙ sym same;
       held = held ∙ sym (m .held);
-      fits = rw (m .cells) fits;
+      fits = rw (m .endpoints) fits;
     }
 
 module _ (slot : ℕ) (before : List ℕ) (s now : State) (g : Good slot before s) (l : Live slot (s .device) (s .plain))
-    (hs : List Held) (c : Cells) (lost : Bool) (m : Made (s .device) (now .device) hs c lost)
+    (hs : List Held) (c : EndpointMap) (lost : Bool) (m : Made (s .device) (now .device) hs c lost)
     (control : now .plain .control ≡ s .plain .control) (list : now .plain .list ≡ s .plain .list)
     (held : pairs (now .plain .held) ≡ hs) (fits : AllFit c (now .plain .held)) where
   live-now : Live slot (now .device) (now .plain)
   live-now = made-live slot (s .device) (now .device) (s .plain) (now .plain) hs c lost m l list held fits
 
   now-tells : Tells (now .plain) c
-  now-tells = rw (← m .cells) (live-tells slot (now .device) (now .plain) live-now)
+  now-tells = rw (← m .endpoints) (live-tells slot (now .device) (now .plain) live-now)
 
   -- It moved routes of the slot.
   pub made-moved :
       (x y : List ℕ) → now .routes ≡ withReplaced (s .routes) slot (queuesOf x) (queuesOf y) →
       NamedBy (withReplaced (s .routes) slot (queuesOf x) (queuesOf y)) slot c →
       (Unrouted before slot → RoutedBy (withReplaced (s .routes) slot (queuesOf x) (queuesOf y)) slot c) →
-      (now .plain .broken ≡ false → now .plain .loose ≡ false → (q : ℕ) → q < 30 →
+      (now .plain .broken ≡ false → now .plain .unheldRelease ≡ false → (q : ℕ) → q < 30 →
       now .plain .enabled (dciAt q) ≡ not (eqb (getD (c .rings) q 0) 0)) →
       Good slot before now
   made-moved x y r n routed e =
@@ -69,13 +69,13 @@ module _ (slot : ℕ) (before : List ℕ) (s now : State) (g : Good slot before 
         long = rw r (length-kept (s .routes) slot x y);
         words = λ k o. rw r (outside-kept (s .routes) slot x y k o);
       })
-      (cellsIn (s .device)) c (live-tells slot (s .device) (s .plain) l) now-tells (rw r n) (λ z. rw r (routed z))
+      (endpointMapIn (s .device)) c (live-tells slot (s .device) (s .plain) l) now-tells (rw r n) (λ z. rw r (routed z))
       (λ d h. rw r (low-kept (s .routes) slot x y d h)) control e (inr live-now)
 
   -- It left them.
   pub made-same :
       now .routes ≡ s .routes → now .plain .held ≡ s .plain .held →
-      (now .plain .broken ≡ false → now .plain .loose ≡ false → (d : ℕ) → 2 ≤ d → d < 32 →
+      (now .plain .broken ≡ false → now .plain .unheldRelease ≡ false → (d : ℕ) → 2 ≤ d → d < 32 →
       now .plain .enabled d ≡ isHeldDci (s .plain) d) →
       Good slot before now
   made-same r h e = good-same slot before s now g r control h e (inr live-now)

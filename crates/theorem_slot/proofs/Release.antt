@@ -21,8 +21,8 @@ use Rattle.context.specs.Place.{Spaced}
 use Rattle.transfer.specs.declared.Replaced.the-variants as replace
 use Rattle.transfer.specs.Routes.{replaced, withReplaced}
 use Rattle.record_endpoint.specs.Order.{PLACES, dciAt}
-use Rattle.record_endpoint.specs.Cells.{isOwned, ownedRings, queuesOf, claimedCells, withActive}
-use Rattle.record_endpoint.specs.declared.cells.Owner.the-variants.{Interface}
+use Rattle.record_endpoint.specs.EndpointMap.{isOwned, ownedRings, queuesOf, claimedEndpoints, withActive}
+use Rattle.record_endpoint.specs.declared.endpoint_map.Owner.the-variants.{Interface}
 use Rattle.record_endpoint.proofs.Laws.{queues-fit, dci-low, dci-high}
 use Rattle.record_settings.specs.Held.{isHeld, alternateOf, settingWords, withoutSetting}
 use Rattle.record_settings.proofs.Laws.{match-facts, match-unheld}
@@ -35,14 +35,14 @@ use Rattle.course_release.specs.Release.{releaseCourse}
 use Rattle.course_release.proofs.Laws.{release-words, release-cuts, Gone, Stayed, Says, release-says, OneAnswer, release-answers}
 use Rattle.course_release.proofs.Controlled.{release-operands, release-accepted-enabled, release-failed-enabled}
 use Rattle.device.specs.declared.record.Device.{Device}
-use Rattle.device.specs.Device.{listOf, cellsIn, heldOf}
+use Rattle.device.specs.Device.{listOf, endpointMapIn, heldOf}
 use Rattle.device.specs.Left.{Left, refused, ended}
 use Rattle.device.specs.Check.{recordCheck}
 use Rattle.device.specs.Release.{releaseCheck, releaseIn, releaseRecord, release}
 use Rattle.device.proofs.Laws.{Passed, passed}
 use Rattle.device.proofs.Kept.{release-moves, release-stays}
 use Rattle.theorem_slot.specs.Call.{Buffers, releases, left}
-use Rattle.theorem_slot.specs.Plain.{Plain, isHeldDci, without, hasSetting, Effect, endsOne, effectOf, heldAfter, isLoose, anew, seen}
+use Rattle.theorem_slot.specs.Plain.{Plain, isHeldDci, without, hasSetting, Effect, endsOne, effectOf, heldAfter, isUnheldRelease, anew, seen}
 use Rattle.theorem_slot.specs.Theorem.{State, cutAt, contextCut, called}
 use Rattle.theorem_slot.proofs.Settings.{AllFit, pairs, pairs-setting, pairs-without, fit-without}
 use Rattle.theorem_slot.proofs.Good.{Live, Unrouted, Good, live-tells, routed-from, named-from, enabled-was, live-here}
@@ -98,8 +98,8 @@ module _ (slot : ℕ) (before : List ℕ) (s : State) (buffers : Buffers) (i : �
     zero-pending q h = eq-eqb (getD none q 0) 0 (getD-replicate 30 q 0 0 h)
 
     was :
-        p .broken ≡ false → p .loose ≡ false → (q : ℕ) → q < 30 →
-        p .enabled (dciAt q) ≡ not (eqb (getD ((cellsIn d) .rings) q 0) 0)
+        p .broken ≡ false → p .unheldRelease ≡ false → (q : ℕ) → q < 30 →
+        p .enabled (dciAt q) ≡ not (eqb (getD ((endpointMapIn d) .rings) q 0) 0)
     was = enabled-was slot before s g l
 
     spaced : Spaced ((releaseIn d i) .spacing) (length (buffers .ctx))
@@ -107,54 +107,54 @@ module _ (slot : ℕ) (before : List ℕ) (s : State) (buffers : Buffers) (i : �
     spaced = pass .spaced
 
     abbrev old : List ℕ
-    old = ownedRings (Interface i) (cellsIn d)
+    old = ownedRings (Interface i) (endpointMapIn d)
 
     inside : InTable (s .routes) slot
     inside = rw (g .long) (g .room)
 
-    were-named : NamedBy (s .routes) slot (cellsIn d)
-    were-named = named-from slot (s .routes) p (cellsIn d) (g .named) (live-tells slot d p l)
+    were-named : NamedBy (s .routes) slot (endpointMapIn d)
+    were-named = named-from slot (s .routes) p (endpointMapIn d) (g .named) (live-tells slot d p l)
 
     out : replaced (s .routes) slot (queuesOf old) [] ≡ replace.Done
-    out = release-done (s .routes) slot (cellsIn d) were-named i
+    out = release-done (s .routes) slot (endpointMapIn d) were-named i
 
-    named : NamedBy (withReplaced (s .routes) slot (queuesOf old) (queuesOf none)) slot (claimedCells i none (cellsIn d))
-    named = claim-named (s .routes) slot i none (cellsIn d) (rw no-queues out) were-named inside
+    named : NamedBy (withReplaced (s .routes) slot (queuesOf old) (queuesOf none)) slot (claimedEndpoints i none (endpointMapIn d))
+    named = claim-named (s .routes) slot i none (endpointMapIn d) (rw no-queues out) were-named inside
 
     routed :
         Unrouted before slot →
-        RoutedBy (withReplaced (s .routes) slot (queuesOf old) (queuesOf none)) slot (claimedCells i none (cellsIn d))
+        RoutedBy (withReplaced (s .routes) slot (queuesOf old) (queuesOf none)) slot (claimedEndpoints i none (endpointMapIn d))
     routed u =
         rw no-queues
-        (release-routed (s .routes) slot (cellsIn d) (routed-from slot (s .routes) p (cellsIn d) (g .own u) (live-tells slot d p l)) inside i .routed)
+        (release-routed (s .routes) slot (endpointMapIn d) (routed-from slot (s .routes) p (endpointMapIn d) (g .own u) (live-tells slot d p l)) inside i .routed)
 
     -- A held setting's words are at the places of the interface's endpoints.
-    words-dci : isHeld i (heldOf d) ≡ true → (q : ℕ) → q < 30 → someDci (dciAt q) ((releaseIn d i) .words) ≡ isOwned (Interface i) (cellsIn d) q
+    words-dci : isHeld i (heldOf d) ≡ true → (q : ℕ) → q < 30 → someDci (dciAt q) ((releaseIn d i) .words) ≡ isOwned (Interface i) (endpointMapIn d) q
     unfolding releaseIn
     words-dci t q h =
         some-place (settingWords (listOf d) i (alternateOf i (heldOf d))) q h
-        ∙ sym (match-facts (listOf d) (heldOf d) (cellsIn d) (pass .facts .endpoints) .owned i q t h)
+        ∙ sym (match-facts (listOf d) (heldOf d) (endpointMapIn d) (pass .facts .endpoints) .owned i q t h)
 
     released-some :
         (q : ℕ) → q < 30 →
-        (not (eqb (getD ((cellsIn d) .rings) q 0) 0) && not (isOwned (Interface i) (cellsIn d) q))
-        ≡ not (eqb (getD ((claimedCells i none (cellsIn d)) .rings) q 0) 0)
+        (not (eqb (getD ((endpointMapIn d) .rings) q 0) 0) && not (isOwned (Interface i) (endpointMapIn d) q))
+        ≡ not (eqb (getD ((claimedEndpoints i none (endpointMapIn d)) .rings) q 0) 0)
     released-some q h =
-        sym (or-no (not (eqb (getD ((cellsIn d) .rings) q 0) 0) && not (isOwned (Interface i) (cellsIn d) q)))
-        ∙ claimed-some i none (cellsIn d) q false h (zero-pending q h)
+        sym (or-no (not (eqb (getD ((endpointMapIn d) .rings) q 0) 0) && not (isOwned (Interface i) (endpointMapIn d) q)))
+        ∙ claimed-some i none (endpointMapIn d) q false h (zero-pending q h)
       where
         or-no : (a : Bool) → (a || false) ≡ a
         or-no true = refl
         or-no false = refl
 
     accepted-enabled :
-        end .answer ≡ answer.Accepted → now .plain .broken ≡ false → now .plain .loose ≡ false → (q : ℕ) → q < 30 →
-        now .plain .enabled (dciAt q) ≡ not (eqb (getD ((claimedCells i none (cellsIn d)) .rings) q 0) 0)
-    unfolding now ran seen isLoose end course
+        end .answer ≡ answer.Accepted → now .plain .broken ≡ false → now .plain .unheldRelease ≡ false → (q : ℕ) → q < 30 →
+        now .plain .enabled (dciAt q) ≡ not (eqb (getD ((claimedEndpoints i none (endpointMapIn d)) .rings) q 0) 0)
+    unfolding now ran seen isUnheldRelease end course
     accepted-enabled e b f q h = go (decided (hasSetting i (p .held)))
       where
-        quiet : p .loose ≡ false
-        quiet = or-left-false (p .loose) _ f
+        quiet : p .unheldRelease ≡ false
+        quiet = or-left-false (p .unheldRelease) _ f
 
         sound : p .broken ≡ false
         sound = or-left-false (p .broken) _ b
@@ -168,7 +168,7 @@ module _ (slot : ℕ) (before : List ℕ) (s : State) (buffers : Buffers) (i : �
             ltb 0 (length (words (buffers .outcomes) 0 (releaseCourse (releaseIn d i) (buffers .ctx) (s .routes)))) ≡ false
         unsent t =
             let sent = ltb 0 (length (words (buffers .outcomes) 0 (releaseCourse (releaseIn d i) (buffers .ctx) (s .routes)))) in
-            sym (and-yes sent) ∙ (rw t at (or-right-false (p .loose) (sent && not (hasSetting i (p .held))) f))
+            sym (and-yes sent) ∙ (rw t at (or-right-false (p .unheldRelease) (sent && not (hasSetting i (p .held))) f))
 
         as-held : hasSetting i (p .held) ≡ isHeld i (heldOf d)
         as-held = pairs-setting i (p .held) ∙ ap (isHeld i) (l .held)
@@ -176,26 +176,26 @@ module _ (slot : ℕ) (before : List ℕ) (s : State) (buffers : Buffers) (i : �
         go :
             Decided (hasSetting i (p .held)) →
             followed enabledAfter (buffers .outcomes) 0 (releaseCourse (releaseIn d i) (buffers .ctx) (s .routes)) (p .enabled) (dciAt q)
-            ≡ not (eqb (getD ((claimedCells i none (cellsIn d)) .rings) q 0) 0)
+            ≡ not (eqb (getD ((claimedEndpoints i none (endpointMapIn d)) .rings) q 0) 0)
         go (inl t) =
             release-accepted-enabled (releaseIn d i) (buffers .ctx) (s .routes) (buffers .outcomes) 0 spaced (dciAt q) (dci-low q h)
             (dci-high q h) (p .enabled) e
             ∙ rw (was sound quiet q h, words-dci (sym as-held ∙ t) q h) (released-some q h)
         go (inr t) =
-            let o : isOwned (Interface i) (cellsIn d) q ≡ false =
-            match-unheld (listOf d) (heldOf d) (cellsIn d) (match-facts (listOf d) (heldOf d) (cellsIn d) (pass .facts .endpoints)) i q
+            let o : isOwned (Interface i) (endpointMapIn d) q ≡ false =
+            match-unheld (listOf d) (heldOf d) (endpointMapIn d) (match-facts (listOf d) (heldOf d) (endpointMapIn d) (pass .facts .endpoints)) i q
             (sym as-held ∙ t) h in
             ap (λ x. x (dciAt q)) (silent (buffers .outcomes) 0 (releaseCourse (releaseIn d i) (buffers .ctx) (s .routes)) (p .enabled) (unsent t))
             ∙ was sound quiet q h
-            ∙ sym (and-yes (not (eqb (getD ((cellsIn d) .rings) q 0) 0)))
-            ∙ ap (λ x. not (eqb (getD ((cellsIn d) .rings) q 0) 0) && not x) (sym o)
+            ∙ sym (and-yes (not (eqb (getD ((endpointMapIn d) .rings) q 0) 0)))
+            ∙ ap (λ x. not (eqb (getD ((endpointMapIn d) .rings) q 0) 0) && not x) (sym o)
             ∙ released-some q h
 
-    settings-fit : AllFit (claimedCells i none (cellsIn d)) (without i (p .held))
+    settings-fit : AllFit (claimedEndpoints i none (endpointMapIn d)) (without i (p .held))
     settings-fit =
-        fit-without (cellsIn d) (claimedCells i none (cellsIn d)) i (p .held)
+        fit-without (endpointMapIn d) (claimedEndpoints i none (endpointMapIn d)) i (p .held)
         (λ x n.
-        fits-other i none (cellsIn d) x n
+        fits-other i none (endpointMapIn d) x n
         (λ q h z. not-both (eqb (getD none q 0) 0) (zero-pending q h) z))
         (l .fits)
 
@@ -208,7 +208,7 @@ module _ (slot : ℕ) (before : List ℕ) (s : State) (buffers : Buffers) (i : �
         let held : now .plain .held ≡ without i (p .held) = rw e refl in
         let same : pairs (now .plain .held) ≡ withoutSetting i (heldOf d) =
         ap pairs held ∙ pairs-without i (p .held) ∙ ap (withoutSetting i) (l .held) in
-        made-moved slot before s now g l (withoutSetting i (heldOf d)) (claimedCells i none (cellsIn d)) (isLost (end .answer)) m refl refl
+        made-moved slot before s now g l (withoutSetting i (heldOf d)) (claimedEndpoints i none (endpointMapIn d)) (isLost (end .answer)) m refl refl
         same (rw held settings-fit) old none
         (v .left ∙ ap (λ x. withReplaced (s .routes) x (queuesOf old) []) (l .place)
         ∙ ap (withReplaced (s .routes) slot (queuesOf old)) (sym no-queues))
@@ -217,7 +217,7 @@ module _ (slot : ℕ) (before : List ℕ) (s : State) (buffers : Buffers) (i : �
     -- Otherwise it is as it was.
     stayed-good :
         Stayed (s .routes) end →
-        (now .plain .broken ≡ false → now .plain .loose ≡ false → (x : ℕ) → 2 ≤ x → x < 32 →
+        (now .plain .broken ≡ false → now .plain .unheldRelease ≡ false → (x : ℕ) → 2 ≤ x → x < 32 →
         now .plain .enabled x ≡ isHeldDci p x) →
         Good slot before now
     unfolding now ran seen heldAfter end course
@@ -225,12 +225,12 @@ module _ (slot : ℕ) (before : List ℕ) (s : State) (buffers : Buffers) (i : �
         let m = release-stays d _ _ _ i k end (v .kept) in
         let n : isAccepted (end .answer) ≡ false = ne-eqb (number (end .answer)) 0 (λ z. omega (arith, v .refused, z)) in
         let held : now .plain .held ≡ p .held = rw n refl in
-        made-same slot before s now g l (heldOf d) (withActive (Interface i) (end .active) (cellsIn d)) (isLost (end .answer)) m refl refl
-        (ap pairs held ∙ l .held) (rw held (fit-active (Interface i) (end .active) (cellsIn d) (p .held) (l .fits))) (v .left)
+        made-same slot before s now g l (heldOf d) (withActive (Interface i) (end .active) (endpointMapIn d)) (isLost (end .answer)) m refl refl
+        (ap pairs held ∙ l .held) (rw held (fit-active (Interface i) (end .active) (endpointMapIn d) (p .held) (l .fits))) (v .left)
         held e
 
     failed-enabled :
-        (code : ℕ) → end .answer ≡ answer.Failed code → p .broken ≡ false → p .loose ≡ false → (x : ℕ) → 2 ≤ x → x < 32 →
+        (code : ℕ) → end .answer ≡ answer.Failed code → p .broken ≡ false → p .unheldRelease ≡ false → (x : ℕ) → 2 ≤ x → x < 32 →
         followed enabledAfter (buffers .outcomes) 0 course (p .enabled) x ≡ isHeldDci p x
     unfolding end course
     failed-enabled code e b f x two h =
@@ -242,7 +242,7 @@ module _ (slot : ℕ) (before : List ℕ) (s : State) (buffers : Buffers) (i : �
     ended-good (inl v) a = gone-good v
     ended-good (inr v) (inl e) = absurd (omega (arith, v .refused, ap number e))
     ended-good (inr v) (inr (inl (code, e))) =
-        stayed-good v (λ b f. failed-enabled code e (or-left-false (p .broken) _ b) (or-left-false (p .loose) _ f))
+        stayed-good v (λ b f. failed-enabled code e (or-left-false (p .broken) _ b) (or-left-false (p .unheldRelease) _ f))
     ended-good (inr v) (inr (inr (inl e))) =
         stayed-good v (λ b f. lost-not (end .answer) (rw e refl) (or-right-false (p .broken) _ b))
     ended-good (inr v) (inr (inr (inr (e, n)))) =
@@ -253,13 +253,13 @@ module _ (slot : ℕ) (before : List ℕ) (s : State) (buffers : Buffers) (i : �
     few =
         omega (
           arith,
-          release-words (releaseIn d i) (s .routes) (buffers .outcomes) (buffers .ctx) 0 (queues-fit (ownedRings (Interface i) (cellsIn d))),
+          release-words (releaseIn d i) (s .routes) (buffers .outcomes) (buffers .ctx) 0 (queues-fit (ownedRings (Interface i) (endpointMapIn d))),
           pass .room,
         )
 
     bytes : EachCommand ByteOperands course
     unfolding course releaseIn
-    bytes = release-operands (releaseIn d i) (buffers .ctx) (s .routes) (byte-dcis (ownedRings (Interface i) (cellsIn d)))
+    bytes = release-operands (releaseIn d i) (buffers .ctx) (s .routes) (byte-dcis (ownedRings (Interface i) (endpointMapIn d)))
 
     good-end : Good slot before now
     unfolding end course

@@ -22,12 +22,12 @@ use Rattle.context.specs.Place.{Spaced}
 use Rattle.transfer.specs.declared.Replaced.the-variants as replace
 use Rattle.transfer.specs.Routes.{replaced, withReplaced}
 use Rattle.record_endpoint.specs.Order.{PLACES, placeOf, dciAt}
-use Rattle.record_endpoint.specs.Cells.{isOwned, owns, queuesOf, noCells, withActive}
-use Rattle.record_endpoint.specs.declared.cells.Cells.{Cells}
-use Rattle.record_endpoint.specs.declared.cells.Owner.the-variants.{Any, Interface}
+use Rattle.record_endpoint.specs.EndpointMap.{isOwned, owns, queuesOf, noEndpoints, withActive}
+use Rattle.record_endpoint.specs.declared.endpoint_map.EndpointMap.{EndpointMap}
+use Rattle.record_endpoint.specs.declared.endpoint_map.Owner.the-variants.{Any, Interface}
 use Rattle.record_endpoint.proofs.Laws.{queues-fit, dci-low, dci-high}
 use Rattle.record_settings.specs.Held.{Held, isHeld, alternateOf, settingWords, heldWords, eachSetting}
-use Rattle.record_settings.specs.Match.{hasPlace, same, ownsPlaces, allOwn, endpointsMatch}
+use Rattle.record_settings.specs.Match.{hasPlace, agree, ownsPlaces, allOwn, endpointsMatch}
 use Rattle.record_settings.proofs.Laws.{each-at, match-facts}
 use Rattle.theorem_routing.specs.Routing.{RoutedBy, NamedBy}
 use Rattle.theorem_routing.proofs.Laws.{each-dci, no-queues, bare-done, bare-routed}
@@ -38,7 +38,7 @@ use Rattle.course_set_configuration.specs.SetConfiguration.{setCourse}
 use Rattle.course_set_configuration.proofs.Laws.{set-words, set-cuts, OneAnswer, Answered, set-answers, set-moved, set-operands, set-out}
 use Rattle.course_set_configuration.proofs.Controlled.{set-accepted-enabled, set-failed-enabled}
 use Rattle.device.specs.declared.record.Device.{Device}
-use Rattle.device.specs.Device.{listOf, cellsIn, heldOf}
+use Rattle.device.specs.Device.{listOf, endpointMapIn, heldOf}
 use Rattle.device.specs.Left.{Left, refused, ended}
 use Rattle.device.specs.Check.{recordCheck}
 use Rattle.device.specs.SetConfiguration.{settingsIn, setRecord, setConfiguration}
@@ -82,14 +82,14 @@ held-place list (x ∷ hs) j q h w =
     go (inr t) r =
         or-right (hasPlace q (settingWords list (x .interface) (x .alternate))) _ (r (rw t at h) (rw t at w))
 
-same-true : (a b : Bool) → same a b ≡ true → a ≡ true → b ≡ true
-unfolding same
+same-true : (a b : Bool) → agree a b ≡ true → a ≡ true → b ≡ true
+unfolding agree
 same-true true b e f = e
 same-true false b e f = not-both false f refl
 
 -- Where the endpoints match, each of these places has a ring.
 place-held :
-    (list : List ℕ) (hs : List Held) (c : Cells) (q : ℕ) → allOwn list hs c ≡ true → q < 30 → hasPlace q (heldWords list hs) ≡ true →
+    (list : List ℕ) (hs : List Held) (c : EndpointMap) (q : ℕ) → allOwn list hs c ≡ true → q < 30 → hasPlace q (heldWords list hs) ≡ true →
     eqb (getD (c .rings) q 0) 0 ≡ false
 unfolding allOwn eachSetting heldWords hasPlace ownsPlaces
 place-held list [] c q o h w = not-both false w refl
@@ -114,8 +114,8 @@ place-held list (x ∷ hs) c q o h w =
     go (inr t) r = r t
 
 -- No endpoints, none to be routed.
-none-named : (routes : List ℕ) (slot : ℕ) → NamedBy routes slot noCells
-unfolding noCells
+none-named : (routes : List ℕ) (slot : ℕ) → NamedBy routes slot noEndpoints
+unfolding noEndpoints
 none-named routes slot q h z = absurd (z (getD-replicate 30 q 0 0 h))
 
 module _ (slot : ℕ) (before : List ℕ) (s : State) (buffers : Buffers) (value : ℕ) (byte : value < 256) (g : Good slot before s) where
@@ -149,9 +149,9 @@ module _ (slot : ℕ) (before : List ℕ) (s : State) (buffers : Buffers) (value
     pass = passed d _ _ _ _ k .0
 
     abbrev rings : List ℕ
-    rings = (cellsIn d) .rings
+    rings = (endpointMapIn d) .rings
 
-    was : p .broken ≡ false → p .loose ≡ false → (q : ℕ) → q < 30 → p .enabled (dciAt q) ≡ not (eqb (getD rings q 0) 0)
+    was : p .broken ≡ false → p .unheldRelease ≡ false → (q : ℕ) → q < 30 → p .enabled (dciAt q) ≡ not (eqb (getD rings q 0) 0)
     was = enabled-was slot before s g l
 
     spaced : Spaced ((settingsIn d value) .spacing) (length (buffers .ctx))
@@ -160,12 +160,12 @@ module _ (slot : ℕ) (before : List ℕ) (s : State) (buffers : Buffers) (value
 
     out : replaced (s .routes) slot (queuesOf rings) [] ≡ replace.Done
     out =
-        bare-done (s .routes) slot (cellsIn d) (named-from slot (s .routes) p (cellsIn d) (g .named) (live-tells slot d p l))
+        bare-done (s .routes) slot (endpointMapIn d) (named-from slot (s .routes) p (endpointMapIn d) (g .named) (live-tells slot d p l))
 
-    routed : Unrouted before slot → RoutedBy (withReplaced (s .routes) slot (queuesOf rings) (queuesOf (replicate PLACES 0))) slot noCells
+    routed : Unrouted before slot → RoutedBy (withReplaced (s .routes) slot (queuesOf rings) (queuesOf (replicate PLACES 0))) slot noEndpoints
     routed u =
         rw no-queues
-        (bare-routed (s .routes) slot (cellsIn d) (routed-from slot (s .routes) p (cellsIn d) (g .own u) (live-tells slot d p l))
+        (bare-routed (s .routes) slot (endpointMapIn d) (routed-from slot (s .routes) p (endpointMapIn d) (g .own u) (live-tells slot d p l))
         (rw (g .long) (g .room)) .routed)
 
     allowed : replaced (s .routes) (d .slot .0) (queuesOf rings) [] ≡ replace.Done
@@ -184,20 +184,20 @@ module _ (slot : ℕ) (before : List ℕ) (s : State) (buffers : Buffers) (value
     ring-word : (q : ℕ) → q < 30 → eqb (getD rings q 0) 0 ≡ false → hasPlace q (heldWords (listOf d) (heldOf d)) ≡ true
     unfolding isOwned owns
     ring-word q h e =
-        let m = match-facts (listOf d) (heldOf d) (cellsIn d) (pass .facts .endpoints) in
-        let j = getD ((cellsIn d) .owners) q 0 in
+        let m = match-facts (listOf d) (heldOf d) (endpointMapIn d) (pass .facts .endpoints) in
+        let j = getD ((endpointMapIn d) .owners) q 0 in
         let t : isHeld j (heldOf d) ≡ true = m .held q h (eqb-false (getD rings q 0) 0 e) in
         held-place (listOf d) (heldOf d) j q t (sym (m .owned j q t h) ∙ rw (e, eq-eqb j j refl) refl)
 
     word-ring : (q : ℕ) → q < 30 → hasPlace q (heldWords (listOf d) (heldOf d)) ≡ true → eqb (getD rings q 0) 0 ≡ false
     unfolding endpointsMatch
     word-ring q h w =
-        place-held (listOf d) (heldOf d) (cellsIn d) q (and-left (allOwn (listOf d) (heldOf d) (cellsIn d)) _ (pass .facts .endpoints)) h w
+        place-held (listOf d) (heldOf d) (endpointMapIn d) q (and-left (allOwn (listOf d) (heldOf d) (endpointMapIn d)) _ (pass .facts .endpoints)) h w
 
     accepted-enabled :
-        end .answer ≡ answer.Accepted → p .broken ≡ false → p .loose ≡ false → (q : ℕ) → q < 30 →
-        followed enabledAfter (buffers .outcomes) 0 course (p .enabled) (dciAt q) ≡ not (eqb (getD (noCells .rings) q 0) 0)
-    unfolding end course noCells
+        end .answer ≡ answer.Accepted → p .broken ≡ false → p .unheldRelease ≡ false → (q : ℕ) → q < 30 →
+        followed enabledAfter (buffers .outcomes) 0 course (p .enabled) (dciAt q) ≡ not (eqb (getD (noEndpoints .rings) q 0) 0)
+    unfolding end course noEndpoints
     accepted-enabled e b f q h =
         set-accepted-enabled (settingsIn d value) (buffers .ctx) (s .routes) (buffers .outcomes) 0 spaced (dciAt q) (dci-low q h)
         (dci-high q h) (p .enabled) e
@@ -218,17 +218,17 @@ module _ (slot : ℕ) (before : List ℕ) (s : State) (buffers : Buffers) (value
         let v = set-moved (settingsIn d value) (s .routes) (buffers .outcomes) (buffers .ctx) 0 in
         let m = set-moves d _ _ _ value k end t in
         let held : now .plain .held ≡ [] = ap (λ x. cond x [] (p .held)) (log-tells ∙ t) in
-        made-moved slot before s now g l [] noCells (isLost (end .answer)) m refl refl (ap pairs held) (rw held tt) rings (replicate PLACES 0)
+        made-moved slot before s now g l [] noEndpoints (isLost (end .answer)) m refl refl (ap pairs held) (rw held tt) rings (replicate PLACES 0)
         (v .gone t .2 ∙ ap (λ x. withReplaced (s .routes) x (queuesOf rings) []) (l .place)
         ∙ ap (withReplaced (s .routes) slot (queuesOf rings)) (sym no-queues))
         (none-named _ slot) routed
-        (λ b f. enabled a (or-left-false (p .broken) _ b) (or-left-false (p .loose) _ f) (or-right-false (p .broken) _ b))
+        (λ b f. enabled a (or-left-false (p .broken) _ b) (or-left-false (p .unheldRelease) _ f) (or-right-false (p .broken) _ b))
       where
         enabled :
-            OneAnswer (end .answer) → p .broken ≡ false → p .loose ≡ false →
+            OneAnswer (end .answer) → p .broken ≡ false → p .unheldRelease ≡ false →
             isLost (end .answer) ≡ false → (q : ℕ) → q < 30 →
             followed enabledAfter (buffers .outcomes) 0 (setCourse (settingsIn d value) (buffers .ctx) (s .routes)) (p .enabled) (dciAt q)
-            ≡ not (eqb (getD (noCells .rings) q 0) 0)
+            ≡ not (eqb (getD (noEndpoints .rings) q 0) 0)
         enabled (inl e) b f n = accepted-enabled e b f
         enabled (inr (inl (code, e))) b f n = not-both (end .moved) t (w .failed code e)
         enabled (inr (inr (inl e))) b f n = lost-not (end .answer) (rw e refl) n
@@ -236,7 +236,7 @@ module _ (slot : ℕ) (before : List ℕ) (s : State) (buffers : Buffers) (value
         enabled (inr (inr (inr (inr e)))) b f n = not-both (end .moved) t (w .invalid e .0)
 
     failed-enabled :
-        (code : ℕ) → end .answer ≡ answer.Failed code → p .broken ≡ false → p .loose ≡ false → (x : ℕ) → 2 ≤ x → x < 32 →
+        (code : ℕ) → end .answer ≡ answer.Failed code → p .broken ≡ false → p .unheldRelease ≡ false → (x : ℕ) → 2 ≤ x → x < 32 →
         followed enabledAfter (buffers .outcomes) 0 course (p .enabled) x ≡ isHeldDci p x
     unfolding end course
     failed-enabled code e b f =
@@ -255,12 +255,12 @@ module _ (slot : ℕ) (before : List ℕ) (s : State) (buffers : Buffers) (value
         let v = set-moved (settingsIn d value) (s .routes) (buffers .outcomes) (buffers .ctx) 0 in
         let m = set-stays d _ _ _ value k end t in
         let held : now .plain .held ≡ p .held = ap (λ x. cond x [] (p .held)) (log-tells ∙ t) in
-        made-same slot before s now g l (heldOf d) (withActive Any (end .active) (cellsIn d)) (isLost (end .answer)) m refl refl
-        (ap pairs held ∙ l .held) (rw held (fit-active Any (end .active) (cellsIn d) (p .held) (l .fits))) (v .kept t) held
-        (λ b f. enabled a (or-left-false (p .broken) _ b) (or-left-false (p .loose) _ f) (or-right-false (p .broken) _ b))
+        made-same slot before s now g l (heldOf d) (withActive Any (end .active) (endpointMapIn d)) (isLost (end .answer)) m refl refl
+        (ap pairs held ∙ l .held) (rw held (fit-active Any (end .active) (endpointMapIn d) (p .held) (l .fits))) (v .kept t) held
+        (λ b f. enabled a (or-left-false (p .broken) _ b) (or-left-false (p .unheldRelease) _ f) (or-right-false (p .broken) _ b))
       where
         enabled :
-            OneAnswer (end .answer) → p .broken ≡ false → p .loose ≡ false →
+            OneAnswer (end .answer) → p .broken ≡ false → p .unheldRelease ≡ false →
             isLost (end .answer) ≡ false → (x : ℕ) → 2 ≤ x → x < 32 →
             followed enabledAfter (buffers .outcomes) 0 (setCourse (settingsIn d value) (buffers .ctx) (s .routes)) (p .enabled) x ≡ isHeldDci p x
         enabled (inl e) b f n = not-both (end .moved) (w .accepted e) t

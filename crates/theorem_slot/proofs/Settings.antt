@@ -11,27 +11,27 @@ use lib.ListN.{getD}
 use Rattle.laws.proofs.Cases.{Decided, decided, or-none}
 use Rattle.transfer.specs.Routes.{ringFor, names}
 use Rattle.record_endpoint.specs.Order.{dciAt}
-use Rattle.record_endpoint.specs.Cells.{isOwned, owns}
-use Rattle.record_endpoint.specs.declared.cells.Cells.{Cells}
-use Rattle.record_endpoint.specs.declared.cells.Owner.the-variants.{Interface}
+use Rattle.record_endpoint.specs.EndpointMap.{isOwned, owns}
+use Rattle.record_endpoint.specs.declared.endpoint_map.EndpointMap.{EndpointMap}
+use Rattle.record_endpoint.specs.declared.endpoint_map.Owner.the-variants.{Interface}
 use Rattle.record_settings.specs.Held.{Held, isHeld, alternateOf, withoutSetting}
 use Rattle.theorem_routing.proofs.Laws.{names-append, ringFor-append, ringFor-start}
-use Rattle.theorem_slot.specs.Plain.{Setting, heldQueues, without, hasSetting}
+use Rattle.theorem_slot.specs.Plain.{HeldSetting, heldQueues, without, hasSetting}
 
 -- A setting's queues are those of its interface's endpoints.
-pub record Fits (c : Cells) (s : Setting) : Type 0 where
+pub record Fits (c : EndpointMap) (s : HeldSetting) : Type 0 where
   pub named : (p : ℕ) → p < 30 → names (dciAt p) (s .queues) ≡ isOwned (Interface (s .interface)) c p
   pub ring :
       (p : ℕ) → p < 30 → isOwned (Interface (s .interface)) c p ≡ true → ringFor (dciAt p) (s .queues) 0 ≡ getD (c .rings) p 0
   pub low : names 0 (s .queues) ≡ false
   pub byte : s .alternate < 256
 
-unfoldable pub AllFit : Cells → List Setting → Type 0
+unfoldable pub AllFit : EndpointMap → List HeldSetting → Type 0
 AllFit c [] = Unit {0}
 AllFit c (s ∷ ss) = Fits c s × AllFit c ss
 
 -- They name no slot context.
-pub held-low : (c : Cells) (ss : List Setting) → AllFit c ss → names 0 (heldQueues ss) ≡ false
+pub held-low : (c : EndpointMap) (ss : List HeldSetting) → AllFit c ss → names 0 (heldQueues ss) ≡ false
 unfolding AllFit heldQueues names
 held-low c [] f = refl
 held-low c (s ∷ ss) f = names-append 0 (s .queues) (heldQueues ss) ∙ rw (f .0 .low, held-low c ss (f .1))
@@ -44,11 +44,11 @@ eqb-turned a b = go (decided (eqb b a))
     go (inr p) = rw p (ne-eqb a b (λ q. eqb-false b a p (sym q)))
 
 -- Endpoint p has a ring, and its owner holds one of the settings.
-abbrev pub heldAt : Cells → ℕ → List Setting → Bool
+abbrev pub heldAt : EndpointMap → ℕ → List HeldSetting → Bool
 heldAt c p ss = not (eqb (getD (c .rings) p 0) 0) && hasSetting (getD (c .owners) p 0) ss
 
 owned-turned :
-    (c : Cells) (i p : ℕ) → isOwned (Interface i) c p ≡ (not (eqb (getD (c .rings) p 0) 0) && eqb i (getD (c .owners) p 0))
+    (c : EndpointMap) (i p : ℕ) → isOwned (Interface i) c p ≡ (not (eqb (getD (c .rings) p 0) 0) && eqb i (getD (c .owners) p 0))
 unfolding isOwned owns
 owned-turned c i p = rw (eqb-turned (getD (c .owners) p 0) i)
 
@@ -62,7 +62,7 @@ and-false false = refl
 
 -- The endpoints that the held settings name.
 pub held-names :
-    (c : Cells) (ss : List Setting) (p : ℕ) → AllFit c ss → p < 30 → names (dciAt p) (heldQueues ss) ≡ heldAt c p ss
+    (c : EndpointMap) (ss : List HeldSetting) (p : ℕ) → AllFit c ss → p < 30 → names (dciAt p) (heldQueues ss) ≡ heldAt c p ss
 unfolding AllFit heldQueues hasSetting names
 held-names c [] p f h = sym (and-false (not (eqb (getD (c .rings) p 0) 0)))
 held-names c (s ∷ ss) p f h =
@@ -72,7 +72,7 @@ held-names c (s ∷ ss) p f h =
 
 -- One setting leaves its endpoints their rings.
 one-ring :
-    (c : Cells) (s : Setting) (p v : ℕ) → Fits c s → p < 30 →
+    (c : EndpointMap) (s : HeldSetting) (p v : ℕ) → Fits c s → p < 30 →
     ringFor (dciAt p) (s .queues) v ≡ cond (isOwned (Interface (s .interface)) c p) (getD (c .rings) p 0) v
 one-ring c s p v f h =
     ringFor-start (dciAt p) (s .queues) v ∙ rw (f .named p h) (go (decided (isOwned (Interface (s .interface)) c p)))
@@ -86,7 +86,7 @@ one-ring c s p v f h =
 
 -- The rings that they leave.
 pub held-ring :
-    (c : Cells) (ss : List Setting) (p v : ℕ) → AllFit c ss → p < 30 →
+    (c : EndpointMap) (ss : List HeldSetting) (p v : ℕ) → AllFit c ss → p < 30 →
     ringFor (dciAt p) (heldQueues ss) v ≡ cond (heldAt c p ss) (getD (c .rings) p 0) v
 unfolding AllFit heldQueues hasSetting ringFor
 held-ring c [] p v f h = rw (and-false (not (eqb (getD (c .rings) p 0) 0)))
@@ -105,14 +105,14 @@ held-ring c (s ∷ ss) p v f h =
     go true false false = refl
     go false b k = refl
 
-held-append : (x y : List Setting) → heldQueues (x ++ y) ≡ heldQueues x ++ heldQueues y
+held-append : (x y : List HeldSetting) → heldQueues (x ++ y) ≡ heldQueues x ++ heldQueues y
 unfolding heldQueues
 held-append [] y = refl
 held-append (s ∷ x) y = rw (held-append x y, append-assoc)
 
 -- Of an endpoint that the last setting names, its ring.
 pub last-ring :
-    (d : ℕ) (ss : List Setting) (s : Setting) → names d (s .queues) ≡ true →
+    (d : ℕ) (ss : List HeldSetting) (s : HeldSetting) → names d (s .queues) ≡ true →
     ringFor d (heldQueues (ss ++ (s ∷ []))) 0 ≡ ringFor d (s .queues) 0
 unfolding heldQueues
 last-ring d ss s n =
@@ -120,21 +120,21 @@ last-ring d ss s n =
     (ringFor-start d (s .queues) (ringFor d (heldQueues ss) 0) ∙ rw n)
 
 -- Interfaces with their alternates, as a record keeps them.
-unfoldable pub pairs : List Setting → List Held
+unfoldable pub pairs : List HeldSetting → List Held
 pairs [] = []
 pairs (s ∷ ss) = record { interface = s .interface; alternate = s .alternate } ∷ pairs ss
 
-pub pairs-setting : (i : ℕ) (ss : List Setting) → hasSetting i ss ≡ isHeld i (pairs ss)
+pub pairs-setting : (i : ℕ) (ss : List HeldSetting) → hasSetting i ss ≡ isHeld i (pairs ss)
 unfolding pairs hasSetting isHeld
 pairs-setting i [] = refl
 pairs-setting i (s ∷ ss) = rw (pairs-setting i ss)
 
-pub pairs-append : (x y : List Setting) → pairs (x ++ y) ≡ pairs x ++ pairs y
+pub pairs-append : (x y : List HeldSetting) → pairs (x ++ y) ≡ pairs x ++ pairs y
 unfolding pairs
 pairs-append [] y = refl
 pairs-append (s ∷ x) y = rw (pairs-append x y)
 
-pub pairs-without : (i : ℕ) (ss : List Setting) → pairs (without i ss) ≡ withoutSetting i (pairs ss)
+pub pairs-without : (i : ℕ) (ss : List HeldSetting) → pairs (without i ss) ≡ withoutSetting i (pairs ss)
 unfolding pairs without withoutSetting
 pairs-without i [] = refl
 pairs-without i (s ∷ ss) = go (eqb (s .interface) i) (pairs-without i ss)
@@ -148,7 +148,7 @@ pairs-without i (s ∷ ss) = go (eqb (s .interface) i) (pairs-without i ss)
     go false e = rw e
 
 -- An interface without a setting loses none.
-pub without-none : (i : ℕ) (ss : List Setting) → hasSetting i ss ≡ false → without i ss ≡ ss
+pub without-none : (i : ℕ) (ss : List HeldSetting) → hasSetting i ss ≡ false → without i ss ≡ ss
 unfolding without hasSetting
 without-none i [] e = refl
 without-none i (s ∷ ss) e =
@@ -157,14 +157,14 @@ without-none i (s ∷ ss) e =
 
 -- Settings that fit some endpoints fit others where each does.
 pub fit-other :
-    (c e : Cells) (ss : List Setting) → ((s : Setting) → Fits c s → Fits e s) → AllFit c ss → AllFit e ss
+    (c e : EndpointMap) (ss : List HeldSetting) → ((s : HeldSetting) → Fits c s → Fits e s) → AllFit c ss → AllFit e ss
 unfolding AllFit
 fit-other c e [] h f = tt
 fit-other c e (s ∷ ss) h f = (h s (f .0), fit-other c e ss h (f .1))
 
 pub fit-without :
-    (c e : Cells) (i : ℕ) (ss : List Setting) →
-    ((s : Setting) → (i ≡ s .interface → ⊥) → Fits c s → Fits e s) → AllFit c ss → AllFit e (without i ss)
+    (c e : EndpointMap) (i : ℕ) (ss : List HeldSetting) →
+    ((s : HeldSetting) → (i ≡ s .interface → ⊥) → Fits c s → Fits e s) → AllFit c ss → AllFit e (without i ss)
 unfolding AllFit without
 fit-without c e i [] h f = tt
 fit-without c e i (s ∷ ss) h f = go (decided (eqb (s .interface) i)) (fit-without c e i ss h (f .1))
@@ -173,13 +173,13 @@ fit-without c e i (s ∷ ss) h f = go (decided (eqb (s .interface) i)) (fit-with
     go (inl t) r = rw t r
     go (inr t) r = rw t (h s (λ q. eqb-false (s .interface) i t (sym q)) (f .0), r)
 
-pub fit-append : (c : Cells) (x y : List Setting) → AllFit c x → AllFit c y → AllFit c (x ++ y)
+pub fit-append : (c : EndpointMap) (x y : List HeldSetting) → AllFit c x → AllFit c y → AllFit c (x ++ y)
 unfolding AllFit
 fit-append c [] y f g = g
 fit-append c (s ∷ x) y f g = (f .0, fit-append c x y (f .1) g)
 
 -- The alternate that an interface holds is a byte.
-pub alternate-byte : (c : Cells) (i : ℕ) (ss : List Setting) → AllFit c ss → alternateOf i (pairs ss) < 256
+pub alternate-byte : (c : EndpointMap) (i : ℕ) (ss : List HeldSetting) → AllFit c ss → alternateOf i (pairs ss) < 256
 unfolding AllFit pairs alternateOf
 alternate-byte c i [] f = omega arith
 alternate-byte c i (s ∷ ss) f = go (eqb (s .interface) i) (f .0 .byte) (alternate-byte c i ss (f .1))

@@ -20,7 +20,7 @@ use Rattle.descriptor_list.specs.Lookup.{findEndpoints}
 use Rattle.record_ring.specs.Rings.{offerOk}
 use Rattle.record_settings.specs.Held.{isHeld, isFound, settingWords}
 use Rattle.record_settings.specs.Match.{addressesFree}
-use Rattle.device.specs.Device.{listOf, cellsIn, heldOf, quarantinedOf}
+use Rattle.device.specs.Device.{listOf, endpointMapIn, heldOf, quarantinedOf}
 use Rattle.device.specs.Sound.{sound}
 use Rattle.command.specs.Course.{Course, words, result, played, CutEnds}
 use Rattle.command.proofs.Operations.{ByteOperands, EachCommand}
@@ -35,7 +35,7 @@ use Rattle.device.specs.Calls.{onCheck}
 use Rattle.device.specs.Claim.{claimCheck}
 use Rattle.device.specs.Release.{releaseCheck}
 use Rattle.theorem_slot.specs.Call.{Buffers}
-use Rattle.theorem_slot.specs.Plain.{Plain, Effect, begins, holds, endsOne, endsAll, nothing, heldAfter, isLoose, anew, seen, observed}
+use Rattle.theorem_slot.specs.Plain.{Plain, Effect, begins, holdsInterface, endsOne, endsAll, nothing, heldAfter, isUnheldRelease, anew, seen, observed}
 use Rattle.theorem_slot.specs.Theorem.{State}
 use Rattle.theorem_slot.proofs.Words.{taken-words}
 use Rattle.theorem_slot.proofs.Good.{Good}
@@ -95,8 +95,8 @@ mild-claim d ctx routes log i a rings =
     let ws = settingWords (listOf d) i a in
     mild-record d ctx routes log _
     (mild-unless (isFound (findEndpoints (listOf d) i a)) answer.NotFound _ (refl, refl)
-    (mild-unless (addressesFree ws i (cellsIn d)) answer.InvalidParameter _ (refl, refl)
-    (mild-unless (offerOk (length ws) rings ((cellsIn d) .rings) (d .control) (quarantinedOf d)) answer.Rings _ (refl, refl) mild-pass)))
+    (mild-unless (addressesFree ws i (endpointMapIn d)) answer.InvalidParameter _ (refl, refl)
+    (mild-unless (offerOk (length ws) rings ((endpointMapIn d) .rings) (d .control) (quarantinedOf d)) answer.Rings _ (refl, refl) mild-pass)))
 
 pub mild-release :
     (d : Device) (ctx routes log i : ℕ) → MildCheck (recordCheck d ctx routes log (releaseCheck d i))
@@ -118,16 +118,16 @@ quiet effect outcomes p accepted broken =
       held = heldAfter effect accepted outcomes [] (p .list) (p .held);
       enabled = p .enabled;
       broken = p .broken || broken;
-      loose = p .loose || isLoose effect [] (p .held);
+      unheldRelease = p .unheldRelease || isUnheldRelease effect [] (p .held);
     })
 
 quiet-same : (effect : Effect) (outcomes : List ℕ) (p : Plain) → quiet effect outcomes p false false ≡ p
-unfolding quiet anew heldAfter isLoose doneWord
-quiet-same (begins a) outcomes p = rw (or-false (p .broken), or-false (p .loose)) refl
-quiet-same (holds i a rings) outcomes p = rw (or-false (p .broken), or-false (p .loose)) refl
-quiet-same (endsOne i) outcomes p = rw (or-false (p .broken), or-false (p .loose)) refl
-quiet-same (endsAll operation) outcomes p = rw (or-false (p .broken), or-false (p .loose)) refl
-quiet-same nothing outcomes p = rw (or-false (p .broken), or-false (p .loose)) refl
+unfolding quiet anew heldAfter isUnheldRelease doneWord
+quiet-same (begins a) outcomes p = rw (or-false (p .broken), or-false (p .unheldRelease)) refl
+quiet-same (holdsInterface i a rings) outcomes p = rw (or-false (p .broken), or-false (p .unheldRelease)) refl
+quiet-same (endsOne i) outcomes p = rw (or-false (p .broken), or-false (p .unheldRelease)) refl
+quiet-same (endsAll operation) outcomes p = rw (or-false (p .broken), or-false (p .unheldRelease)) refl
+quiet-same nothing outcomes p = rw (or-false (p .broken), or-false (p .unheldRelease)) refl
 
 pub observed-refused :
     (effect : Effect) (buffers : Buffers) (a : Answer) (contexts : ℕ → List ℕ) (p : Plain) → Mild a →

@@ -11,7 +11,7 @@ use Rattle.command.specs.declared.Sent.the-variants.{Done}
 use Rattle.command.specs.Command.{outcomeAt}
 use Rattle.context_block.specs.Promises.{someDci}
 use Rattle.context.specs.Steps.{wordDcis}
-use Rattle.transfer.specs.Routes.{routeOf, queues, ringFor, Outside}
+use Rattle.transfer.specs.Routes.{routeOf, queues, ringFor, OutsideSlot}
 use Rattle.record_settings.specs.Held.{settingWords}
 use Rattle.course_init.specs.Reading.{BringUp}
 use Rattle.device_bring_up.specs.BringUp.{bringUp}
@@ -61,10 +61,10 @@ pub record Kept (slot : ℕ) (before : List ℕ) (s : State) : Type 0 where
   -- its routes are the plain slot's
   pub own : (d : ℕ) → d < 32 → routeOf (s .routes) slot d ≡ plainRoute (s .plain) d
   -- every other word is as before
-  pub others : (k : ℕ) → Outside slot k → getD (s .routes) k 0 ≡ getD before k 0
+  pub others : (k : ℕ) → OutsideSlot slot k → getD (s .routes) k 0 ≡ getD before k 0
   -- before the first broken or cut answer the enabled endpoints are the held ones
   pub enabled :
-      s .plain .broken ≡ false → s .plain .loose ≡ false → (d : ℕ) → 2 ≤ d → d < 32 →
+      s .plain .broken ≡ false → s .plain .unheldRelease ≡ false → (d : ℕ) → 2 ≤ d → d < 32 →
       s .plain .enabled d ≡ isHeldDci (s .plain) d
 
 -- For every slot whose routes were all 0, every accepted bring-up of it and whatever calls follow: P of the slot, the table before
@@ -110,7 +110,7 @@ slotOf (updatesHub ports multi ns) d = d .slot .0
 -- A table of the same length, in which every word outside the slot is as it was.
 pub record Untouched (slot : ℕ) (before now : List ℕ) : Type 0 where
   pub long : length now ≡ length before
-  pub words : (k : ℕ) → Outside slot k → getD now k 0 ≡ getD before k 0
+  pub words : (k : ℕ) → OutsideSlot slot k → getD now k 0 ≡ getD before k 0
 
 -- Every call leaves every word outside its slot as it was, whatever record and table it gets.
 abbrev pub OutsideUntouched : Type 0

@@ -13,7 +13,7 @@ use Rattle.laws.proofs.Tests.{not-both}
 use Rattle.transfer.specs.declared.Registered.the-variants as register
 use Rattle.transfer.specs.declared.Replaced.{Replaced}
 use Rattle.transfer.specs.declared.Replaced.the-variants as replace
-use Rattle.transfer.specs.Routes.{routeIndex, routeOf, withRoute, Queue, queues, names, registered, withRegistered, oldMatch, newFree, cleared, published, replaced, moved, withReplaced, ringFor, Small, Outside}
+use Rattle.transfer.specs.Routes.{routeIndex, routeOf, withRoute, Queue, queues, names, registered, withRegistered, oldMatch, newFree, cleared, published, replaced, moved, withReplaced, ringFor, Small, OutsideSlot}
 
 -- A slot's endpoint is told by its word.
 pub index-same : (slot d e : ℕ) → routeIndex slot d ≡ routeIndex slot e → d ≡ e
@@ -21,7 +21,7 @@ unfolding routeIndex
 index-same slot d e h = omega arith
 
 -- The word of a Dci below 32 is one of the slot's.
-pub index-inside : (slot d k : ℕ) → d < 32 → Outside slot k → routeIndex slot d ≡ k → ⊥
+pub index-inside : (slot d k : ℕ) → d < 32 → OutsideSlot slot k → routeIndex slot d ≡ k → ⊥
 unfolding routeIndex
 index-inside slot d k h (inl l) e = omega arith
 index-inside slot d k h (inr l) e = omega arith
@@ -212,7 +212,7 @@ module _ (routes : List ℕ) (slot : ℕ) (old new : List Queue) where
       after replace.QueueFull = refl
 
   -- Whatever the answer, a word outside the slot stays.
-  pub replaced-outside : (k : ℕ) → Small old → Small new → Outside slot k → getD (withReplaced routes slot old new) k 0 ≡ getD routes k 0
+  pub replaced-outside : (k : ℕ) → Small old → Small new → OutsideSlot slot k → getD (withReplaced routes slot old new) k 0 ≡ getD routes k 0
   replaced-outside k o n h =
       replaced-other k (λ d e. index-inside slot d k (small-names old d o e) h) (λ d e. index-inside slot d k (small-names new d n e) h)
 
@@ -265,5 +265,5 @@ module _ (routes : List ℕ) (slot dci : ℕ) where
         after false = refl
 
     -- Whatever the answer, a word outside the slot stays.
-    pub registered-outside : (k : ℕ) → dci < 32 → Outside slot k → getD (withRegistered routes slot dci ring) k 0 ≡ getD routes k 0
+    pub registered-outside : (k : ℕ) → dci < 32 → OutsideSlot slot k → getD (withRegistered routes slot dci ring) k 0 ≡ getD routes k 0
     registered-outside k l h = registered-other k (index-inside slot dci k l h)

@@ -91,5 +91,5 @@ Small [] = Unit {0}
 Small (q ∷ qs) = (q .dci < 32) × Small qs
 
 -- A word of the table that is none of the slot's.
-abbrev pub Outside : ℕ → ℕ → Type 0
-Outside slot k = (k < 32 * slot) ⊎ (32 * slot + 32 ≤ k)
+abbrev pub OutsideSlot : ℕ → ℕ → Type 0
+OutsideSlot slot k = (k < 32 * slot) ⊎ (32 * slot + 32 ≤ k)

@@ -15,8 +15,8 @@ use Rattle.answer.specs.Answer.{isAccepted, isBroken, isLost}
 use Rattle.course_steps.specs.End.{End}
 use Rattle.device.specs.declared.record.Device.{Device}
 use Rattle.device.specs.declared.record.Called.{Called}
-use Rattle.device.specs.Device.{withCells, withHeld, withConfiguration, withQuarantined, unusable}
-use Rattle.device.specs.Sound.{placeSound, sound}
+use Rattle.device.specs.Device.{withEndpoints, withHeld, withConfiguration, withQuarantined, unusable}
+use Rattle.device.specs.Sound.{slotSound, sound}
 use Rattle.device.specs.Check.{recordCheck}
 use Rattle.device.specs.Left.{Left, leaves, refused, marked, ended}
 use Rattle.device.specs.Calls.{onCheck, hubLeft, hubUpdate}
@@ -44,7 +44,7 @@ unfolding read isSet
 zeros-unusable = refl
 
 pub zeros-unsound : sound (read []) ≡ false
-unfolding read sound placeSound
+unfolding read sound slotSound
 zeros-unsound = refl
 
 zeros-slot : (l : List ℕ) → isImage l ≡ false → decode l .slot .0 ≡ 0
@@ -57,7 +57,7 @@ pub record Keeps (d : Device) (ctx routes log : List ℕ) (left : Left) : Type 0
   pub none : d .slot .0 ≡ 0 → left ≡ refused d Unusable ctx routes log
 
 none-sound : (d : Device) → d .slot .0 ≡ 0 → (d .usable && sound d) ≡ false
-unfolding sound placeSound
+unfolding sound slotSound
 none-sound d e = rw e (go (d .usable))
   where
     go : (b : Bool) → (b && false) ≡ false
@@ -89,16 +89,16 @@ cond-slot true x y d e f = e
 cond-slot false x y d e f = f
 
 claim-slot : (d : Device) (i a : ℕ) (rings : List ℕ) (e : End) → (claimRecord d i a rings e) .slot ≡ d .slot
-unfolding claimRecord quarantines withHeld withCells withQuarantined
+unfolding claimRecord quarantines withHeld withEndpoints withQuarantined
 claim-slot d i a rings e =
     marked-slot (e .answer) _ ∙ cond-slot (e .moved) _ _ d refl (cond-slot (isBroken (e .answer)) _ _ d refl refl)
 
 release-slot : (d : Device) (i : ℕ) (e : End) → (releaseRecord d i e) .slot ≡ d .slot
-unfolding releaseRecord withHeld withCells
+unfolding releaseRecord withHeld withEndpoints
 release-slot d i e = marked-slot (e .answer) _ ∙ cond-slot (e .moved) _ _ d refl refl
 
 set-slot : (d : Device) (value : ℕ) (e : End) → (setRecord d value e) .slot ≡ d .slot
-unfolding setRecord bare withConfiguration withHeld withCells
+unfolding setRecord bare withConfiguration withHeld withEndpoints
 set-slot d value e =
     marked-slot (e .answer) _ ∙ cond-slot (e .moved) _ _ d (cond-slot (isAccepted (e .answer)) _ _ d refl refl) refl
 

@@ -11,13 +11,13 @@ use Rattle.command.specs.declared.Sent.the-variants as sent
 use Rattle.command.specs.declared.Swept.{Swept}
 use Rattle.command.specs.Command.{commandWord, outcomeAt}
 use Rattle.command.specs.Course.{onSent, ends, Played, played}
-use Rattle.command.specs.Sweep.{resumeAll, SweptAs, orCode}
+use Rattle.command.specs.Sweep.{resumeStoppedEndpoints, SweptAs, orCode}
 use Rattle.command.proofs.Laws.{played-ends, played-sends, played-then}
 use Rattle.context.specs.Place.{written}
 use Rattle.context.specs.Steps.{configureWrites}
-use Rattle.course_steps.specs.declared.Ended.{Ended}
-use Rattle.course_steps.specs.End.{End, stays, answerOf}
-use Rattle.course_steps.specs.Arrays.{dcisIn, queuesIn, leaves}
+use Rattle.course_steps.specs.declared.CourseEnd.{CourseEnd}
+use Rattle.course_steps.specs.End.{End, settingsKept, answerOf}
+use Rattle.course_steps.specs.Arrays.{dcisIn, queuesIn, courseLeaves}
 use Rattle.course_steps.proofs.Laws.{dcis-in}
 use Rattle.course_claim.specs.declared.ClaimPlan.{ClaimPlan}
 use Rattle.course_claim.specs.Claim.{claimOf, claimContext, claimSwitch, claimResume, claimConfigure}
@@ -34,7 +34,7 @@ module _ (a : ClaimPlan) (old new ctx next routes o log left : List ℕ) (n : �
       (onSent s
       (claimSwitch (claimOf a old new) next routes)
       (λ code. claimResume (claimOf a old new) code next routes)
-      (ends (stays answer.Cut 0 next routes)))
+      (ends (settingsKept answer.Cut 0 next routes)))
       left
 
   configured :
@@ -48,15 +48,15 @@ module _ (a : ClaimPlan) (old new ctx next routes o log left : List ℕ) (n : �
   unfolding Configured onSent
   done g d x = rw (g, d) x
 
-  failed : (code : ℕ) (back : Swept) (after : List ℕ) (b : Sent) (x : Answer) {r : Ended} → Configured → s ≡ sent.Failed code →
-      SweptAs back after (played o (n + 1) (resumeAll next (dcisIn (a .old))) left) → b ≡ orCode code (back .sent) → x ≡ answerOf b →
+  failed : (code : ℕ) (back : Swept) (after : List ℕ) (b : Sent) (x : Answer) {r : CourseEnd} → Configured → s ≡ sent.Failed code →
+      SweptAs back after (played o (n + 1) (resumeStoppedEndpoints next (dcisIn (a .old))) left) → b ≡ orCode code (back .sent) → x ≡ answerOf b →
       r ≡ record { answer = x; count = back .count; active = back .active; moved = false } →
-      leaves r next routes after ≡ played o n (claimConfigure (claimOf a old new) ctx routes) log
+      courseLeaves r next routes after ≡ played o n (claimConfigure (claimOf a old new) ctx routes) log
   unfolding Configured onSent claimResume
   failed code back after b x g d t f e r = rw (g, d, dcis-in, played-then, ← t .sent, ← t .active, ← t .count, ← t .log, played-ends, r, e, f)
 
-  cut : {r : Ended} → Configured → s ≡ sent.Cut → r ≡ record { answer = answer.Cut; count = n + 1; active = 0; moved = false } →
-      leaves r next routes left ≡ played o n (claimConfigure (claimOf a old new) ctx routes) log
+  cut : {r : CourseEnd} → Configured → s ≡ sent.Cut → r ≡ record { answer = answer.Cut; count = n + 1; active = 0; moved = false } →
+      courseLeaves r next routes left ≡ played o n (claimConfigure (claimOf a old new) ctx routes) log
   unfolding Configured onSent
   cut g d r = rw (g, d, played-ends, r)
 
@@ -78,8 +78,8 @@ switch-requires c κs = search needs
 enum-known-s : tie.Need-enum-known-s
 enum-known-s c = search needs
 
-resume-queues-requires : tie.Need-resume-queues-requires
-resume-queues-requires c κs = search needs
+resume-stopped-endpoints-requires : tie.Need-resume-stopped-endpoints-requires
+resume-stopped-endpoints-requires c κs = search needs
 
 or-code-requires : tie.Need-or-code-requires
 or-code-requires c κs = search needs
@@ -87,14 +87,14 @@ or-code-requires c κs = search needs
 answer-of-requires : tie.Need-answer-of-requires
 answer-of-requires c κs = search needs
 
-stays-requires : tie.Need-stays-requires
-stays-requires c κs = search needs
+settings-kept-requires : tie.Need-settings-kept-requires
+settings-kept-requires c κs = search needs
 
 enum-told-2 : tie.Need-enum-told-2
 enum-told-2 c = search needs
 
-stays-requires-2 : tie.Need-stays-requires-2
-stays-requires-2 c κs = search needs
+settings-kept-requires-2 : tie.Need-settings-kept-requires-2
+settings-kept-requires-2 c κs = search needs
 
 same-length : tie.Need-same-length
 same-length c = search needs
@@ -127,8 +127,8 @@ returns-2 c =
     let c12 = c8 .before .before .before .before in
     let c16 = c12 .before .before .before .before in
     failed _ _ _ _ _ _ _ _ _ _ _ _ _ _ _ _ (configured _ _ _ _ _ _ _ _ _ _ _ (c16 .prepare-configure .ensures)
-    (c12 .send .ensures .0) (c12 .send .ensures .1)) (c8 .s .given .1) (c5 .resume-queues .ensures _)
-    (c .before .before .or-code .ensures) (c .before .answer-of .ensures) (c .stays .ensures)
+    (c12 .send .ensures .0) (c12 .send .ensures .1)) (c8 .s .given .1) (c5 .resume-stopped-endpoints .ensures _)
+    (c .before .before .or-code .ensures) (c .before .answer-of .ensures) (c .settingsKept .ensures)
 
 same-length-6 : tie.Need-same-length-6
 same-length-6 c = search needs
@@ -141,7 +141,7 @@ returns-3 c =
     let c5 = c .before .before .before .before .before in
     let c9 = c5 .before .before .before .before in
     cut _ _ _ _ _ _ _ _ _ _ _ (configured _ _ _ _ _ _ _ _ _ _ _ (c9 .prepare-configure .ensures) (c5 .send .ensures .0)
-    (c5 .send .ensures .1)) (c .before .enum-told2 .given .1) (c .stays2 .ensures)
+    (c5 .send .ensures .1)) (c .before .enum-told2 .given .1) (c .settings-kept2 .ensures)
 
 pub configure-spec : {M : Type 1} → statement M
 configure-spec =
@@ -153,12 +153,12 @@ configure-spec =
     enum-told
     switch-requires
     enum-known-s
-    resume-queues-requires
+    resume-stopped-endpoints-requires
     or-code-requires
     answer-of-requires
-    stays-requires
+    settings-kept-requires
     enum-told-2
-    stays-requires-2
+    settings-kept-requires-2
     same-length
     same-length-2
     same-length-3

@@ -9,7 +9,7 @@ use Rattle.transfer.specs.declared.Replaced.the-variants as replace
 use Rattle.transfer.proofs.Replaced.{the-type}
 use Rattle.transfer.specs.Routes.{moved, withReplaced}
 use Rattle.command.proofs.Laws.{played-ends}
-use Rattle.course_steps.specs.End.{stays}
+use Rattle.course_steps.specs.End.{settingsKept}
 use Rattle.course_claim.specs.Claim.{Claim, claimPublished, claimPublish}
 use borrow.Author.Needs.{needs}
 use Rattle.course_claim.proofs.publish.Statement.{statement}
@@ -20,7 +20,7 @@ abbrev keys : List ℕ
 keys = 1 ∷ 2 ∷ []
 
 kept : (a : Claim) (ctx routes : List ℕ) (r : Replaced) → OneOf keys (tagOf the-type r) →
-    claimPublished r a ctx routes ≡ stays answer.InterfaceBroken 0 ctx (moved r routes (a .args .slot .0) (a .old) (a .pending))
+    claimPublished r a ctx routes ≡ settingsKept answer.InterfaceBroken 0 ctx (moved r routes (a .args .slot .0) (a .old) (a .pending))
 unfolding claimPublished moved
 kept a ctx routes replace.Done h = absurd (miss keys 0 tt h)
 kept a ctx routes replace.InvalidEndpoint h = refl
@@ -32,11 +32,11 @@ publish-endpoint-routes-requires c κs = search needs
 enum-told : tie.Need-enum-told
 enum-told c = search needs
 
-moves-requires : tie.Need-moves-requires
-moves-requires c κs = search needs
+settings-moved-requires : tie.Need-settings-moved-requires
+settings-moved-requires c κs = search needs
 
-stays-requires : tie.Need-stays-requires
-stays-requires c κs = search needs
+settings-kept-requires : tie.Need-settings-kept-requires
+settings-kept-requires c κs = search needs
 
 same-length : tie.Need-same-length
 same-length c = search needs
@@ -44,7 +44,7 @@ same-length c = search needs
 returns : tie.Need-returns
 unfolding claimPublish claimPublished
 returns c =
-    let e = c .before .before .before .before .before .publish-endpoint-routes .ensures in λ old new o ctx log. rw (played-ends, c .moves .ensures, e .1, ← e .0, c .before .enum-told .given .1)
+    let e = c .before .before .before .before .before .publish-endpoint-routes .ensures in λ old new o ctx log. rw (played-ends, c .settings-moved .ensures, e .1, ← e .0, c .before .enum-told .given .1)
 
 same-length-2 : tie.Need-same-length-2
 same-length-2 c = search needs
@@ -52,7 +52,7 @@ same-length-2 c = search needs
 returns-2 : tie.Need-returns-2
 unfolding claimPublish withReplaced
 returns-2 c =
-    let e = c .before .before .before .before .publish-endpoint-routes .ensures in λ old new o ctx log. rw (played-ends, c .stays .ensures, e .1, ← e .0, kept _ _ _ _ (c .before .match .keys2))
+    let e = c .before .before .before .before .publish-endpoint-routes .ensures in λ old new o ctx log. rw (played-ends, c .settingsKept .ensures, e .1, ← e .0, kept _ _ _ _ (c .before .match .keys2))
 
 pub publish-spec : {M : Type 1} → statement M
 publish-spec =
@@ -60,8 +60,8 @@ publish-spec =
     (tie.spec
     publish-endpoint-routes-requires
     enum-told
-    moves-requires
-    stays-requires
+    settings-moved-requires
+    settings-kept-requires
     same-length
     returns
     same-length-2

@@ -10,9 +10,9 @@ use Rattle.command.specs.declared.Sent.the-variants as sent
 use Rattle.command.specs.Command.{commandWord, outcomeAt}
 use Rattle.command.specs.Course.{onSent, Played, played}
 use Rattle.command.proofs.Laws.{played-ends, played-sends}
-use Rattle.course_steps.specs.declared.Ended.{Ended}
+use Rattle.course_steps.specs.declared.CourseEnd.{CourseEnd}
 use Rattle.course_steps.specs.End.{End}
-use Rattle.course_steps.specs.Arrays.{leaves}
+use Rattle.course_steps.specs.Arrays.{courseLeaves}
 use Rattle.course_claim.specs.declared.ClaimPlan.{ClaimPlan}
 use Rattle.course_claim.specs.Claim.{claimOf, claimPublish, claimUndo, claimSwitch}
 use borrow.Author.Needs.{needs}
@@ -33,8 +33,8 @@ module _ (a : ClaimPlan) (old new ctx routes o log left : List ℕ) (n : ℕ) (s
   unfolding claimSwitch onSent
   failed code d x = rw (played-sends, ← l, ← e, d) x
 
-  cut : {r : Ended} → s ≡ sent.Cut → r ≡ record { answer = answer.Cut; count = n + 1; active = 0; moved = false } →
-      leaves r ctx routes left ≡ played o n (claimSwitch (claimOf a old new) ctx routes) log
+  cut : {r : CourseEnd} → s ≡ sent.Cut → r ≡ record { answer = answer.Cut; count = n + 1; active = 0; moved = false } →
+      courseLeaves r ctx routes left ≡ played o n (claimSwitch (claimOf a old new) ctx routes) log
   unfolding claimSwitch onSent
   cut d r = rw (played-sends, ← l, ← e, d, played-ends, r)
 
@@ -53,14 +53,14 @@ publish-requires c κs = search needs
 enum-known-s : tie.Need-enum-known-s
 enum-known-s c = search needs
 
-undo-requires : tie.Need-undo-requires
-undo-requires c κs = search needs
+rollback-interface-configuration-requires : tie.Need-rollback-interface-configuration-requires
+rollback-interface-configuration-requires c κs = search needs
 
 enum-told-2 : tie.Need-enum-told-2
 enum-told-2 c = search needs
 
-stays-requires : tie.Need-stays-requires
-stays-requires c κs = search needs
+settings-kept-requires : tie.Need-settings-kept-requires
+settings-kept-requires c κs = search needs
 
 same-length : tie.Need-same-length
 same-length c = search needs
@@ -86,14 +86,14 @@ returns-2 c =
     let c4 = c .before .before .before .before in
     let c8 = c4 .before .before .before .before in
     let c12 = c8 .before .before .before .before in
-    failed _ _ _ _ _ _ _ _ _ _ (c12 .send .ensures .0) (c12 .send .ensures .1) _ (c8 .s .given .1) (c4 .undo .ensures _)
+    failed _ _ _ _ _ _ _ _ _ _ (c12 .send .ensures .0) (c12 .send .ensures .1) _ (c8 .s .given .1) (c4 .rollback-interface-configuration .ensures _)
 
 same-length-5 : tie.Need-same-length-5
 same-length-5 c = search needs
 
 returns-3 : tie.Need-returns-3
 returns-3 c =
-    cut _ _ _ _ _ _ _ _ _ _ (c .before .before .before .before .before .send .ensures .0) (c .before .before .before .before .before .send .ensures .1) (c .before .enum-told2 .given .1) (c .stays .ensures)
+    cut _ _ _ _ _ _ _ _ _ _ (c .before .before .before .before .before .send .ensures .0) (c .before .before .before .before .before .send .ensures .1) (c .before .enum-told2 .given .1) (c .settings-kept .ensures)
 
 pub switch-spec : {M : Type 1} → statement M
 switch-spec =
@@ -104,9 +104,9 @@ switch-spec =
     enum-told
     publish-requires
     enum-known-s
-    undo-requires
+    rollback-interface-configuration-requires
     enum-told-2
-    stays-requires
+    settings-kept-requires
     same-length
     same-length-2
     returns

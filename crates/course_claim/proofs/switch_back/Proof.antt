@@ -6,13 +6,13 @@ use borrow.Author.Needs.{needs}
 use Rattle.course_claim.proofs.switch_back.Statement.{statement}
 use Rattle.course_claim.proofs.switch_back.Tie as tie
 
-stays-requires : tie.Need-stays-requires
-stays-requires c κs = search needs
+settings-kept-requires : tie.Need-settings-kept-requires
+settings-kept-requires c κs = search needs
 
 returns : tie.Need-returns
 unfolding claimUndone
 returns c =
-    λ old new ctx routes. rw (not-true (c .before .before .before .before .before .args .a .args .held) (c .before .if1 .taken), played-ends, c .before .before .before .before .before .pre .0, c .stays .ensures)
+    λ old new ctx routes. rw (not-true (c .before .before .before .before .before .args .a .args .held) (c .before .if1 .taken), played-ends, c .before .before .before .before .before .pre .0, c .settings-kept .ensures)
 
 send-requires : tie.Need-send-requires
 send-requires c κs = search needs
@@ -23,20 +23,20 @@ add-count c = search needs
 enum-told : tie.Need-enum-told
 enum-told c = search needs
 
-stays-requires-2 : tie.Need-stays-requires-2
-stays-requires-2 c κs = search needs
+settings-kept-requires-2 : tie.Need-settings-kept-requires-2
+settings-kept-requires-2 c κs = search needs
 
 enum-told-2 : tie.Need-enum-told-2
 enum-told-2 c = search needs
 
-stays-requires-3 : tie.Need-stays-requires-3
-stays-requires-3 c κs = search needs
+settings-kept-requires-3 : tie.Need-settings-kept-requires-3
+settings-kept-requires-3 c κs = search needs
 
 enum-told-3 : tie.Need-enum-told-3
 enum-told-3 c = search needs
 
-stays-requires-4 : tie.Need-stays-requires-4
-stays-requires-4 c κs = search needs
+settings-kept-requires-4 : tie.Need-settings-kept-requires-4
+settings-kept-requires-4 c κs = search needs
 
 same-length : tie.Need-same-length
 same-length c = search needs
@@ -56,7 +56,7 @@ returns-2 c =
       c .before .enum-told .given .1,
       played-ends,
       c11 .pre .0,
-      c .stays2 .ensures,
+      c .settings-kept2 .ensures,
     )
 
 same-length-2 : tie.Need-same-length-2
@@ -76,7 +76,7 @@ returns-3 c =
           c5 .send .ensures .0,
       c .before .enum-told2 .given .1,
       played-ends,
-      c .stays3 .ensures,
+      c .settings-kept3 .ensures,
     )
 
 same-length-3 : tie.Need-same-length-3
@@ -96,23 +96,23 @@ returns-4 c =
           c5 .send .ensures .0,
       c .before .enum-told3 .given .1,
       played-ends,
-      c .stays4 .ensures,
+      c .settings-kept4 .ensures,
     )
 
 pub switch-back-spec : {M : Type 1} → statement M
 switch-back-spec =
     tie.close
     (tie.spec
-    stays-requires
+    settings-kept-requires
     returns
     send-requires
     add-count
     enum-told
-    stays-requires-2
+    settings-kept-requires-2
     enum-told-2
-    stays-requires-3
+    settings-kept-requires-3
     enum-told-3
-    stays-requires-4
+    settings-kept-requires-4
     same-length
     returns-2
     same-length-2

@@ -11,14 +11,14 @@ use Rattle.command.specs.declared.Sent.the-variants as sent
 use Rattle.command.specs.declared.Swept.{Swept}
 use Rattle.command.specs.Command.{commandWord, outcomeAt}
 use Rattle.command.specs.Course.{onSent, ends, Played, played}
-use Rattle.command.specs.Sweep.{resumeAll, SweptAs}
+use Rattle.command.specs.Sweep.{resumeStoppedEndpoints, SweptAs}
 use Rattle.command.proofs.Laws.{played-ends, played-sends, played-then}
 use Rattle.context.specs.Place.{written}
 use Rattle.context.specs.Steps.{configureWrites}
 use Rattle.record_endpoint.specs.declared.pending.Queues.{Queues}
-use Rattle.course_steps.specs.declared.Ended.{Ended}
-use Rattle.course_steps.specs.End.{End, stays, configureFailed}
-use Rattle.course_steps.specs.Arrays.{dcisIn, queuesIn, leaves}
+use Rattle.course_steps.specs.declared.CourseEnd.{CourseEnd}
+use Rattle.course_steps.specs.End.{End, settingsKept, configureFailed}
+use Rattle.course_steps.specs.Arrays.{dcisIn, queuesIn, courseLeaves}
 use Rattle.course_steps.proofs.Laws.{dcis-in}
 use Rattle.course_release.specs.declared.ReleaseArgs.{ReleaseArgs}
 use Rattle.course_release.specs.Release.{releaseOf, releaseContext, releasePublish, releaseResume, releaseConfigure}
@@ -35,7 +35,7 @@ module _ (a : ReleaseArgs) (none : Queues) (words ctx next routes o log left : L
       (onSent s
       (releasePublish (releaseOf a words) next routes)
       (λ code. releaseResume (releaseOf a words) code next routes)
-      (ends (stays answer.Cut 0 next routes)))
+      (ends (settingsKept answer.Cut 0 next routes)))
       left
 
   configured : queuesIn none ≡ [] →
@@ -49,15 +49,15 @@ module _ (a : ReleaseArgs) (none : Queues) (words ctx next routes o log left : L
   unfolding Configured onSent
   done g d x = rw (g, d) x
 
-  failed : (code : ℕ) (back : Swept) (after : List ℕ) (x : Answer) {r : Ended} → Configured → s ≡ sent.Failed code →
-      SweptAs back after (played o (n + 1) (resumeAll next (dcisIn (a .old))) left) → x ≡ configureFailed code (back .sent) →
+  failed : (code : ℕ) (back : Swept) (after : List ℕ) (x : Answer) {r : CourseEnd} → Configured → s ≡ sent.Failed code →
+      SweptAs back after (played o (n + 1) (resumeStoppedEndpoints next (dcisIn (a .old))) left) → x ≡ configureFailed code (back .sent) →
       r ≡ record { answer = x; count = back .count; active = back .active; moved = false } →
-      leaves r next routes after ≡ played o n (releaseConfigure (releaseOf a words) ctx routes) log
+      courseLeaves r next routes after ≡ played o n (releaseConfigure (releaseOf a words) ctx routes) log
   unfolding Configured onSent releaseResume
   failed code back after x g d b e r = rw (g, d, dcis-in, played-then, ← b .sent, ← b .active, ← b .count, ← b .log, played-ends, r, e)
 
-  cut : {r : Ended} → Configured → s ≡ sent.Cut → r ≡ record { answer = answer.Cut; count = n + 1; active = 0; moved = false } →
-      leaves r next routes left ≡ played o n (releaseConfigure (releaseOf a words) ctx routes) log
+  cut : {r : CourseEnd} → Configured → s ≡ sent.Cut → r ≡ record { answer = answer.Cut; count = n + 1; active = 0; moved = false } →
+      courseLeaves r next routes left ≡ played o n (releaseConfigure (releaseOf a words) ctx routes) log
   unfolding Configured onSent
   cut g d r = rw (g, d, played-ends, r)
 
@@ -85,20 +85,20 @@ publish-requires c κs = search needs
 enum-known-s : tie.Need-enum-known-s
 enum-known-s c = search needs
 
-resume-queues-requires : tie.Need-resume-queues-requires
-resume-queues-requires c κs = search needs
+resume-stopped-endpoints-requires : tie.Need-resume-stopped-endpoints-requires
+resume-stopped-endpoints-requires c κs = search needs
 
 configure-failed-requires : tie.Need-configure-failed-requires
 configure-failed-requires c κs = search needs
 
-stays-requires : tie.Need-stays-requires
-stays-requires c κs = search needs
+settings-kept-requires : tie.Need-settings-kept-requires
+settings-kept-requires c κs = search needs
 
 enum-told-2 : tie.Need-enum-told-2
 enum-told-2 c = search needs
 
-stays-requires-2 : tie.Need-stays-requires-2
-stays-requires-2 c κs = search needs
+settings-kept-requires-2 : tie.Need-settings-kept-requires-2
+settings-kept-requires-2 c κs = search needs
 
 same-length : tie.Need-same-length
 same-length c = search needs
@@ -134,7 +134,7 @@ returns-2 c =
     let c18 = c15 .before .before .before in
     failed _ _ _ _ _ _ _ _ _ _ _ _ _ _ _ (configured _ _ _ _ _ _ _ _ _ _ _ (c18 .no-queues .ensures .0)
     (c15 .prepare-configure .ensures) (c11 .send .ensures .0) (c11 .send .ensures .1)) (c7 .s .given .1)
-    (c4 .resume-queues .ensures _) (c .before .configure-failed .ensures) (c .stays .ensures)
+    (c4 .resume-stopped-endpoints .ensures _) (c .before .configure-failed .ensures) (c .settingsKept .ensures)
 
 same-length-6 : tie.Need-same-length-6
 same-length-6 c = search needs
@@ -149,7 +149,7 @@ returns-3 c =
     let c12 = c9 .before .before .before in
     cut _ _ _ _ _ _ _ _ _ _ _ (configured _ _ _ _ _ _ _ _ _ _ _ (c12 .no-queues .ensures .0)
     (c9 .prepare-configure .ensures) (c5 .send .ensures .0) (c5 .send .ensures .1)) (c .before .enum-told2 .given .1)
-    (c .stays2 .ensures)
+    (c .settings-kept2 .ensures)
 
 pub configure-spec : {M : Type 1} → statement M
 configure-spec =
@@ -163,11 +163,11 @@ configure-spec =
     enum-told
     publish-requires
     enum-known-s
-    resume-queues-requires
+    resume-stopped-endpoints-requires
     configure-failed-requires
-    stays-requires
+    settings-kept-requires
     enum-told-2
-    stays-requires-2
+    settings-kept-requires-2
     same-length
     same-length-2
     same-length-3

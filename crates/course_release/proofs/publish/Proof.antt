@@ -9,7 +9,7 @@ use Rattle.transfer.specs.declared.Replaced.the-variants as replace
 use Rattle.transfer.proofs.Replaced.{the-type}
 use Rattle.transfer.specs.Routes.{moved, withReplaced}
 use Rattle.command.proofs.Laws.{played-ends}
-use Rattle.course_steps.specs.End.{stays}
+use Rattle.course_steps.specs.End.{settingsKept}
 use Rattle.course_release.specs.Release.{Release, releasePublished, releasePublish}
 use borrow.Author.Needs.{needs}
 use Rattle.course_release.proofs.publish.Statement.{statement}
@@ -20,7 +20,7 @@ abbrev keys : List ℕ
 keys = 1 ∷ 2 ∷ []
 
 kept : (a : Release) (ctx routes : List ℕ) (r : Replaced) → OneOf keys (tagOf the-type r) →
-    releasePublished r a ctx routes ≡ stays answer.InvalidEndpoint 0 ctx (moved r routes (a .slot) (a .old) [])
+    releasePublished r a ctx routes ≡ settingsKept answer.InvalidEndpoint 0 ctx (moved r routes (a .slot) (a .old) [])
 unfolding releasePublished moved
 kept a ctx routes replace.Done h = absurd (miss keys 0 tt h)
 kept a ctx routes replace.InvalidEndpoint h = refl
@@ -35,11 +35,11 @@ publish-endpoint-routes-requires c κs = search needs
 enum-told : tie.Need-enum-told
 enum-told c = search needs
 
-moves-requires : tie.Need-moves-requires
-moves-requires c κs = search needs
+settings-moved-requires : tie.Need-settings-moved-requires
+settings-moved-requires c κs = search needs
 
-stays-requires : tie.Need-stays-requires
-stays-requires c κs = search needs
+settings-kept-requires : tie.Need-settings-kept-requires
+settings-kept-requires c κs = search needs
 
 same-length : tie.Need-same-length
 same-length c = search needs
@@ -52,7 +52,7 @@ returns c =
     let e = c5 .publish-endpoint-routes .ensures in let r = rw (c7 .no-queues .ensures .0) at (e .0) in let t = rw
     (c7 .no-queues .ensures .0) at (e .1) in λ words o ctx log. rw (
       played-ends,
-      c .moves .ensures,
+      c .settings-moved .ensures,
       t,
       ← r,
       c .before .enum-told .given .1,
@@ -69,7 +69,7 @@ returns-2 c =
     let e = c4 .publish-endpoint-routes .ensures in let r = rw (c6 .no-queues .ensures .0) at (e .0) in let t = rw
     (c6 .no-queues .ensures .0) at (e .1) in λ words o ctx log. rw (
       played-ends,
-      c .stays .ensures,
+      c .settingsKept .ensures,
       t,
       ← r,
       kept _ _ _ _
@@ -83,8 +83,8 @@ publish-spec =
     no-queues-requires
     publish-endpoint-routes-requires
     enum-told
-    moves-requires
-    stays-requires
+    settings-moved-requires
+    settings-kept-requires
     same-length
     returns
     same-length-2

@@ -1,4 +1,4 @@
-use Rattle.context_block.specs.Setting.{settled}
+use Rattle.context_block.specs.FieldWrite.{fieldsWritten}
 use Rattle.context_block.specs.Blocks.{changed}
 use borrow.Author.Needs.{needs}
 use Rattle.context_block_writer.proofs.control.perper_change.Statement.{statement}
@@ -14,7 +14,7 @@ same-length : tie.Need-same-length
 same-length c = search needs
 
 returns : tie.Need-returns
-unfolding settled changed
+unfolding fieldsWritten changed
 returns c = rw (c .before .before .put-field2 .ensures, c .before .before .before .before .before .before .put-field .ensures)
 
 pub perper-change-spec : {M : Type 1} → statement M

@@ -5,8 +5,8 @@ use native.Mathlib.Omega.{arith}
 use Rattle.context_field.specs.Field.{writeField}
 use Rattle.context_field.proofs.Laws.{write-words}
 use Rattle.context_block.specs.Fields.{DCS, TR-DEQUEUE-POINTER-LO, TR-DEQUEUE-POINTER-HI, AVERAGE-TRB-LENGTH}
-use Rattle.context_block.specs.Setting.{settled}
-use Rattle.context_block.specs.Blocks.{ringSettings, addressEndpoint}
+use Rattle.context_block.specs.FieldWrite.{fieldsWritten}
+use Rattle.context_block.specs.Blocks.{ringFields, addressEndpoint}
 use borrow.Author.Needs.{needs}
 use Rattle.context_block_writer.proofs.endpoint.address_endpoint.Statement.{statement}
 use Rattle.context_block_writer.proofs.endpoint.address_endpoint.Tie as tie
@@ -14,9 +14,9 @@ use Rattle.context_block_writer.proofs.endpoint.address_endpoint.Tie as
 -- The average length may be written before the ring.
 average-first :
     (b : List ℕ) (ring : ℕ) →
-    writeField (settled (ringSettings ring) b) AVERAGE-TRB-LENGTH 8
-    ≡ settled (ringSettings ring) (writeField b AVERAGE-TRB-LENGTH 8)
-unfolding settled ringSettings
+    writeField (fieldsWritten (ringFields ring) b) AVERAGE-TRB-LENGTH 8
+    ≡ fieldsWritten (ringFields ring) (writeField b AVERAGE-TRB-LENGTH 8)
+unfolding fieldsWritten ringFields
 average-first b ring =
     let lo = writeField b TR-DEQUEUE-POINTER-LO (ring / 2 ^ 4) in
     let hi = writeField lo TR-DEQUEUE-POINTER-HI (ring / 2 ^ 32) in
@@ -43,7 +43,7 @@ same-length : tie.Need-same-length
 same-length c = search needs
 
 returns : tie.Need-returns
-unfolding settled addressEndpoint
+unfolding fieldsWritten addressEndpoint
 returns c =
     let c6 = c .before .before .before .before .before .before in
     let c8 = c6 .before .before in

@@ -1,6 +1,6 @@
 use mathlib.Core.Path.{_∙_}
-use Rattle.context_block.specs.Setting.{settled}
-use Rattle.context_block.specs.Blocks.{ringSettings}
+use Rattle.context_block.specs.FieldWrite.{fieldsWritten}
+use Rattle.context_block.specs.Blocks.{ringFields}
 use borrow.Author.Needs.{needs}
 use Rattle.context_block_writer.proofs.endpoint.put_common.Statement.{statement}
 use Rattle.context_block_writer.proofs.endpoint.put_common.Tie as tie
@@ -27,7 +27,7 @@ same-length : tie.Need-same-length
 same-length c = search needs
 
 returns : tie.Need-returns
-unfolding settled ringSettings
+unfolding fieldsWritten ringFields
 returns c =
     let c6 = c .before .before .before .before .before .before in
     let c10 = c6 .before .before .before .before in

@@ -6,9 +6,9 @@ use denote.Enum.Declared.{tagOf}
 use Rattle.descriptor.proofs.TransferType.{the-type}
 use Rattle.descriptor.specs.declared.TransferType.{TransferType}
 use Rattle.descriptor.specs.declared.TransferType.the-variants.{Control, Isochronous, Bulk, Interrupt}
-use Rattle.context_block.specs.Setting.{settled}
-use Rattle.context_block.specs.Blocks.{errorCount, basicSettings, ringSettings, periodicSettings, endpointSettings, burstOf}
-use Rattle.context_block.proofs.Laws.{settled-append}
+use Rattle.context_block.specs.FieldWrite.{fieldsWritten}
+use Rattle.context_block.specs.Blocks.{errorCount, basicFields, ringFields, periodicFields, endpointFields, burstOf}
+use Rattle.context_block.proofs.Laws.{fields-written-append}
 use borrow.Author.Needs.{needs}
 use Rattle.context_block_writer.proofs.endpoint.put_endpoint.Statement.{statement}
 use Rattle.context_block_writer.proofs.endpoint.put_endpoint.Tie as tie
@@ -33,8 +33,8 @@ errors-are c =
 basic :
     (c : tie.After-put-common) →
     c .put-common .last .0
-    ≡ settled (ringSettings (c .before .before .before .before .before .before .before .before .before .before .before .args .ring)) (settled (basicSettings (c .before .before .before .before .before .before .before .before .before .before .before .args .speed) (c .before .before .before .before .before .before .before .before .before .before .before .args .e)) (c .before .before .before .before .before .before .before .before .before .before .before .args .block .now))
-unfolding settled basicSettings
+    ≡ fieldsWritten (ringFields (c .before .before .before .before .before .before .before .before .before .before .before .args .ring)) (fieldsWritten (basicFields (c .before .before .before .before .before .before .before .before .before .before .before .args .speed) (c .before .before .before .before .before .before .before .before .before .before .before .args .e)) (c .before .before .before .before .before .before .before .before .before .before .before .args .block .now))
+unfolding fieldsWritten basicFields
 basic c =
     let c5 = c .before .before .before .before .before in
     let c7 = c5 .before .before in
@@ -101,7 +101,7 @@ same-length : tie.Need-same-length
 same-length c = search needs
 
 returns : tie.Need-returns
-unfolding settled periodicSettings endpointSettings burstOf
+unfolding fieldsWritten periodicFields endpointFields burstOf
 returns c =
     let c6 = c .before .before .before .before .before .before in
     let c10 = c6 .before .before .before .before in
@@ -112,8 +112,8 @@ returns c =
     let c19 = c18 .before in
     let c22 = c19 .before .before .before in
     c .before .before .put-field5 .ensures ∙ rw (
-      settled-append,
-      settled-append,
+      fields-written-append,
+      fields-written-append,
       ← c19 .is-periodic .ensures,
       c18 .if1 .taken,
       c6 .put-field4 .ensures,
@@ -128,8 +128,8 @@ same-length-2 : tie.Need-same-length-2
 same-length-2 c = search needs
 
 returns-2 : tie.Need-returns-2
-unfolding settled endpointSettings
-returns-2 c = basic (c .before .before .before .before) ∙ rw (settled-append, settled-append, ← c .before .is-periodic .ensures, c .if1 .left)
+unfolding fieldsWritten endpointFields
+returns-2 c = basic (c .before .before .before .before) ∙ rw (fields-written-append, fields-written-append, ← c .before .is-periodic .ensures, c .if1 .left)
 
 pub put-endpoint-spec : {M : Type 1} → statement M
 put-endpoint-spec =

@@ -1,7 +1,7 @@
 use mathlib.Core.Path.{_≡_, refl}
 use mathlib.Core.Bool.{Bool, true, false, cond}
 use mir.Val.{boolByte}
-use Rattle.context_block.specs.Setting.{settled}
+use Rattle.context_block.specs.FieldWrite.{fieldsWritten}
 use Rattle.context_block.specs.Blocks.{addressSlot}
 use borrow.Author.Needs.{needs}
 use Rattle.context_block_writer.proofs.slot.address_slot.Statement.{statement}
@@ -45,7 +45,7 @@ same-length : tie.Need-same-length
 same-length c = search needs
 
 returns : tie.Need-returns
-unfolding settled addressSlot
+unfolding fieldsWritten addressSlot
 returns c =
     let c7 = c .before .before .before .before .before .before .before in
     let c12 = c7 .before .before .before .before .before in

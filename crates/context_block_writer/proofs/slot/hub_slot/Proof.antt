@@ -3,9 +3,9 @@ use mathlib.Core.Logic.{⊎-elim}
 use native.Mathlib.Omega.{arith}
 use lib.ListN.{length}
 use borrow.Author.Tests.{eq-eqb, ne-eqb}
-use Rattle.context_block.specs.Setting.{settled}
-use Rattle.context_block.specs.Blocks.{multiSettings, thinkSettings, hubSettings}
-use Rattle.context_block.proofs.Laws.{settled-append, settled-length}
+use Rattle.context_block.specs.FieldWrite.{fieldsWritten}
+use Rattle.context_block.specs.Blocks.{multiFields, thinkFields, hubFields}
+use Rattle.context_block.proofs.Laws.{fields-written-append, fields-written-length}
 use borrow.Author.Needs.{needs}
 use Rattle.context_block_writer.proofs.slot.hub_slot.Statement.{statement}
 use Rattle.context_block_writer.proofs.slot.hub_slot.Tie as tie
@@ -14,9 +14,9 @@ use Rattle.context_block_writer.proofs.slot.hub_slot.Tie as tie
 multi-put :
     (c : tie.Joined1-2) →
     c .if1 .block
-    ≡ settled (multiSettings (c .before .before .before .before .before .before .args .speed) (c .before .before .before .before .before .before .args .multi))
+    ≡ fieldsWritten (multiFields (c .before .before .before .before .before .before .args .speed) (c .before .before .before .before .before .before .args .multi))
     (c .before .before .before .put-field .last .0)
-unfolding settled multiSettings
+unfolding fieldsWritten multiFields
 multi-put c =
     ⊎-elim
     (λ w.
@@ -29,7 +29,7 @@ multi-put c =
 joined-length : (c : tie.Joined1-2) → length (c .if1 .block) ≡ length (c .before .before .before .before .before .before .args .block .now)
 joined-length c =
     let start = c .before .before .before .before .before .before in
-    rw (multi-put c, settled-length (multiSettings (start .args .speed) (start .args .multi)))
+    rw (multi-put c, fields-written-length (multiFields (start .args .speed) (start .args .multi)))
     (c .before .before .before .put-field .kept .0)
 
 put-field-requires : tie.Need-put-field-requires
@@ -58,7 +58,7 @@ same-length c =
     omega (arith, c .before .before .put-field4 .kept .0, c7 .put-field3 .kept .0, joined-length (c9))
 
 returns : tie.Need-returns
-unfolding settled thinkSettings hubSettings
+unfolding fieldsWritten thinkFields hubFields
 returns c =
     let c4 = c .before .before .before .before in
     let c7 = c4 .before .before .before in
@@ -68,7 +68,7 @@ returns c =
       c7 .put-field3 .ensures,
       multi-put (c9),
       c12 .put-field .ensures,
-      settled-append,
+      fields-written-append,
       eq-eqb _ _ (c4 .if3 .taken),
     )
 
@@ -76,12 +76,12 @@ same-length-2 : tie.Need-same-length-2
 same-length-2 c = omega (arith, c .before .before .before .put-field3 .kept .0, joined-length (c .before .before .before .before .before))
 
 returns-2 : tie.Need-returns-2
-unfolding settled thinkSettings hubSettings
+unfolding fieldsWritten thinkFields hubFields
 returns-2 c =
     let c3 = c .before .before .before in
     let c5 = c3 .before .before in
     let c8 = c5 .before .before .before in
-    c3 .put-field3 .ensures ∙ rw (multi-put (c5), c8 .put-field .ensures, settled-append, ne-eqb _ _ (c .if3 .left))
+    c3 .put-field3 .ensures ∙ rw (multi-put (c5), c8 .put-field .ensures, fields-written-append, ne-eqb _ _ (c .if3 .left))
 
 pub hub-slot-spec : {M : Type 1} → statement M
 hub-slot-spec =

@@ -5,7 +5,7 @@ use native.Mathlib.Nat.{add-sub-cancel-left}
 use native.Mathlib.Omega.{arith}
 use lib.ListN.{length, drop, replicate, length-replicate}
 use borrow.Author.Needs.{needs}
-use Rattle.context_block.specs.Setting.{settled, inside, allInside}
+use Rattle.context_block.specs.FieldWrite.{fieldsWritten, inside, allInside}
 use Rattle.context.specs.Place.{onPart}
 use Rattle.context.specs.Steps.{addressContext, addressWrites}
 use Rattle.context.proofs.Laws.{written-append, written-slot, written-block}
@@ -80,7 +80,7 @@ same-length : tie.Need-same-length Inv-loop μ-loop
 same-length c = search needs
 
 returns : tie.Need-returns Inv-loop μ-loop
-unfolding addressContext addressWrites onPart settled inside allInside
+unfolding addressContext addressWrites onPart fieldsWritten inside allInside
 returns c =
     let c6 = c .before .before .before .before .before .before in
     let c10 = c6 .before .before .before .before in

@@ -1,7 +1,7 @@
 use mathlib.Core.Path.{refl}
 use native.Mathlib.Nat.{add-sub-cancel-left}
 use native.Mathlib.Omega.{arith}
-use Rattle.context_block.specs.Setting.{settled, inside, allInside}
+use Rattle.context_block.specs.FieldWrite.{fieldsWritten, inside, allInside}
 use Rattle.context_block.specs.Blocks.{changed}
 use Rattle.context.specs.Place.{onPart}
 use Rattle.context.specs.Steps.{maxPacketWrites}
@@ -45,7 +45,7 @@ same-length : tie.Need-same-length
 same-length c = search needs
 
 returns : tie.Need-returns
-unfolding maxPacketWrites onPart changed settled inside allInside
+unfolding maxPacketWrites onPart changed fieldsWritten inside allInside
 returns c =
     let c4 = c .before .before .before .before in
     let c7 = c4 .before .before .before in

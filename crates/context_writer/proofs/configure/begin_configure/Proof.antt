@@ -1,5 +1,5 @@
 use mathlib.Core.Path.{refl}
-use Rattle.context_block.specs.Setting.{settled, inside, allInside}
+use Rattle.context_block.specs.FieldWrite.{fieldsWritten, inside, allInside}
 use Rattle.context_block.specs.Blocks.{changed}
 use Rattle.context_block_writer.proofs.Laws.{control-written}
 use borrow.Author.Needs.{needs}
@@ -19,7 +19,7 @@ same-length : tie.Need-same-length
 same-length c = search needs
 
 returns : tie.Need-returns
-unfolding changed settled inside allInside
+unfolding changed fieldsWritten inside allInside
 returns c =
     let c6 = c .before .before .before .before .before .before in
     let c10 = c6 .before .before .before .before in

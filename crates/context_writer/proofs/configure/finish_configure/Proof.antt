@@ -1,5 +1,5 @@
 use native.Mathlib.Nat.{add-sub-cancel-left}
-use Rattle.context_block.specs.Setting.{settled}
+use Rattle.context_block.specs.FieldWrite.{fieldsWritten}
 use Rattle.context.specs.Place.{onPart}
 use Rattle.context.proofs.Laws.{written-slot}
 use borrow.Author.Needs.{needs}
@@ -25,7 +25,7 @@ same-length : tie.Need-same-length
 same-length c = search needs
 
 returns : tie.Need-returns
-unfolding onPart settled
+unfolding onPart fieldsWritten
 returns c = rw (written-slot, c .before .before .put-field .ensures, add-sub-cancel-left)
 
 pub finish-configure-spec : {M : Type 1} → statement M

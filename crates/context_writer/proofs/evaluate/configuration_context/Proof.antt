@@ -1,5 +1,5 @@
 use mathlib.Core.Path.{refl, _∙_}
-use Rattle.context_block.specs.Setting.{settled, inside, allInside}
+use Rattle.context_block.specs.FieldWrite.{fieldsWritten, inside, allInside}
 use Rattle.context_block.specs.Blocks.{changed}
 use Rattle.context.specs.Steps.{configurationWrites}
 use Rattle.context_block_writer.proofs.Laws.{control-written}
@@ -17,7 +17,7 @@ same-length : tie.Need-same-length
 same-length c = search needs
 
 returns : tie.Need-returns
-unfolding configurationWrites changed settled inside allInside
+unfolding configurationWrites changed fieldsWritten inside allInside
 returns c =
     let c6 = c .before .before .before .before .before .before in
     let c9 = c6 .before .before .before in

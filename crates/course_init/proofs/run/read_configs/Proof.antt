@@ -11,7 +11,7 @@ use mathlib.Core.Path.{_≡_, refl, ap, _∙_}
 use Prim.Native.Nat.{ℕ, _<_, _≤_, _-_, _+_}
 use Rattle.descriptor_list.specs.Valid.{configurations}
 use Rattle.course_steps.specs.End.{answerOf}
-use Rattle.course_init.specs.declared.run.Ended.{Ended}
+use Rattle.course_init.specs.declared.run.InitEnd.{InitEnd}
 use native.Mathlib.Omega.{arith}
 use Rattle.course_init.proofs.run.read_configs.Statement.{statement}
 use Rattle.course_init.proofs.run.read_configs.Tie as tie
@@ -57,7 +57,7 @@ returns c =
     let c7 = c6 .before in
     let c8 = c7 .before in
     let c12 = c8 .before .before .before .before in (
-      λ t. none-accepted _ _ (c .before .match .keys2) (ap (λ (e : Ended). e .answer) (c .after-reading .ensures)) t,
+      λ t. none-accepted _ _ (c .before .match .keys2) (ap (λ (e : InitEnd). e .answer) (c .after-reading .ensures)) t,
       λ hubs
           ctx routes spacing. let n : 0 < configurations (c12 .args .list .now) = omega (
             arith,

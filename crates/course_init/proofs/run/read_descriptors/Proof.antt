@@ -2,7 +2,7 @@ use Rattle.course_init.proofs.Steps.{none-accepted, done, stopped-befor
 use Rattle.course_init.specs.Reading.{bringUpOf}
 use Rattle.course_init.specs.Init.{bringUpConfiguration, bringUpDevice}
 use Rattle.course_init.specs.Parts.{bringUpRest}
-use Rattle.course_init.specs.declared.run.Ended.{Ended}
+use Rattle.course_init.specs.declared.run.InitEnd.{InitEnd}
 use mathlib.Core.Path.{ap, _∙_}
 use borrow.Author.Needs.{needs}
 use Rattle.course_init.proofs.run.read_descriptors.Statement.{statement}
@@ -24,7 +24,7 @@ returns : tie.Need-returns
 returns c =
     let c4 = c .before .before .before .before in
     let c9 = c4 .before .before .before .before .before in (
-      λ t. none-accepted _ _ (c .before .match .keys2) (ap (λ (e : Ended). e .answer) (c .before-reading .ensures)) t,
+      λ t. none-accepted _ _ (c .before .match .keys2) (ap (λ (e : InitEnd). e .answer) (c .before-reading .ensures)) t,
       λ hubs
           ctx routes spacing. stopped-before _ _ _ _ _ _ (c4 .send .ensures) ctx routes _ _ _ (c .before .match .keys2) _
           (c9 .pre .1) (c .before-reading .ensures),
@@ -49,7 +49,7 @@ returns-2 c =
     let c6 = c4 .before .before in
     let c10 = c6 .before .before .before .before in
     let c15 = c10 .before .before .before .before .before in (
-      λ t. none-accepted _ _ (c .before .match2 .keys2) (ap (λ (e : Ended). e .answer) (c .before-reading2 .ensures)) t,
+      λ t. none-accepted _ _ (c .before .match2 .keys2) (ap (λ (e : InitEnd). e .answer) (c .before-reading2 .ensures)) t,
       λ
           hubs ctx routes spacing. done _ _ _ _ _ _ (c10 .send .ensures) _ ctx routes _ (c6 .enum-told .given .1) ∙ stopped-before
           _ _ _ _ _ _ (c4 .send2 .ensures) ctx routes _ _ _ (c .before .match2 .keys2) _ (c15 .pre .1)
@@ -77,7 +77,7 @@ returns-3 c =
     let c12 = c10 .before .before in
     let c16 = c12 .before .before .before .before in
     let c21 = c16 .before .before .before .before .before in (
-      λ t. none-accepted _ _ (c .before .match3 .keys2) (ap (λ (e : Ended). e .answer) (c .after-reading .ensures)) t,
+      λ t. none-accepted _ _ (c .before .match3 .keys2) (ap (λ (e : InitEnd). e .answer) (c .after-reading .ensures)) t,
       λ hubs
           ctx routes spacing. done _ _ _ _ _ _ (c16 .send .ensures) _ ctx routes _ (c12 .enum-told .given .1) ∙ done _ _ _ _ _ _
           (c10 .send2 .ensures) _ ctx routes _ (c6 .enum-told2 .given .1) ∙ stopped-after _ _ _ _ _ _ (c4 .send3 .ensures) ctx

@@ -1,6 +1,6 @@
 use Rattle.course_init.proofs.Steps.{done, stopped-before, short-header, leads-on}
 use Rattle.course_init.specs.Init.{bringUpHeader}
-use Rattle.course_init.specs.declared.run.Ended.{Ended}
+use Rattle.course_init.specs.declared.run.InitEnd.{InitEnd}
 use Rattle.course_steps.specs.End.{answerOf}
 use mathlib.Core.Path.{ap, _∙_}
 use native.Mathlib.Omega.{arith}
@@ -76,7 +76,7 @@ returns-4 c =
     let c17 = c13 .before .before .before .before in
     λ hubs list ctx routes spacing v. done _ _ _ _ _ _ (c13 .send .ensures) _ ctx routes _ (c9 .enum-told .given .1) ∙ done
     _ _ _ _ _ _ (c7 .send2 .ensures) _ ctx routes _ (c3 .enum-told2 .given .1) ∙ leads-on _ list ctx routes _ _ (ap (λ (e :
-    Ended). e .answer) (c .before-reading3 .ensures) ∙ rw (c3 .enum-told2 .given .1)) (rw (eq-eqb (c17 .args .a .header) 8
+    InitEnd). e .answer) (c .before-reading3 .ensures) ∙ rw (c3 .enum-told2 .given .1)) (rw (eq-eqb (c17 .args .a .header) 8
     (omega (arith, c .before .if1 .left))))
 
 pub read-header-spec : {M : Type 1} → statement M

@@ -1,7 +1,7 @@
 use Rattle.course_init.proofs.Steps.{first-room, set-done, set-refused}
 use Rattle.course_init.specs.Reading.{bringUpOf}
 use Rattle.course_init.specs.Init.{bringUpSettings}
-use Rattle.course_steps.specs.Arrays.{leaves}
+use Rattle.course_steps.specs.Arrays.{courseLeaves}
 use Rattle.record_settings.specs.Held.{heldIn, heldWords}
 use mathlib.Core.Path.{sym, _∙_}
 use native.Mathlib.Omega.{arith}
@@ -53,7 +53,7 @@ returns c =
     let c12 = c8 .before .before .before .before in
     let c14 = c12 .before .before in
     let c21 = c14 .before .before .before .before .before .before .before in
-    λ hubs. let a = c21 .args .a in let list = c21 .args .list .now in let p = leaves (c8 .run-set-configuration .result)
+    λ hubs. let a = c21 .args .a in let list = c21 .args .list .now in let p = courseLeaves (c8 .run-set-configuration .result)
     (c8 .run-set-configuration .last .0) (c8 .run-set-configuration .last .1 .0) (c8 .run-set-configuration .last .1 .1 .0)
     in set-done (bringUpOf a hubs list) (c21 .args .spacing) (c21 .args .ctx .now) (c21 .args .routes .now)
     (c21 .args .outcomes .now) (c21 .args .read .count) (c21 .args .log .now) p (sym (c8 .run-set-configuration .ensures ∙
@@ -76,7 +76,7 @@ returns-2 c =
     let c11 = c7 .before .before .before .before in
     let c13 = c11 .before .before in
     let c20 = c13 .before .before .before .before .before .before .before in
-    λ hubs. let a = c20 .args .a in let list = c20 .args .list .now in let p = leaves (c7 .run-set-configuration .result)
+    λ hubs. let a = c20 .args .a in let list = c20 .args .list .now in let p = courseLeaves (c7 .run-set-configuration .result)
     (c7 .run-set-configuration .last .0) (c7 .run-set-configuration .last .1 .0) (c7 .run-set-configuration .last .1 .1 .0)
     in set-refused (bringUpOf a hubs list) (c20 .args .spacing) (c20 .args .ctx .now) (c20 .args .routes .now)
     (c20 .args .outcomes .now) (c20 .args .read .count) (c20 .args .log .now) p (sym (c7 .run-set-configuration .ensures ∙

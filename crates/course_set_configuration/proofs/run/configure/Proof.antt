@@ -43,8 +43,8 @@ returns c =
 enum-told-2 : tie.Need-enum-told-2
 enum-told-2 c = search needs
 
-stays-requires : tie.Need-stays-requires
-stays-requires c κs = search needs
+settings-kept-requires : tie.Need-settings-kept-requires
+settings-kept-requires c κs = search needs
 
 same-length-3 : tie.Need-same-length-3
 same-length-3 c = search needs
@@ -59,8 +59,8 @@ returns-2 c =
     let c16 = c9 .before .before .before .before .before .before .before in
     configure-cut (settingsOf (c16 .args .a) (c16 .args .list .now)) (c16 .args .outcomes .now) (c16 .args .ctx .now)
     (c16 .args .routes .now) (c16 .args .log .now) (c16 .args .n) (c9 .prepare-drop .last .0) (c5 .send .last .0)
-    (c5 .send .result) (c9 .prepare-drop .ensures) (c5 .send .ensures) (c .stays .result) (c .before .enum-told2 .given .1)
-    (c .stays .ensures)
+    (c5 .send .result) (c9 .prepare-drop .ensures) (c5 .send .ensures) (c .settings-kept .result) (c .before .enum-told2 .given .1)
+    (c .settings-kept .ensures)
 
 send-requires-2 : tie.Need-send-requires-2
 send-requires-2 c κs = search needs
@@ -102,8 +102,8 @@ returns-3 c =
 enum-told-4 : tie.Need-enum-told-4
 enum-told-4 c = search needs
 
-stays-requires-2 : tie.Need-stays-requires-2
-stays-requires-2 c κs = search needs
+settings-kept-requires-2 : tie.Need-settings-kept-requires-2
+settings-kept-requires-2 c κs = search needs
 
 same-length-7 : tie.Need-same-length-7
 same-length-7 c = search needs
@@ -122,8 +122,8 @@ returns-4 c =
     (c22 .args .routes .now) (c22 .args .log .now) (c22 .args .n) (c15 .prepare-drop .last .0) (c11 .send .last .0)
     (c11 .send .result) (c15 .prepare-drop .ensures) (c11 .send .ensures) (c7 .enum-told .given .1) (switch-cut (settingsOf
     (c22 .args .a) (c22 .args .list .now)) (c22 .args .outcomes .now) (c15 .prepare-drop .last .0) (c22 .args .routes .now)
-    (c11 .send .last .0) _ (c5 .send2 .last .0) (c5 .send2 .result) (c5 .send2 .ensures) (c .stays2 .result)
-    (c .before .enum-told4 .given .1) (c .stays2 .ensures))
+    (c11 .send .last .0) _ (c5 .send2 .last .0) (c5 .send2 .result) (c5 .send2 .ensures) (c .settings-kept2 .result)
+    (c .before .enum-told4 .given .1) (c .settings-kept2 .ensures))
 
 publish-requires : tie.Need-publish-requires
 publish-requires c κs = search needs
@@ -167,7 +167,7 @@ configure-spec =
     same-length-2
     returns
     enum-told-2
-    stays-requires
+    settings-kept-requires
     same-length-3
     same-length-4
     returns-2
@@ -180,7 +180,7 @@ configure-spec =
     same-length-6
     returns-3
     enum-told-4
-    stays-requires-2
+    settings-kept-requires-2
     same-length-7
     same-length-8
     returns-4

@@ -14,8 +14,8 @@ publish-endpoint-routes-requires c κs = search needs
 enum-told : tie.Need-enum-told
 enum-told c = search needs
 
-stays-requires : tie.Need-stays-requires
-stays-requires c κs = search needs
+settings-kept-requires : tie.Need-settings-kept-requires
+settings-kept-requires c κs = search needs
 
 same-length : tie.Need-same-length
 same-length c = search needs
@@ -28,7 +28,7 @@ returns c =
     λ list. let e = c4 .publish-endpoint-routes .ensures in let r = rw (c6 .no-queues .ensures .0) at (e .0) in let t = rw
     (c6 .no-queues .ensures .0) at (e .1) in not-published (settingsOf (c11 .args .a) list) (c11 .args .outcomes .now)
     (c11 .args .ctx .now) (c11 .args .routes .now) (c11 .args .log .now) (c4 .publish-endpoint-routes .last .0)
-    (c11 .args .n) _ (c4 .publish-endpoint-routes .result) (r, t) (c .before .match .keys2) (c .stays .ensures)
+    (c11 .args .n) _ (c4 .publish-endpoint-routes .result) (r, t) (c .before .match .keys2) (c .settings-kept .ensures)
 
 configuration-context-requires : tie.Need-configuration-context-requires
 configuration-context-requires c κs = search needs
@@ -39,11 +39,11 @@ send-requires c κs = search needs
 answer-after-requires : tie.Need-answer-after-requires
 answer-after-requires c κs = search needs
 
-add-moves : tie.Need-add-moves
-add-moves c = search needs
+add-settings-moved : tie.Need-add-settings-moved
+add-settings-moved c = search needs
 
-moves-requires : tie.Need-moves-requires
-moves-requires c κs = search needs
+settings-moved-requires : tie.Need-settings-moved-requires
+settings-moved-requires c κs = search needs
 
 same-length-2 : tie.Need-same-length-2
 same-length-2 c = search needs
@@ -68,7 +68,7 @@ returns-2 c =
     (c21 .args .ctx .now) (c21 .args .routes .now) (c21 .args .log .now) (c14 .publish-endpoint-routes .last .0)
     (c21 .args .n) _ (c14 .publish-endpoint-routes .result) (r, t) (c8 .configuration-context .last .0) (c4 .send .last .0)
     (c4 .send .result) (c10 .enum-told .given .1) (c8 .configuration-context .ensures (c21 .args .a .spacing))
-    (c4 .send .ensures) (c .moves .ensures ∙ rw (c .before .answer-after .ensures))
+    (c4 .send .ensures) (c .settings-moved .ensures ∙ rw (c .before .answer-after .ensures))
 
 pub publish-spec : {M : Type 1} → statement M
 publish-spec =
@@ -77,14 +77,14 @@ publish-spec =
     no-queues-requires
     publish-endpoint-routes-requires
     enum-told
-    stays-requires
+    settings-kept-requires
     same-length
     returns
     configuration-context-requires
     send-requires
     answer-after-requires
-    add-moves
-    moves-requires
+    add-settings-moved
+    settings-moved-requires
     same-length-2
     same-length-3
     same-length-4

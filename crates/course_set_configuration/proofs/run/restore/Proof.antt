@@ -19,8 +19,8 @@ enum-told c = search needs
 enum-told-2 : tie.Need-enum-told-2
 enum-told-2 c = search needs
 
-stays-requires : tie.Need-stays-requires
-stays-requires c κs = search needs
+settings-kept-requires : tie.Need-settings-kept-requires
+settings-kept-requires c κs = search needs
 
 same-length : tie.Need-same-length
 same-length c = search needs
@@ -35,14 +35,14 @@ returns c =
     let c15 = c9 .before .before .before .before .before .before in
     λ routes. not-restored (settingsOf (c15 .args .a) (c15 .args .list .now)) (c15 .args .outcomes .now)
     (c15 .args .ctx .now) routes (c15 .args .log .now) (c15 .args .n) (c15 .args .code) (c9 .prepare-restore .last .0)
-    (c5 .send .last .0) (c5 .send .result) (c9 .prepare-restore .ensures) (c5 .send .ensures) (c .stays .result) _
-    (c .before .enum-told2 .given .1) (c .stays .ensures)
+    (c5 .send .last .0) (c5 .send .result) (c9 .prepare-restore .ensures) (c5 .send .ensures) (c .settings-kept .result) _
+    (c .before .enum-told2 .given .1) (c .settings-kept .ensures)
 
 enum-told-3 : tie.Need-enum-told-3
 enum-told-3 c = search needs
 
-stays-requires-2 : tie.Need-stays-requires-2
-stays-requires-2 c κs = search needs
+settings-kept-requires-2 : tie.Need-settings-kept-requires-2
+settings-kept-requires-2 c κs = search needs
 
 same-length-3 : tie.Need-same-length-3
 same-length-3 c = search needs
@@ -57,8 +57,8 @@ returns-2 c =
     let c15 = c9 .before .before .before .before .before .before in
     λ routes. restore-cut (settingsOf (c15 .args .a) (c15 .args .list .now)) (c15 .args .outcomes .now)
     (c15 .args .ctx .now) routes (c15 .args .log .now) (c15 .args .n) (c15 .args .code) (c9 .prepare-restore .last .0)
-    (c5 .send .last .0) (c5 .send .result) (c9 .prepare-restore .ensures) (c5 .send .ensures) (c .stays2 .result)
-    (c .before .enum-told3 .given .1) (c .stays2 .ensures)
+    (c5 .send .last .0) (c5 .send .result) (c9 .prepare-restore .ensures) (c5 .send .ensures) (c .settings-kept2 .result)
+    (c .before .enum-told3 .given .1) (c .settings-kept2 .ensures)
 
 resume-requires : tie.Need-resume-requires
 resume-requires c κs = search needs
@@ -90,12 +90,12 @@ restore-spec =
     add-next
     enum-told
     enum-told-2
-    stays-requires
+    settings-kept-requires
     same-length
     same-length-2
     returns
     enum-told-3
-    stays-requires-2
+    settings-kept-requires-2
     same-length-3
     same-length-4
     returns-2

@@ -4,23 +4,23 @@ use borrow.Author.Needs.{needs}
 use Rattle.course_set_configuration.proofs.run.resume.Statement.{statement}
 use Rattle.course_set_configuration.proofs.run.resume.Tie as tie
 
-resume-queues-requires : tie.Need-resume-queues-requires
-resume-queues-requires c κs = search needs
+resume-stopped-endpoints-requires : tie.Need-resume-stopped-endpoints-requires
+resume-stopped-endpoints-requires c κs = search needs
 
 answer-after-requires : tie.Need-answer-after-requires
 answer-after-requires c κs = search needs
 
-stays-requires : tie.Need-stays-requires
-stays-requires c κs = search needs
+settings-kept-requires : tie.Need-settings-kept-requires
+settings-kept-requires c κs = search needs
 
 same-length : tie.Need-same-length
 same-length c = search needs
 
 returns : tie.Need-returns
 unfolding resumed
-returns c = λ ctx routes. let a = c .before .before .before .before .resume-queues .ensures ctx in rw (played-then, ← a .sent, ← a .active, ← a .count, ← a .log, played-ends, c .stays .ensures, c .before .answer-after .ensures)
+returns c = λ ctx routes. let a = c .before .before .before .before .resume-stopped-endpoints .ensures ctx in rw (played-then, ← a .sent, ← a .active, ← a .count, ← a .log, played-ends, c .settings-kept .ensures, c .before .answer-after .ensures)
 
 pub resume-spec : {M : Type 1} → statement M
 resume-spec =
     tie.close
-    (tie.spec resume-queues-requires answer-after-requires stays-requires same-length returns)
+    (tie.spec resume-stopped-endpoints-requires answer-after-requires settings-kept-requires same-length returns)

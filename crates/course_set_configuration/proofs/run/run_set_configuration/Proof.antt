@@ -8,8 +8,8 @@ use borrow.Author.Needs.{needs}
 use Rattle.course_set_configuration.proofs.run.run_set_configuration.Statement.{statement}
 use Rattle.course_set_configuration.proofs.run.run_set_configuration.Tie as tie
 
-stop-queues-requires : tie.Need-stop-queues-requires
-stop-queues-requires c κs = search needs
+stop-endpoints-requires : tie.Need-stop-endpoints-requires
+stop-endpoints-requires c κs = search needs
 
 enum-told : tie.Need-enum-told
 enum-told c = search needs
@@ -19,19 +19,19 @@ configure-requires c κs =
     let c3 = c .before .before .before in
     let c7 = c3 .before .before .before .before in
     let c14 = c7 .before .before .before .before .before .before .before in
-    (c14 .pre .0, (c14 .pre .1 .0, let e = stopped-count _ _ _ _ _ _ _ (c7 .stop-queues .ensures []) (c3 .enum-told .given .1) in omega (arith, e, c7 .stop-queues .kept .0, c14 .pre .1 .1)))
+    (c14 .pre .0, (c14 .pre .1 .0, let e = stopped-count _ _ _ _ _ _ _ (c7 .stop-endpoints .ensures []) (c3 .enum-told .given .1) in omega (arith, e, c7 .stop-endpoints .kept .0, c14 .pre .1 .1)))
 
 enum-told-2 : tie.Need-enum-told-2
 enum-told-2 c = search needs
 
-stays-requires : tie.Need-stays-requires
-stays-requires c κs = search needs
+settings-kept-requires : tie.Need-settings-kept-requires
+settings-kept-requires c κs = search needs
 
 enum-told-3 : tie.Need-enum-told-3
 enum-told-3 c = search needs
 
-stays-requires-2 : tie.Need-stays-requires-2
-stays-requires-2 c κs = search needs
+settings-kept-requires-2 : tie.Need-settings-kept-requires-2
+settings-kept-requires-2 c κs = search needs
 
 same-length : tie.Need-same-length
 same-length c = search needs
@@ -49,7 +49,7 @@ returns c =
     let c10 = c6 .before .before .before .before in
     let c14 = c10 .before .before .before .before in
     let c21 = c14 .before .before .before .before .before .before .before in
-    let a = c14 .stop-queues .ensures (c21 .args .ctx .now) in rw
+    let a = c14 .stop-endpoints .ensures (c21 .args .ctx .now) in rw
     (dcis-in, played-then, ← a .sent, ← a .count, ← a .log, c10 .enum-told .given .1) (c6 .configure .ensures)
 
 same-length-4 : tie.Need-same-length-4
@@ -60,8 +60,8 @@ unfolding setCourse onSent
 returns-2 c =
     let c5 = c .before .before .before .before .before in
     let c12 = c5 .before .before .before .before .before .before .before in
-    let a = c5 .stop-queues .ensures (c12 .args .ctx .now) in rw
-    (dcis-in, played-then, ← a .sent, ← a .active, ← a .count, ← a .log, c .before .enum-told2 .given .1, played-ends, c .stays .ensures)
+    let a = c5 .stop-endpoints .ensures (c12 .args .ctx .now) in rw
+    (dcis-in, played-then, ← a .sent, ← a .active, ← a .count, ← a .log, c .before .enum-told2 .given .1, played-ends, c .settings-kept .ensures)
 
 same-length-5 : tie.Need-same-length-5
 same-length-5 c = search needs
@@ -71,20 +71,20 @@ unfolding setCourse onSent
 returns-3 c =
     let c5 = c .before .before .before .before .before in
     let c12 = c5 .before .before .before .before .before .before .before in
-    let a = c5 .stop-queues .ensures (c12 .args .ctx .now) in rw
-    (dcis-in, played-then, ← a .sent, ← a .active, ← a .count, ← a .log, c .before .enum-told3 .given .1, played-ends, c .stays2 .ensures)
+    let a = c5 .stop-endpoints .ensures (c12 .args .ctx .now) in rw
+    (dcis-in, played-then, ← a .sent, ← a .active, ← a .count, ← a .log, c .before .enum-told3 .given .1, played-ends, c .settings-kept2 .ensures)
 
 pub run-set-configuration-spec : {M : Type 1} → statement M
 run-set-configuration-spec =
     tie.close
     (tie.spec
-    stop-queues-requires
+    stop-endpoints-requires
     enum-told
     configure-requires
     enum-told-2
-    stays-requires
+    settings-kept-requires
     enum-told-3
-    stays-requires-2
+    settings-kept-requires-2
     same-length
     same-length-2
     same-length-3

@@ -29,8 +29,8 @@ returns c =
 enum-told : tie.Need-enum-told
 enum-told c = search needs
 
-cells-in-requires : tie.Need-cells-in-requires
-cells-in-requires c κs =
+endpoint-map-in-requires : tie.Need-endpoint-map-in-requires
+endpoint-map-in-requires c κs =
     record-passed _ _ _ _ _ (c .before .before .before .record-check .ensures) (c .before .enum-told .given .1) .facts .counts .endpoints
 
 array-share-prefix-list : tie.Need-array-share-prefix-list
@@ -63,7 +63,7 @@ returns-2 c =
     let c7 = c5 .before .before in
     let s = c7 .before .before in
     claim-checked (s .args .d) (s .args .interface) (s .args .alternate) (s .args .rings .now) _ _ _ (c7 .record-check .result)
-    (c7 .record-check .ensures) (c3 .cells-in .result) (c .offer-check .result) (c5 .enum-told .given .1) (c3 .cells-in .ensures)
+    (c7 .record-check .ensures) (c3 .endpoint-map-in .result) (c .offer-check .result) (c5 .enum-told .given .1) (c3 .endpoint-map-in .ensures)
     (c .offer-check .ensures)
 
 pub claim-check-spec : {M : Type 1} → statement M
@@ -74,7 +74,7 @@ claim-check-spec =
     enum-known-check
     returns
     enum-told
-    cells-in-requires
+    endpoint-map-in-requires
     array-share-prefix-list
     slice-aggregate-offer-check
     slice-aggregate-offer-check-2

@@ -39,8 +39,8 @@ with-setting-requires : tie.Need-with-setting-requires
 unfolding heldOf
 with-setting-requires c κs = c .before .before .pre .0
 
-claimed-cells-requires : tie.Need-claimed-cells-requires
-claimed-cells-requires c κs = search needs
+claimed-endpoints-requires : tie.Need-claimed-endpoints-requires
+claimed-endpoints-requires c κs = search needs
 
 enum-told : tie.Need-enum-told
 enum-told c = search needs
@@ -58,10 +58,10 @@ returns c =
     let c4 = c3 .before in
     let c7 = c4 .before .before .before in
     let s = c7 in λ ctx routes log rings h. claim-made (s .args .d) (s .args .interface) (s .args .alternate) rings
-    (c .before .if1 .d) (s .args .c) (c3 .claimed-cells .result) (s .args .q) (s .args .e) (s .args .pending)
-    (c .at-end .result) (c3 .claimed-cells .ensures) (left (c .before)) (c .at-end .ensures (withSetting
+    (c .before .if1 .d) (s .args .c) (c3 .claimed-endpoints .result) (s .args .q) (s .args .e) (s .args .pending)
+    (c .at-end .result) (c3 .claimed-endpoints .ensures) (left (c .before)) (c .at-end .ensures (withSetting
     (s .args .interface) (s .args .alternate) (heldOf (s .args .d))) (c4 .with-setting .ensures)) (s .pre .1 .0)
     (s .pre .1 .2) h ctx routes log
 
 pub claim-end-spec : {M : Type 1} → statement M
-claim-end-spec = tie.close (tie.spec with-setting-requires claimed-cells-requires enum-told quarantined-rings-requires at-end-requires returns)
+claim-end-spec = tie.close (tie.spec with-setting-requires claimed-endpoints-requires enum-told quarantined-rings-requires at-end-requires returns)

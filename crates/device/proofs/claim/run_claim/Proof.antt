@@ -88,8 +88,8 @@ part-new-words-end c =
 pending-rings-requires : tie.Need-pending-rings-requires
 pending-rings-requires c κs = search needs
 
-cells-in-requires : tie.Need-cells-in-requires
-cells-in-requires c κs =
+endpoint-map-in-requires : tie.Need-endpoint-map-in-requires
+endpoint-map-in-requires c κs =
     ready (c .before .before .before .before .before .before .before .before .before .before .before) .facts .counts .endpoints
 
 owned-rings-requires : tie.Need-owned-rings-requires
@@ -123,7 +123,7 @@ claim-end-requires c κs =
     let f = ready s in
     let fits = with-fits (listOf (s .args .d)) (heldOf (s .args .d)) (s .args .interface) (s .args .alternate) (f .facts .list) (f .facts .settings) (ap isFound (s .pre .1)) in (
       (f .facts .counts .held, fits),
-      (c15 .cells-in .ensures, none-quarantined (s .args .d) (f .usable) (f .is-sound), c11 .queues-of2 .ensures),
+      (c15 .endpoint-map-in .ensures, none-quarantined (s .args .d) (f .usable) (f .is-sound), c11 .queues-of2 .ensures),
     )
 
 same-length : tie.Need-same-length
@@ -154,9 +154,9 @@ returns c =
     let alt = s .args .alternate in
     let n = new-words d i alt (s .args .start) (s .args .count) (s .pre .1) in
     let by : c17 .pending-rings .result ≡ pendingOf d i alt (s .args .rings .now) = c17 .pending-rings .ensures ∙ rw n in
-    claim-left d i alt (s .args .rings .now) _ (c16 .cells-in .result) (c17 .pending-rings .result) _ _ (s .args .outcomes .now)
+    claim-left d i alt (s .args .rings .now) _ (c16 .endpoint-map-in .result) (c17 .pending-rings .result) _ _ (s .args .outcomes .now)
     (s .args .ctx .now) (s .args .routes .now) (s .args .log .now) _ _ _ (c7 .claim-interface .result) (c .claim-end .result)
-    (c16 .cells-in .ensures) by (held c19) n (c21 .claim-args .ensures) (rw (← c14 .owned-rings .ensures) (c13 .queues-of .ensures))
+    (c16 .endpoint-map-in .ensures) by (held c19) n (c21 .claim-args .ensures) (rw (← c14 .owned-rings .ensures) (c13 .queues-of .ensures))
     (c12 .queues-of2 .ensures) (c11 .queues-of3 .ensures) (c7 .claim-interface .ensures) (c .claim-end .ensures _ _ _ _ by)
 
 pub run-claim-spec : {M : Type 1} → statement M
@@ -176,7 +176,7 @@ run-claim-spec =
     part-new-words-start
     part-new-words-end
     pending-rings-requires
-    cells-in-requires
+    endpoint-map-in-requires
     owned-rings-requires
     queues-of-requires
     queues-of-requires-2

@@ -1,7 +1,7 @@
 use mathlib.Core.Path.{ap, _∙_}
 use mathlib.Core.Logic.{inl, inr, ⊎-elim}
-use Rattle.record_endpoint.specs.Cells.{withActive}
-use Rattle.device.specs.Device.{withCells}
+use Rattle.record_endpoint.specs.EndpointMap.{withActive}
+use Rattle.device.specs.Device.{withEndpoints}
 use Rattle.device.proofs.Ends.{handed, settled}
 use borrow.Author.Needs.{needs}
 use Rattle.device.proofs.update.at_end.Statement.{statement}
@@ -17,7 +17,7 @@ marked-requires : tie.Need-marked-requires
 marked-requires c κs = search needs
 
 returns : tie.Need-returns
-unfolding withCells
+unfolding withEndpoints
 returns c =
     let c3 = c .before .before .before in
     let c4 = c3 .before in

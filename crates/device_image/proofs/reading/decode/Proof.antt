@@ -6,7 +6,7 @@ use Prim.Native.Nat.{ℕ}
 use native.Mathlib.Omega.{arith}
 use lib.ListN.{getD}
 use borrow.Author.Tests.{eq-eqb, ne-eqb, not-true, not-false}
-use Rattle.record_endpoint.specs.Cells.{tabulated}
+use Rattle.record_endpoint.specs.EndpointMap.{tabulated}
 use Rattle.device.specs.Device.{rebuilt, noDevice}
 use Rattle.device_image.specs.Layout.{USABLE, CONFIGURED, CONTROL-REVOKED, SLOT, N, PORT-SPEED, CURRENT-CONFIG-VALUE, SPACING, LIST-LEN, HELD-COUNT, QUARANTINED-COUNT, CONTROL}
 use Rattle.device_image.specs.Image.{isSet, handleIn, numberAt, endpointIn, read, isImage, decode}

@@ -4,7 +4,7 @@ use mir.Syntax.{w32}
 use native.Mathlib.Nat.{zero-add}
 use native.Mathlib.Omega.{arith}
 use borrow.Author.Tests.{not-true, not-false}
-use Rattle.hub.specs.Route.{ports, routeOf, routeString}
+use Rattle.hub.specs.Route.{ports, routeOfPorts, routeString}
 use Rattle.hub.proofs.Laws.{depth-below}
 use Rattle.hub.proofs.Steps.{route-up, route-room, route-end, route-small}
 use borrow.Author.Needs.{needs, fits-under}
@@ -13,7 +13,7 @@ use Rattle.hub.proofs.route.route_string.Tie as tie
 
 abbrev Inv-loop : tie.InvT-loop
 Inv-loop hubs has-parent parent port at₀ at-port₀ depth-plus-one₀ route₀ at at-port depth-plus-one route =
-    (depth-plus-one < 8) × (routeString hubs has-parent parent port ≡ route + routeOf (ports hubs at at-port depth-plus-one))
+    (depth-plus-one < 8) × (routeString hubs has-parent parent port ≡ route + routeOfPorts (ports hubs at at-port depth-plus-one))
 
 abbrev μ-loop : tie.MeasureT-loop
 μ-loop hubs has-parent parent port at₀ at-port₀ depth-plus-one₀ route₀ at at-port depth-plus-one route = depth-plus-one

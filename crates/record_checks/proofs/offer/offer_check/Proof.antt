@@ -35,15 +35,15 @@ part-words-end c =
     let h = found-inside _ _ _ _ _ (sym (c .before .before .before .find-interface-endpoints .ensures) ∙ c .before .found .given .1) in
     omega (arith, h)
 
-addresses-free-requires : tie.Need-addresses-free-requires
-addresses-free-requires c κs = search needs
+validate-endpoint-addresses-requires : tie.Need-validate-endpoint-addresses-requires
+validate-endpoint-addresses-requires c κs = search needs
 
 returns : tie.Need-returns
 returns c =
     let c4 = c .before .before .before .before in
     let c6 = c4 .before .before in
     not-free _ _ _ _ _ _ _ _ _ (sym (c6 .find-interface-endpoints .ensures) ∙ c4 .found .given .1)
-    (sym (rw add-sub-cancel-left at (c .before .addresses-free .ensures)) ∙ not-true (c .before .addresses-free .result) (c .if1 .taken))
+    (sym (rw add-sub-cancel-left at (c .before .validate-endpoint-addresses .ensures)) ∙ not-true (c .before .validate-endpoint-addresses .result) (c .if1 .taken))
 
 offer-ok-requires : tie.Need-offer-ok-requires
 offer-ok-requires c κs = search needs
@@ -55,7 +55,7 @@ returns-2 c =
     let c9 = c6 .before .before .before in
     let c11 = c9 .before .before in
     passes _ _ _ _ _ _ _ _ _ (sym (c11 .find-interface-endpoints .ensures) ∙ c9 .found .given .1)
-    (sym (rw add-sub-cancel-left at (c6 .addresses-free .ensures)) ∙ not-false (c6 .addresses-free .result) (c5 .if1 .left))
+    (sym (rw add-sub-cancel-left at (c6 .validate-endpoint-addresses .ensures)) ∙ not-false (c6 .validate-endpoint-addresses .result) (c5 .if1 .left))
     (sym (c .before .offer-ok .ensures) ∙ c .if2 .taken)
 
 enum-told : tie.Need-enum-told
@@ -68,7 +68,7 @@ returns-3 c =
     let c9 = c6 .before .before .before in
     let c11 = c9 .before .before in
     not-fit _ _ _ _ _ _ _ _ _ (sym (c11 .find-interface-endpoints .ensures) ∙ c9 .found .given .1)
-    (sym (rw add-sub-cancel-left at (c6 .addresses-free .ensures)) ∙ not-false (c6 .addresses-free .result) (c5 .if1 .left))
+    (sym (rw add-sub-cancel-left at (c6 .validate-endpoint-addresses .ensures)) ∙ not-false (c6 .validate-endpoint-addresses .result) (c5 .if1 .left))
     (sym (c .before .offer-ok .ensures) ∙ c .if2 .left)
 
 returns-4 : tie.Need-returns-4
@@ -86,7 +86,7 @@ offer-check-spec =
     sub-words
     part-words-start
     part-words-end
-    addresses-free-requires
+    validate-endpoint-addresses-requires
     returns
     offer-ok-requires
     returns-2

@@ -51,8 +51,8 @@ returns-3 c =
           (c .before .addresses-fit .result) (c .if3 .taken),
     )
 
-cells-of-requires : tie.Need-cells-of-requires
-cells-of-requires c κs = search needs
+endpoint-map-of-requires : tie.Need-endpoint-map-of-requires
+endpoint-map-of-requires c κs = search needs
 
 endpoints-match-requires : tie.Need-endpoints-match-requires
 endpoints-match-requires c κs = search needs
@@ -73,7 +73,7 @@ returns-4 c =
       not-false
           (c3 .addresses-fit .result) (c .before .before .if3 .left),
       c .endpoints-match .ensures,
-      c .before .cells-of .ensures,
+      c .before .endpoint-map-of .ensures,
     )
 
 pub lists-sound-spec : {M : Type 1} → statement M
@@ -88,6 +88,6 @@ lists-sound-spec =
     returns-2
     addresses-fit-requires
     returns-3
-    cells-of-requires
+    endpoint-map-of-requires
     endpoints-match-requires
     returns-4)

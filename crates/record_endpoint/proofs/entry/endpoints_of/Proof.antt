@@ -6,7 +6,7 @@ use mathlib.Core.Bool.{false}
 use native.Mathlib.Omega.{arith}
 use lib.ListN.{getD}
 use Rattle.record_endpoint.specs.Endpoint.{blank}
-use Rattle.record_endpoint.specs.Cells.{handleOf, endpointAt, endpointsOf, ownersOf}
+use Rattle.record_endpoint.specs.EndpointMap.{handleOf, endpointAt, endpointsOf, ownersOf}
 use Rattle.record_endpoint.proofs.Steps.{Filled, fill-none, fill-next, fill-skip, address-made}
 use borrow.Author.Needs.{needs}
 use Rattle.record_endpoint.proofs.entry.endpoints_of.Statement.{statement}

@@ -4,7 +4,7 @@ use native.Mathlib.Omega.{arith}
 use lib.ListN.{length, drop, getD, replicate, length-set, List·getD-eq-default}
 use mathlib.Core.Logic.{⊎-elim}
 use lib.Seq.{set-out}
-use Rattle.record_endpoint.specs.Cells.{pendingFrom, pendingRings}
+use Rattle.record_endpoint.specs.EndpointMap.{pendingFrom, pendingRings}
 use Rattle.record_endpoint.proofs.Steps.{pending-next, pending-none}
 use borrow.Author.Needs.{needs}
 use Rattle.record_endpoint.proofs.pending.pending_rings.Statement.{statement}

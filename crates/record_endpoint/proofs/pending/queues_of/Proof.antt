@@ -3,7 +3,7 @@ use Prim.Native.Nat.{_≤_, _-_}
 use native.Mathlib.Omega.{arith}
 use lib.ListN.{length, getD}
 use Rattle.record_endpoint.specs.Order.{dciAt}
-use Rattle.record_endpoint.specs.Cells.{queuesOf}
+use Rattle.record_endpoint.specs.EndpointMap.{queuesOf}
 use Rattle.record_endpoint.proofs.Steps.{Filled, fill-none, fill-next, fill-skip, gathered-length, take-filled, queues-dcis, queues-rings, dci-made}
 use borrow.Author.Needs.{needs}
 use Rattle.record_endpoint.proofs.pending.queues_of.Statement.{statement}

@@ -5,17 +5,17 @@ use mathlib.Core.Bool.{true, false, Bool·beq}
 use borrow.Author.Needs.{needs}
 use borrow.Author.Tests.{eq-eqb, ne-eqb, not-true, not-false}
 use lib.ListN.{getD}
-use Rattle.record_endpoint.specs.Cells.{isOwned, owns}
-use Rattle.record_endpoint.specs.declared.cells.Owner.the-variants.{Interface}
+use Rattle.record_endpoint.specs.EndpointMap.{isOwned, owns}
+use Rattle.record_endpoint.specs.declared.endpoint_map.Owner.the-variants.{Interface}
 use Rattle.record_settings.specs.Held.{settingWords}
-use Rattle.record_settings.specs.Match.{same, eachFrom, eachPlace, ownsPlaces}
+use Rattle.record_settings.specs.Match.{agree, eachFrom, eachPlace, ownsPlaces}
 use Rattle.record_settings.proofs.Steps.{each-next, each-none, same-test, owns-same}
 use Rattle.record_settings.proofs.matching.owns_places.Statement.{statement}
 use Rattle.record_settings.proofs.matching.owns_places.Tie as tie
 
 abbrev Inv-loop : tie.InvT-loop
 Inv-loop list interface alternate c places p₀ p =
-    (p ≤ 30) × (ownsPlaces (settingWords list interface alternate) interface c ≡ eachFrom (λ q. same (getD places q false) (isOwned (Interface interface) c q)) (30 - p) p)
+    (p ≤ 30) × (ownsPlaces (settingWords list interface alternate) interface c ≡ eachFrom (λ q. agree (getD places q false) (isOwned (Interface interface) c q)) (30 - p) p)
 
 abbrev μ-loop : tie.MeasureT-loop
 μ-loop list interface alternate c places p₀ p = 30 - p

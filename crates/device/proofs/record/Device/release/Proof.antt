@@ -1,5 +1,5 @@
 use Rattle.record_settings.specs.Held.{withoutSetting}
-use Rattle.device.specs.Device.{listOf, cellsIn, heldOf}
+use Rattle.device.specs.Device.{listOf, endpointMapIn, heldOf}
 use Rattle.device.specs.Release.{releaseCheck, release}
 use Rattle.course_steps.proofs.Laws.{room-as}
 use Rattle.device.proofs.Laws.{record-passed, refused-first, own-check}
@@ -54,8 +54,8 @@ returns-2 c =
 enum-told-2 : tie.Need-enum-told-2
 enum-told-2 c = search needs
 
-cells-in-requires : tie.Need-cells-in-requires
-cells-in-requires c κs =
+endpoint-map-in-requires : tie.Need-endpoint-map-in-requires
+endpoint-map-in-requires c κs =
     let c7 = c .before .before .before .before .before .before .before in
     let c9 = c7 .before .before in
     record-passed _ _ _ _ _ (c9 .record-check .ensures) (c7 .enum-told .given .1) .facts .counts .endpoints
@@ -95,8 +95,8 @@ without-setting-requires c κs =
     let c25 = c23 .before .before in
     record-passed _ _ _ _ _ (c25 .record-check .ensures) (c23 .enum-told .given .1) .facts .counts .held
 
-claimed-cells-requires : tie.Need-claimed-cells-requires
-claimed-cells-requires c κs = search needs
+claimed-endpoints-requires : tie.Need-claimed-endpoints-requires
+claimed-endpoints-requires c κs = search needs
 
 at-end-requires : tie.Need-at-end-requires
 at-end-requires c κs = search needs
@@ -111,7 +111,7 @@ same-length-3 : tie.Need-same-length-3
 same-length-3 c = search needs
 
 returns-3 : tie.Need-returns-3
-unfolding releaseCheck listOf heldOf cellsIn
+unfolding releaseCheck listOf heldOf endpointMapIn
 returns-3 c =
     let c9 = c .before .before .before .before .before .before .before .before .before in
     let c13 = c9 .before .before .before .before in
@@ -125,14 +125,14 @@ returns-3 c =
     let c28 = c26 .before .before in
     let c33 = c28 .before .before .before .before .before in
     let s = c33 in release-left (s .args .self) (s .args .interface) (c15 .alternate-of .result) (c21 .held-check .result)
-    (c18 .cells-in .result) (c .before .claimed-cells .result) (c16 .owned-rings .result) (c14 .queues-of .result)
+    (c18 .endpoint-map-in .result) (c .before .claimed-endpoints .result) (c16 .owned-rings .result) (c14 .queues-of .result)
     (c13 .queues-of2 .result) (s .args .outcomes .now) (s .args .ctx .now) (s .args .routes .now) (s .args .log .now) _ _ _
     (c9 .release-interface .result) (c .at-end .result) (own-check _ _ _ _ (c28 .record-check .result) (releaseCheck
     (c33 .args .self) (c33 .args .interface)) (c28 .record-check .ensures) (c26 .enum-told .given .1)
     (c21 .held-check .result) (c21 .held-check .ensures (c33 .args .self .alternates))) (c19 .enum-told2 .given .1)
-    (c18 .cells-in .ensures) (c15 .alternate-of .ensures) (c16 .owned-rings .ensures) (c14 .queues-of .ensures)
-    (c13 .queues-of2 .ensures) (c9 .release-interface .ensures) (c .before .claimed-cells .ensures) (c .at-end .ensures
+    (c18 .endpoint-map-in .ensures) (c15 .alternate-of .ensures) (c16 .owned-rings .ensures) (c14 .queues-of .ensures)
+    (c13 .queues-of2 .ensures) (c9 .release-interface .ensures) (c .before .claimed-endpoints .ensures) (c .at-end .ensures
     (withoutSetting (s .args .interface) (heldOf (s .args .self))) (c .before .before .without-setting .ensures))
 
 pub release-spec : {M : Type 1} → statement M
-release-spec = tie.close (tie.spec record-check-requires enum-known-check refused-requires returns enum-told held-check-requires enum-known-known refused-requires-2 returns-2 enum-told-2 cells-in-requires owned-rings-requires alternate-of-requires queues-of-requires queues-of-requires-2 release-interface-requires without-setting-requires claimed-cells-requires at-end-requires same-length same-length-2 same-length-3 returns-3)
+release-spec = tie.close (tie.spec record-check-requires enum-known-check refused-requires returns enum-told held-check-requires enum-known-known refused-requires-2 returns-2 enum-told-2 endpoint-map-in-requires owned-rings-requires alternate-of-requires queues-of-requires queues-of-requires-2 release-interface-requires without-setting-requires claimed-endpoints-requires at-end-requires same-length same-length-2 same-length-3 returns-3)

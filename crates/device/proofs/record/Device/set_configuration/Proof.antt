@@ -6,7 +6,7 @@ use lib.Seq.{length-take-le}
 use Rattle.record_endpoint.specs.Endpoint.{padded}
 use Rattle.record_settings.specs.Held.{interfacesOf, alternatesOf}
 use Rattle.course_steps.proofs.Laws.{room-as}
-use Rattle.device.specs.Device.{cellsIn}
+use Rattle.device.specs.Device.{endpointMapIn}
 use Rattle.device.specs.SetConfiguration.{setConfiguration}
 use Rattle.device.proofs.Laws.{record-passed}
 use Rattle.device.proofs.Exits.{refused-left}
@@ -39,8 +39,8 @@ returns c =
 enum-told : tie.Need-enum-told
 enum-told c = search needs
 
-cells-in-requires : tie.Need-cells-in-requires
-cells-in-requires c κs = record-passed _ _ _ _ _ (c .before .before .before .before .before .record-check .ensures) (c .before .before .before .enum-told .given .1) .facts .counts .endpoints
+endpoint-map-in-requires : tie.Need-endpoint-map-in-requires
+endpoint-map-in-requires c κs = record-passed _ _ _ _ _ (c .before .before .before .before .before .record-check .ensures) (c .before .before .before .enum-told .given .1) .facts .counts .endpoints
 
 queues-of-requires : tie.Need-queues-of-requires
 queues-of-requires c κs = search needs
@@ -84,8 +84,8 @@ run-set-configuration-requires c κs =
 configured-requires : tie.Need-configured-requires
 configured-requires c κs = search needs
 
-no-cells-requires : tie.Need-no-cells-requires
-no-cells-requires c κs = search needs
+no-endpoints-requires : tie.Need-no-endpoints-requires
+no-endpoints-requires c κs = search needs
 
 at-end-requires : tie.Need-at-end-requires
 at-end-requires c κs = search needs
@@ -100,7 +100,7 @@ same-length-3 : tie.Need-same-length-3
 same-length-3 c = search needs
 
 returns-2 : tie.Need-returns-2
-unfolding padded interfacesOf alternatesOf cellsIn
+unfolding padded interfacesOf alternatesOf endpointMapIn
 returns-2 c =
     let c9 = c .before .before .before .before .before .before .before .before .before in
     let c14 = c9 .before .before .before .before .before in
@@ -108,12 +108,12 @@ returns-2 c =
     let c21 = c17 .before .before .before .before in
     let c23 = c21 .before .before in
     let c28 = c23 .before .before .before .before .before in
-    let s = c28 in set-left (s .args .self) (s .args .value) (c23 .record-check .result) (c17 .cells-in .result)
-    (c .before .no-cells .result) (c14 .queues-of .result) (s .args .outcomes .now) (s .args .ctx .now)
+    let s = c28 in set-left (s .args .self) (s .args .value) (c23 .record-check .result) (c17 .endpoint-map-in .result)
+    (c .before .no-endpoints .result) (c14 .queues-of .result) (s .args .outcomes .now) (s .args .ctx .now)
     (s .args .routes .now) (s .args .log .now) _ _ _ (c9 .run-set-configuration .result)
     (c .before .before .configured .result) (c .at-end .result) (c23 .record-check .ensures) (c21 .enum-told .given .1)
-    (c17 .cells-in .ensures) (c14 .queues-of .ensures) (c9 .run-set-configuration .ensures)
-    (c .before .before .configured .ensures) (c .before .no-cells .ensures) (c .at-end .ensures [] (record {
+    (c17 .endpoint-map-in .ensures) (c14 .queues-of .ensures) (c9 .run-set-configuration .ensures)
+    (c .before .before .configured .ensures) (c .before .no-endpoints .ensures) (c .at-end .ensures [] (record {
       interfaces =
           refl;
       alternates = refl;
@@ -122,4 +122,4 @@ returns-2 c =
     }))
 
 pub set-configuration-spec : {M : Type 1} → statement M
-set-configuration-spec = tie.close (tie.spec record-check-requires enum-known-check refused-requires returns enum-told cells-in-requires queues-of-requires array-share-prefix-list slice-aggregate-run-set-configuration run-set-configuration-requires configured-requires no-cells-requires at-end-requires same-length same-length-2 same-length-3 returns-2)
+set-configuration-spec = tie.close (tie.spec record-check-requires enum-known-check refused-requires returns enum-told endpoint-map-in-requires queues-of-requires array-share-prefix-list slice-aggregate-run-set-configuration run-set-configuration-requires configured-requires no-endpoints-requires at-end-requires same-length same-length-2 same-length-3 returns-2)

@@ -1,29 +1,29 @@
 use mathlib.Core.Path.{sym, _∙_}
 use borrow.Author.Tests.{not-true, not-false}
-use Rattle.device.specs.Device.{listOf, cellsIn, heldOf, quarantinedOf}
-use Rattle.device.specs.Sound.{placeSound, countsFit, listsSound, allRings, ringsSound, sound}
+use Rattle.device.specs.Device.{listOf, endpointMapIn, heldOf, quarantinedOf}
+use Rattle.device.specs.Sound.{slotSound, countsFit, listsSound, allRings, ringsSound, sound}
 use Rattle.device.proofs.Facts.{count-facts}
 use borrow.Author.Needs.{needs}
 use Rattle.device.proofs.record.Device.sound.Statement.{statement}
 use Rattle.device.proofs.record.Device.sound.Tie as tie
 
-place-sound-requires : tie.Need-place-sound-requires
-place-sound-requires c κs = search needs
+slot-sound-requires : tie.Need-slot-sound-requires
+slot-sound-requires c κs = search needs
 
 returns : tie.Need-returns
-unfolding sound placeSound
-returns c = rw (← c .before .place-sound .ensures, not-true (c .before .place-sound .result) (c .if1 .taken))
+unfolding sound slotSound
+returns c = rw (← c .before .slot-sound .ensures, not-true (c .before .slot-sound .result) (c .if1 .taken))
 
 counts-fit-requires : tie.Need-counts-fit-requires
 counts-fit-requires c κs = search needs
 
 returns-2 : tie.Need-returns-2
-unfolding sound placeSound countsFit
+unfolding sound slotSound countsFit
 returns-2 c =
     let c3 = c .before .before .before in
     rw (
-      ← c3 .place-sound .ensures,
-      not-false (c3 .place-sound .result) (c .before .before .if1 .left),
+      ← c3 .slot-sound .ensures,
+      not-false (c3 .slot-sound .result) (c .before .before .if1 .left),
       ←
           c .before .counts-fit .ensures,
       not-true (c .before .counts-fit .result) (c .if2 .taken),
@@ -34,14 +34,14 @@ unfolding countsFit
 lists-sound-requires c κs = let f = count-facts (c .before .before .before .before .before .before .before .before .before .before .args .self) (sym (c .before .counts-fit .ensures) ∙ not-false _ (c .if2 .left)) in (f .list, f .held, f .endpoints)
 
 returns-3 : tie.Need-returns-3
-unfolding sound placeSound countsFit listsSound listOf cellsIn heldOf
+unfolding sound slotSound countsFit listsSound listOf endpointMapIn heldOf
 returns-3 c =
     let c3 = c .before .before .before in
     let c4 = c3 .before in
     let c5 = c4 .before in
     rw (
-      ← c5 .place-sound .ensures,
-      not-false (c5 .place-sound .result) (c4 .if1 .left),
+      ← c5 .slot-sound .ensures,
+      not-false (c5 .slot-sound .result) (c4 .if1 .left),
       ← c3 .counts-fit .ensures,
       not-false (c3 .counts-fit .result) (c .before .before .if2 .left),
       ← c .before .lists-sound .ensures,
@@ -58,15 +58,15 @@ rings-sound-requires c κs =
     (f .endpoints, f .quarantined)
 
 returns-4 : tie.Need-returns-4
-unfolding sound placeSound countsFit listsSound listOf cellsIn heldOf ringsSound allRings quarantinedOf
+unfolding sound slotSound countsFit listsSound listOf endpointMapIn heldOf ringsSound allRings quarantinedOf
 returns-4 c =
     let c3 = c .before .before .before in
     let c4 = c3 .before in
     let c5 = c4 .before in
     let c6 = c5 .before in
     rw (
-      ← c6 .place-sound .ensures,
-      not-false (c6 .place-sound .result) (c5 .if1 .left),
+      ← c6 .slot-sound .ensures,
+      not-false (c6 .slot-sound .result) (c5 .if1 .left),
       ← c4 .counts-fit .ensures,
       not-false (c4 .counts-fit .result) (c3 .if2 .left),
       ← c .before .before .lists-sound .ensures,
@@ -79,7 +79,7 @@ pub sound-spec : {M : Type 1} → statement M
 sound-spec =
     tie.close
     (tie.spec
-    place-sound-requires
+    slot-sound-requires
     returns
     counts-fit-requires
     returns-2

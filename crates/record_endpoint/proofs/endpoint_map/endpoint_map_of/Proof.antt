@@ -1,0 +1,90 @@
+use mathlib.Core.Path.{_≡_, sym, _∙_}
+use Prim.Native.Nat.{_≤_, _-_}
+use lib.ListN.{getD, drop}
+use mathlib.Core.Logic.{⊎-elim}
+use native.Mathlib.Nat.{sub-zero}
+use Rattle.record_endpoint.specs.Endpoint.{blank}
+use Rattle.record_endpoint.specs.EndpointMap.{Whole, noEndpoints, isActive, endpointMapFrom, endpointMapOf}
+use Rattle.record_endpoint.proofs.Steps.{map-next, map-done, whole-none, whole-entry}
+use borrow.Author.Needs.{needs}
+use Rattle.record_endpoint.proofs.endpoint_map.endpoint_map_of.Statement.{statement}
+use Rattle.record_endpoint.proofs.endpoint_map.endpoint_map_of.Tie as tie
+
+abbrev Inv-loop : tie.InvT-loop
+Inv-loop n eps owners c₀ i₀ c i =
+    (i ≤ n) × Whole c × (endpointMapFrom n eps owners noEndpoints ≡ endpointMapFrom (n - i) (drop i eps) (drop i owners) c)
+
+abbrev μ-loop : tie.MeasureT-loop
+μ-loop n eps owners c₀ i₀ c i = n - i
+
+no-endpoints-requires : tie.Need-no-endpoints-requires Inv-loop μ-loop
+no-endpoints-requires c κs = search needs
+
+loop-holds : tie.Need-loop-holds Inv-loop μ-loop
+loop-holds c = (search needs, rw (c .no-endpoints .ensures) whole-none, rw (c .no-endpoints .ensures, sub-zero))
+
+mul-e : tie.Need-mul-e Inv-loop μ-loop
+mul-e c = search needs
+
+array-copy-out-e : tie.Need-array-copy-out-e Inv-loop μ-loop
+array-copy-out-e c = search needs
+
+enum-told : tie.Need-enum-told Inv-loop μ-loop
+enum-told c = search needs
+
+enum-told-2 : tie.Need-enum-told-2 Inv-loop μ-loop
+enum-told-2 c = search needs
+
+place-of-requires : tie.Need-place-of-requires Inv-loop μ-loop
+place-of-requires c κs = search needs
+
+array-read-with-endpoint : tie.Need-array-read-with-endpoint Inv-loop μ-loop
+array-read-with-endpoint c = search needs
+
+with-endpoint-requires : tie.Need-with-endpoint-requires Inv-loop μ-loop
+with-endpoint-requires c κs = c .before .before .before .before .loop .inv .1
+
+add-i : tie.Need-add-i Inv-loop μ-loop
+add-i c = search needs
+
+loop-less : tie.Need-loop-less Inv-loop μ-loop
+loop-less c = search needs
+
+on-made :
+    (c : tie.At-match-came Inv-loop μ-loop) →
+    c .match .on ≡ isActive (getD (c .before .before .before .before .before .args .t1) (c .before .before .before .loop .i) blank .handle)
+unfolding isActive
+on-made c = ⊎-elim (λ w. rw (w .1 .given .1) (w .2)) (λ w. rw (w .1 .given .1) (w .2)) (c .match .came)
+
+loop-again : tie.Need-loop-again Inv-loop μ-loop
+loop-again c = let l = c .before .before .before .before .before .loop in (
+  search needs,
+  rw (c .with-endpoint .ensures) (whole-entry _ _ _ _ _ (l .inv .1)),
+  l .inv .2
+      ∙ map-next _ _ _ _ _ (c .before .before .before .before .loop-test .taken)
+      ∙ rw (c .with-endpoint .ensures, c .before .place-of .ensures .0, on-made (c .before .before)),
+)
+
+returns : tie.Need-returns Inv-loop μ-loop
+unfolding endpointMapOf
+returns c = sym (c .before .loop .inv .2 ∙ map-done _ _ _ _ _ (c .loop-test .left))
+
+pub endpoint-map-of-spec : {M : Type 1} → statement M
+endpoint-map-of-spec =
+    tie.close
+    (tie.spec
+    Inv-loop
+    μ-loop
+    no-endpoints-requires
+    loop-holds
+    mul-e
+    array-copy-out-e
+    enum-told
+    enum-told-2
+    place-of-requires
+    array-read-with-endpoint
+    with-endpoint-requires
+    add-i
+    loop-less
+    loop-again
+    returns)
