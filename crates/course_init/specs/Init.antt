@@ -4,6 +4,7 @@ use mathlib.Core.Bool.{true, cond}
 use mathlib.Core.List.{List, []}
 use lib.Dec.{eqb}
 use lib.ListN.{length, getD}
+use Rattle.def.specs.Speed.{exponentOk}
 use Rattle.descriptor.specs.Word.{configurationValue}
 use Rattle.descriptor_list.specs.Valid.{configurations}
 use Rattle.hub.specs.Route.{routeString}
@@ -71,14 +72,16 @@ bringUpConfiguration a spacing ctx routes =
 -- The control endpoint's packet size is told to the controller.
 unfoldable pub bringUpPacket : BringUp → ℕ → List ℕ → List ℕ → Course Brought
 bringUpPacket a spacing ctx routes =
-    let next = written spacing (maxPacketWrites (a .packet)) ctx in
+    let next = written spacing (maxPacketWrites (a .speed) (a .packet)) ctx in
     step command.Evaluate nothingRead next routes (bringUpConfiguration a spacing next routes)
 
--- It is read in a header of eight bytes.
+-- It is read in a header of eight bytes, which says one that a device of this speed may have.
 unfoldable pub bringUpHeader : BringUp → ℕ → List ℕ → List ℕ → Course Brought
 bringUpHeader a spacing ctx routes =
     step command.ReadHeader nothingRead ctx routes
-    (cond (eqb (a .header) 8) (bringUpPacket a spacing ctx routes)
+    (cond (eqb (a .header) 8)
+    (cond (exponentOk (a .speed) (a .packet)) (bringUpPacket a spacing ctx routes)
+    (ends (brought answer.PacketExponent nothingRead ctx routes)))
     (ends (brought answer.ShortHeader nothingRead ctx routes)))
 
 -- The device is addressed, over a context of all zero.

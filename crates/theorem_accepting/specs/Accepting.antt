@@ -4,6 +4,8 @@ use mathlib.Core.Path.{_≡_}
 use mathlib.Core.Bool.{Bool, true, false}
 use mathlib.Core.List.{List, [], _∷_, _++_}
 use lib.ListN.{length, getD}
+use mathlib.Core.Logic.{_⊎_}
+use Rattle.def.specs.Speed.{SUPER, SUPER-PLUS}
 use Rattle.answer.specs.declared.Answer.the-variants as answer
 use Rattle.answer.specs.declared.Check.{Check}
 use Rattle.answer.specs.declared.Check.the-variants.{Pass}
@@ -68,12 +70,13 @@ pub record BroughtUp (a : BringUp) (l : Left) : Type 0 where
   pub control : l .device .control ≡ a .ring
   pub route : routeOf (l .routes) (a .slot) 1 ≡ a .ring
 
--- Its checks pass, the header has its eight bytes, and the slot has no routes yet.
+-- Its checks pass, the header has its eight bytes with, at SuperSpeed, the exponent 9, and the slot has no routes yet.
 abbrev pub BringUpAccepted : Type 0
 BringUpAccepted =
     (a : BringUp) (ctx routes log outcomes : List ℕ) →
     bringUpCheck a (length ctx) routes (length log) ≡ Pass →
     a .header ≡ 8 →
+    ((a .speed ≡ SUPER) ⊎ (a .speed ≡ SUPER-PLUS) → a .packet ≡ 9) →
     ((d : ℕ) → 2 ≤ d → d < 32 → routeOf routes (a .slot) d ≡ 0) →
     AllDone outcomes LOG-ROOM →
     BroughtUp a (bringUp a ctx routes log outcomes)
