@@ -17,9 +17,11 @@ fn files(folder: &Path, found: &mut Vec<PathBuf>) {
     }
 }
 
+/// The pages. (A note of a request names files that were taken out.)
 fn papers() -> Vec<(PathBuf, String)> {
     let mut found = Vec::new();
     files(&root().join("docs"), &mut found);
+    found.retain(|path| !path.starts_with(root().join("docs/requests")));
     found.push(root().join("README.md"));
     found.into_iter().map(|path| (path.clone(), fs::read_to_string(path).expect("a page"))).collect()
 }
