@@ -10,6 +10,8 @@ ghost use mathlib.Core.Path.{_≡_};
 ghost use mathlib.Core.List.{List};
 ghost use Prim.Native.Nat.{ℕ, _+_, _≤_};
 ghost use lib.ListN.{length};
+ghost use Rattle.command.specs.Command.{LOG-ROOM};
+ghost use Rattle.record_endpoint.specs.Order.{PLACES};
 ghost use Rattle.command.specs.Course.{played};
 ghost use Rattle.course_steps.specs.Arrays.{courseLeaves, queuesIn, Room};
 ghost use Rattle.course_claim.specs.Claim.{claimOf, claimPublish, claimUndone, claimUndo, claimSwitch, claimConfigure, claimCourse};
@@ -34,7 +36,7 @@ pub struct ClaimPlan {
 }
 
 fn publish(routes: &mut [u64], n: usize, a: ClaimPlan) -> CourseEnd
-    requires { ⌜ (a .old .count ≤ 30) × (a .pending .count ≤ 30) ⌝ }
+    requires { ⌜ (a .old .count ≤ PLACES) × (a .pending .count ≤ PLACES) ⌝ }
     ensures { λ r. ⌜ ((old new o ctx log : List ℕ) → courseLeaves r ctx (now (routes .exit)) log ≡ played o n (claimPublish (claimOf a old new) ctx (now (routes .entry))) log) ⌝ }
 {
     let args = a.args;
@@ -115,7 +117,7 @@ fn switch(
     new_words: &[u32],
 ) -> CourseEnd
     requires { ⌜ Room (a .args .spacing) (length (now ctx)) (a .old) (a .all) ⌝ }
-    requires { ⌜ a .pending .count ≤ 30 ⌝ }
+    requires { ⌜ a .pending .count ≤ PLACES ⌝ }
     requires { ⌜ n + 3 ≤ length (now log) ⌝ }
     ensures { λ r. ⌜ courseLeaves r (now (ctx .exit)) (now (routes .exit)) (now (log .exit)) ≡ played (now (outcomes .entry)) n (claimSwitch (claimOf a (now («old_words» .entry)) (now («new_words» .entry))) (now (ctx .entry)) (now (routes .entry))) (now (log .entry)) ⌝ }
 {
@@ -154,7 +156,7 @@ fn configure(
     new_words: &[u32],
 ) -> CourseEnd
     requires { ⌜ Room (a .args .spacing) (length (now ctx)) (a .old) (a .all) ⌝ }
-    requires { ⌜ a .pending .count ≤ 30 ⌝ }
+    requires { ⌜ a .pending .count ≤ PLACES ⌝ }
     requires { ⌜ n + a .old .count + 4 ≤ length (now log) ⌝ }
     ensures { λ r. ⌜ courseLeaves r (now (ctx .exit)) (now (routes .exit)) (now (log .exit)) ≡ played (now (outcomes .entry)) n (claimConfigure (claimOf a (now («old_words» .entry)) (now («new_words» .entry))) (now (ctx .entry)) (now (routes .entry))) (now (log .entry)) ⌝ }
 {
@@ -194,8 +196,8 @@ pub fn claim_interface(
     new_words: &[u32],
 ) -> CourseEnd
     requires { ⌜ Room (a .args .spacing) (length (now ctx)) (a .old) (a .all) ⌝ }
-    requires { ⌜ a .pending .count ≤ 30 ⌝ }
-    requires { ⌜ 64 ≤ length (now log) ⌝ }
+    requires { ⌜ a .pending .count ≤ PLACES ⌝ }
+    requires { ⌜ LOG-ROOM ≤ length (now log) ⌝ }
     ensures { λ r. ⌜ courseLeaves r (now (ctx .exit)) (now (routes .exit)) (now (log .exit)) ≡ played (now (outcomes .entry)) 0 (claimCourse (claimOf a (now («old_words» .entry)) (now («new_words» .entry))) (now (ctx .entry)) (now (routes .entry))) (now (log .entry)) ⌝ }
 {
     let stop = course_steps::stop_endpoints(log, outcomes, 0, a.old);

@@ -4,19 +4,16 @@ use command::Command;
 use command::Sent;
 use course_steps::CourseEnd;
 use def::SlotId;
-use descriptor_list::LIST_ROOM;
 use record_endpoint::Queues;
 use transfer::Replaced;
 ghost use mathlib.Core.Path.{_≡_};
 ghost use mathlib.Core.List.{List};
 ghost use Prim.Native.Nat.{ℕ, _+_, _≤_};
-ghost use lib.ListN.{length, take};
+ghost use lib.ListN.{length};
 ghost use Rattle.command.specs.Command.{LOG-ROOM};
-ghost use Rattle.descriptor_list.specs.Valid.{LIST-ROOM};
 ghost use Rattle.record_endpoint.specs.Order.{PLACES};
 ghost use Rattle.command.specs.Course.{played};
 ghost use Rattle.course_steps.specs.Arrays.{courseLeaves, Room};
-ghost use Rattle.record_settings.specs.Held.{settingWords};
 ghost use Rattle.course_release.specs.Release.{releaseOf, releasePublish, releaseConfigure, releaseCourse};
 
 // The interface's setting (alternate 0 where it holds none), its endpoints, and all endpoints of the record.
@@ -84,27 +81,23 @@ fn configure(
     }
 }
 
-// Releases an interface after the checks. The endpoint words of its setting are those that lookup finds in a list, the first n words of an array; none where it does not find the setting.
+// Releases an interface after the checks, with the endpoint words of its setting.
 pub fn release_interface(
     ctx: &mut [u8],
     routes: &mut [u64],
     log: &mut [u32],
     outcomes: &[u8],
     a: ReleaseArgs,
-    list: [u32; LIST_ROOM],
-    n: usize,
+    words: &[u32],
 ) -> CourseEnd
     requires { ⌜ Room (a .spacing) (length (now ctx)) (a .old) (a .all) ⌝ }
-    requires { ⌜ (LOG-ROOM ≤ length (now log)) × (n ≤ LIST-ROOM) ⌝ }
-    ensures { λ r. ⌜ courseLeaves r (now (ctx .exit)) (now (routes .exit)) (now (log .exit)) ≡ played (now (outcomes .entry)) 0 (releaseCourse (releaseOf a (settingWords (take n list) (a .interface) (a .alternate))) (now (ctx .entry)) (now (routes .entry))) (now (log .entry)) ⌝ }
+    requires { ⌜ LOG-ROOM ≤ length (now log) ⌝ }
+    ensures { λ r. ⌜ courseLeaves r (now (ctx .exit)) (now (routes .exit)) (now (log .exit)) ≡ played (now (outcomes .entry)) 0 (releaseCourse (releaseOf a (now (words .entry))) (now (ctx .entry)) (now (routes .entry))) (now (log .entry)) ⌝ }
 {
     let stop = course_steps::stop_endpoints(log, outcomes, 0, a.old);
     let s = stop.sent;
     match s {
-        Sent::Done => {
-            let words = record_settings::setting_words(&list[0..n], a.interface, a.alternate);
-            configure(ctx, routes, log, outcomes, stop.count, a, words)
-        }
+        Sent::Done => configure(ctx, routes, log, outcomes, stop.count, a, words),
         Sent::Failed(code) => course_steps::settings_kept(
             Answer::Failed(code),
             stop.count,

@@ -3,7 +3,7 @@ use Prim.Native.Nat.{ℕ}
 use mathlib.Core.Path.{_≡_, sym}
 use mathlib.Core.Bool.{cond}
 use mathlib.Core.List.{List}
-use lib.ListN.{length, take, replicate}
+use lib.ListN.{length, replicate}
 use Rattle.answer.specs.declared.Check.{Check}
 use Rattle.answer.specs.declared.Check.the-variants.{Pass}
 use Rattle.command.specs.Course.{played}
@@ -50,16 +50,17 @@ release-of d i alt c own old all h p w s t = rw (queues-as old own s, t .dcis, w
 
 -- what a release leaves is what the end of its course makes of the record
 pub release-left :
-    (d : Device) (i alt : ℕ) (x : Check) (c m : EndpointMap) (own : List ℕ) (old all : Queues) (o ctx routes log ctx′ routes′ log′ : List ℕ)
+    (d : Device) (i alt : ℕ) (x : Check) (c m : EndpointMap) (own words : List ℕ) (old all : Queues) (o ctx routes log ctx′ routes′ log′ : List ℕ)
     (e : CourseEnd) (r : Called) →
     x ≡ recordCheck d (length ctx) (length routes) (length log) (releaseCheck d i) → x ≡ Pass → c ≡ endpointMapIn d →
     alt ≡ alternateOf i (heldOf d) → own ≡ ownedRings (Interface i) c → QueuesAs old own → QueuesAs all (c .rings) →
+    words ≡ settingWords (listOf d) i alt →
     arrays.courseLeaves e ctx′ routes′ log′
-    ≡ played o 0 (releaseCourse (releaseOf (argsOf d i alt old all) (settingWords (take (d .«list_len») (d .list)) i alt)) ctx routes) log →
+    ≡ played o 0 (releaseCourse (releaseOf (argsOf d i alt old all) words) ctx routes) log →
     m ≡ claimedEndpoints i (replicate PLACES 0) c →
     r ≡ handed e
     (cond (e .moved) (withHeld (withoutSetting i (heldOf d)) (withEndpoints m d)) (withEndpoints (withActive (Interface i) (e .active) c) d)) →
     leaves r ctx′ routes′ log′ ≡ release d ctx routes log o i
-unfolding release onCheck listOf releaseRecord ended
-release-left d i alt x c m own old all o ctx routes log ctx′ routes′ log′ e r k p h al w s t run em er =
-    rw (er, em, h) (sym (rw (← k, p, ← release-of d i alt c own old all h al w s t, ← run)))
+unfolding release onCheck releaseRecord ended
+release-left d i alt x c m own words old all o ctx routes log ctx′ routes′ log′ e r k p h al w s t f run em er =
+    rw (er, em, h) (sym (rw (← k, p, ← release-of d i alt c own old all h al w s t, ← f, ← run)))

@@ -45,8 +45,13 @@ releaseRecord d interface e =
     (withHeld (withoutSetting interface (heldOf d)) (withEndpoints (claimedEndpoints interface (replicate PLACES 0) (endpointMapIn d)) d))
     (withEndpoints (withActive (Interface interface) (e .active) (endpointMapIn d)) d))
 
+-- The course, and the record that its end makes; the checks have passed.
+abbrev pub releaseRun : Device → List ℕ → List ℕ → List ℕ → List ℕ → ℕ → Left
+releaseRun d ctx routes log outcomes interface =
+    ended (releaseRecord d interface) (played outcomes 0 (releaseCourse (releaseIn d interface) ctx routes) log)
+
 unfoldable pub release : Device → List ℕ → List ℕ → List ℕ → List ℕ → ℕ → Left
 release d ctx routes log outcomes interface =
     onCheck (recordCheck d (length ctx) (length routes) (length log) (releaseCheck d interface))
-    (ended (releaseRecord d interface) (played outcomes 0 (releaseCourse (releaseIn d interface) ctx routes) log))
+    (releaseRun d ctx routes log outcomes interface)
     (λ a. refused d a ctx routes log)

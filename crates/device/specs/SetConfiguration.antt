@@ -41,8 +41,13 @@ setRecord d value e =
     (cond (isAccepted (e .answer)) (withConfiguration value (bare d)) (bare d))
     (withEndpoints (withActive Any (e .active) (endpointMapIn d)) d))
 
+-- The course, and the record that its end makes; the checks have passed.
+abbrev pub setRun : Device → List ℕ → List ℕ → List ℕ → List ℕ → ℕ → Left
+setRun d ctx routes log outcomes value =
+    ended (setRecord d value) (played outcomes 0 (setCourse (settingsIn d value) ctx routes) log)
+
 unfoldable pub setConfiguration : Device → List ℕ → List ℕ → List ℕ → List ℕ → ℕ → Left
 setConfiguration d ctx routes log outcomes value =
     onCheck (recordCheck d (length ctx) (length routes) (length log) Pass)
-    (ended (setRecord d value) (played outcomes 0 (setCourse (settingsIn d value) ctx routes) log))
+    (setRun d ctx routes log outcomes value)
     (λ a. refused d a ctx routes log)

@@ -11,6 +11,7 @@ use course_steps::CourseEnd;
 use record_checks::Checked;
 use record_endpoint::EndpointMap;
 use record_endpoint::Owner;
+use record_endpoint::PLACES;
 use record_endpoint::Queues;
 ghost use mathlib.Core.Path.{_≡_};
 ghost use mathlib.Core.List.{List, []};
@@ -20,13 +21,54 @@ ghost use Rattle.answer.specs.declared.Check.the-variants.{Pass};
 ghost use Rattle.descriptor_list.specs.declared.Found.the-variants.{Endpoints};
 ghost use Rattle.descriptor_list.specs.Lookup.{findEndpoints};
 ghost use Rattle.record_endpoint.specs.EndpointMap.{QueuesAs};
-ghost use Rattle.record_settings.specs.Held.{withSetting};
+ghost use Rattle.record_settings.specs.Held.{HELD-ROOM, withSetting};
 ghost use Rattle.record_checks.specs.Offer.{CheckedAs};
 ghost use Rattle.course_steps.specs.Arrays as arrays;
 ghost use Rattle.device.specs.Device.{listOf, endpointMapIn, heldOf, quarantinedOf};
 ghost use Rattle.device.specs.Check.{recordCheck};
 ghost use Rattle.device.specs.Left.{leaves, ended};
 ghost use Rattle.device.specs.Claim.{claimCheck, pendingOf, argsIn, claimRecord, claimRun, claim};
+
+impl Device {
+    // The old endpoints are stopped and dropped, those of the setting added with the rings offered, and the device switched.
+    pub fn claim(
+        mut self,
+        ctx: &mut [u8],
+        routes: &mut [u64],
+        log: &mut [u32],
+        outcomes: &[u8],
+        interface: u8,
+        alternate: u8,
+        rings: &[u64],
+    ) -> Called
+        ensures { λ r. ⌜ leaves r (now (ctx .exit)) (now (routes .exit)) (now (log .exit)) ≡ claim self (now (ctx .entry)) (now (routes .entry)) (now (log .entry)) (now (outcomes .entry)) interface alternate (now (rings .entry)) ⌝ }
+    {
+        let checked = claim_check(
+            self,
+            ctx.len(),
+            routes.len(),
+            log.len(),
+            interface,
+            alternate,
+            rings,
+        );
+        match checked {
+            Checked::Words { start, count } => run_claim(
+                self,
+                ctx,
+                routes,
+                log,
+                outcomes,
+                interface,
+                alternate,
+                start,
+                count,
+                rings,
+            ),
+            Checked::Refuse(a) => update::refused(self, a),
+        }
+    }
+}
 
 // 12, 1, 2, 3, and then 8, 9, 10: it needs the lengths of what is lent, and hands on where the setting's endpoint words stand.
 fn claim_check(
@@ -56,65 +98,6 @@ fn claim_check(
         d.control,
         &[0u64; 0],
     )
-}
-
-fn claim_args(d: Device, interface: u8, alternate: u8) -> ClaimArgs
-    requires { ⌜ d .«held_count» ≤ 32 ⌝ }
-    ensures { λ r. ⌜ r ≡ argsIn d interface alternate ⌝ }
-{
-    let interfaces = d.interfaces;
-    let alternates = d.alternates;
-    let slot = d.slot;
-    ClaimArgs {
-        slot: slot,
-        spacing: d.spacing,
-        speed: d.port_speed,
-        interface: interface,
-        alternate: alternate,
-        held: record_settings::is_held(interfaces, d.held_count, interface),
-        old_alternate: record_settings::alternate_of(
-            interfaces,
-            alternates,
-            d.held_count,
-            interface,
-        ),
-    }
-}
-
-// The end of the course makes the record; where the settings did not move, 14 puts the pending rings in quarantine.
-fn claim_end(
-    mut d: Device,
-    c: EndpointMap,
-    interface: u8,
-    alternate: u8,
-    pending: [u64; 30],
-    q: Queues,
-    e: CourseEnd,
-) -> Called
-    requires { ⌜ (d .«held_count» ≤ 32) × (length (withSetting interface alternate (heldOf d)) ≤ 32) ⌝ }
-    requires { ⌜ (c ≡ endpointMapIn d) × (quarantinedOf d ≡ []) × QueuesAs q pending ⌝ }
-    ensures { λ r. ⌜ ((ctx routes log rings : List ℕ) → pending ≡ pendingOf d interface alternate rings → leaves r ctx routes log ≡ ended (claimRecord d interface alternate rings) (arrays.courseLeaves e ctx routes log)) ⌝ }
-{
-    let interfaces = d.interfaces;
-    let alternates = d.alternates;
-    let held = record_settings::with_setting(
-        interfaces,
-        alternates,
-        d.held_count,
-        interface,
-        alternate,
-    );
-    let claimed = record_endpoint::claimed_endpoints(interface, pending, c);
-    let answer = e.answer;
-    if !e.moved {
-        if let Answer::InterfaceBroken = answer {
-            let rings = q.rings;
-            let quarantined = record_checks::quarantined_rings(rings, q.count);
-            d.quarantined = quarantined;
-            d.quarantined_count = q.count;
-        }
-    }
-    update::at_end(d, c, e, Owner::Interface(interface), claimed, held)
 }
 
 // The course of a claim whose checks have passed, with some rings for the setting's endpoint words, which stand at start in the list.
@@ -157,43 +140,61 @@ fn run_claim(
     claim_end(d, c, interface, alternate, pending, plan.pending, e)
 }
 
-impl Device {
-    // The old endpoints are stopped and dropped, those of the setting added with the rings offered, and the device switched.
-    pub fn claim(
-        mut self,
-        ctx: &mut [u8],
-        routes: &mut [u64],
-        log: &mut [u32],
-        outcomes: &[u8],
-        interface: u8,
-        alternate: u8,
-        rings: &[u64],
-    ) -> Called
-        ensures { λ r. ⌜ leaves r (now (ctx .exit)) (now (routes .exit)) (now (log .exit)) ≡ claim self (now (ctx .entry)) (now (routes .entry)) (now (log .entry)) (now (outcomes .entry)) interface alternate (now (rings .entry)) ⌝ }
-    {
-        let checked = claim_check(
-            self,
-            ctx.len(),
-            routes.len(),
-            log.len(),
+fn claim_args(d: Device, interface: u8, alternate: u8) -> ClaimArgs
+    requires { ⌜ d .«held_count» ≤ HELD-ROOM ⌝ }
+    ensures { λ r. ⌜ r ≡ argsIn d interface alternate ⌝ }
+{
+    let interfaces = d.interfaces;
+    let alternates = d.alternates;
+    let slot = d.slot;
+    ClaimArgs {
+        slot: slot,
+        spacing: d.spacing,
+        speed: d.port_speed,
+        interface: interface,
+        alternate: alternate,
+        held: record_settings::is_held(interfaces, d.held_count, interface),
+        old_alternate: record_settings::alternate_of(
+            interfaces,
+            alternates,
+            d.held_count,
             interface,
-            alternate,
-            rings,
-        );
-        match checked {
-            Checked::Words { start, count } => run_claim(
-                self,
-                ctx,
-                routes,
-                log,
-                outcomes,
-                interface,
-                alternate,
-                start,
-                count,
-                rings,
-            ),
-            Checked::Refuse(a) => update::refused(self, a),
+        ),
+    }
+}
+
+// The end of the course makes the record; where the settings did not move, 14 puts the pending rings in quarantine.
+fn claim_end(
+    mut d: Device,
+    c: EndpointMap,
+    interface: u8,
+    alternate: u8,
+    pending: [u64; PLACES],
+    q: Queues,
+    e: CourseEnd,
+) -> Called
+    requires { ⌜ (d .«held_count» ≤ HELD-ROOM) × (length (withSetting interface alternate (heldOf d)) ≤ HELD-ROOM) ⌝ }
+    requires { ⌜ (c ≡ endpointMapIn d) × (quarantinedOf d ≡ []) × QueuesAs q pending ⌝ }
+    ensures { λ r. ⌜ ((ctx routes log rings : List ℕ) → pending ≡ pendingOf d interface alternate rings → leaves r ctx routes log ≡ ended (claimRecord d interface alternate rings) (arrays.courseLeaves e ctx routes log)) ⌝ }
+{
+    let interfaces = d.interfaces;
+    let alternates = d.alternates;
+    let held = record_settings::with_setting(
+        interfaces,
+        alternates,
+        d.held_count,
+        interface,
+        alternate,
+    );
+    let claimed = record_endpoint::claimed_endpoints(interface, pending, c);
+    let answer = e.answer;
+    if !e.moved {
+        if let Answer::InterfaceBroken = answer {
+            let rings = q.rings;
+            let quarantined = record_checks::quarantined_rings(rings, q.count);
+            d.quarantined = quarantined;
+            d.quarantined_count = q.count;
         }
     }
+    update::at_end(d, c, e, Owner::Interface(interface), claimed, held)
 }

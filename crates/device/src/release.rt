@@ -31,13 +31,8 @@ impl Device {
         let interfaces = self.interfaces;
         let alternates = self.alternates;
         let slot = self.slot;
-        let known = record_checks::held_check(
-            list,
-            self.list_len,
-            interfaces,
-            self.held_count,
-            interface,
-        );
+        let words = &list[..self.list_len];
+        let known = record_checks::held_check(words, interfaces, self.held_count, interface);
         if let Check::Refuse(a) = known {
             return update::refused(self, a);
         }
@@ -58,15 +53,8 @@ impl Device {
             old: record_endpoint::queues_of(own),
             all: record_endpoint::queues_of(rings),
         };
-        let e = course_release::release_interface(
-            ctx,
-            routes,
-            log,
-            outcomes,
-            args,
-            list,
-            self.list_len,
-        );
+        let setting = record_settings::setting_words(words, interface, args.alternate);
+        let e = course_release::release_interface(ctx, routes, log, outcomes, args, setting);
         let held = record_settings::without_setting(
             interfaces,
             alternates,

@@ -11,7 +11,7 @@ use mathlib.Core.Logic.{inl, inr}
 use borrow.Author.Tests.{lt-ltb, le-ltb, eq-eqb, ne-eqb, eqb-true, eqb-false}
 use lib.Dec.{eqb, ltb}
 use lib.ListN.{length, getD, set, take, drop, replicate, length-append, length-set, length-replicate, drop-of-length-le}
-use lib.Seq.{getD-set-same, getD-set-other, set-getD, take-suc-set, take-all, take-append-seam, set-append-seam, drop-cons, drop-drop, getD-drop, getD-take, length-take-le}
+use lib.Seq.{getD-set-same, getD-set-other, set-getD, take-suc-set, take-all, take-append-seam, set-append-seam, set-out, drop-cons, drop-drop, getD-drop, getD-take, length-take-le}
 use Rattle.laws.proofs.Cases.{Decided, decided}
 use Rattle.descriptor.specs.Word.{endpointDescriptor}
 use Rattle.transfer.specs.Routes.{Queue}
@@ -299,6 +299,17 @@ whole-entry c place ring owner on w =
       active = length-set (c .active) place on ∙ w .active;
     }
 
+-- a place past the end is none
+pub entry-out :
+    (c : EndpointMap) (place ring owner : ℕ) (on : Bool) → Whole c → 30 ≤ place → withEndpoint c place ring owner on ≡ c
+unfolding withEndpoint
+entry-out c place ring owner on w h =
+    rw (
+      set-out (c .rings) place ring (omega (arith, w .rings)),
+      set-out (c .owners) place owner (omega (arith, w .owners)),
+      set-out (c .active) place on (omega (arith, w .active)),
+    )
+
 -- `claimed_cells`
 pub record Claiming (i : ℕ) (pending : List ℕ) (was : EndpointMap) (p : ℕ) (c : EndpointMap) : Type 0 where
   pub rings : Written 30 (claimedRing i pending was) (was .rings) 0 p (c .rings)
@@ -314,9 +325,6 @@ claiming-none i pending c w =
     }
 
 module _ {i : ℕ} {pending : List ℕ} {was : EndpointMap} {p : ℕ} {c : EndpointMap} (a : Claiming i pending was p c) where
-  pub claiming-whole : Whole c
-  claiming-whole = record { rings = a .rings .room; owners = a .owners .room; active = a .active .room }
-
   claiming-set :
       (r o : ℕ) (on : Bool) → p < 30 → r ≡ claimedRing i pending was p → o ≡ claimedOwner i pending was p →
       on ≡ claimedActive i pending was p → Claiming i pending was (p + 1) (withEndpoint c p r o on)

@@ -8,7 +8,7 @@ ghost use mathlib.Core.Bool.{not, _&&_};
 ghost use Prim.Native.Nat.{_≤_};
 ghost use lib.Dec.{eqb};
 ghost use Rattle.record_endpoint.specs.Order.{PLACES};
-ghost use Rattle.record_endpoint.specs.EndpointMap.{Whole, noEndpoints, withEndpoint, endpointMapOf, owns, ownedRings, withActive};
+ghost use Rattle.record_endpoint.specs.EndpointMap.{noEndpoints, endpointMapOf, owns, ownedRings, withActive};
 
 // Ring 0: no endpoint at that place.
 pub struct EndpointMap {
@@ -33,25 +33,6 @@ pub fn no_endpoints() -> EndpointMap
     }
 }
 
-// A place past the end is none.
-pub fn with_endpoint(
-    mut c: EndpointMap,
-    place: usize,
-    ring: u64,
-    owner: u8,
-    on: bool,
-) -> EndpointMap
-    requires { ⌜ Whole c ⌝ }
-    ensures { λ r. ⌜ r ≡ withEndpoint c place ring owner on ⌝ }
-{
-    if place < PLACES {
-        c.rings[place] = ring;
-        c.owners[place] = owner;
-        c.active[place] = on;
-    }
-    c
-}
-
 // The map of the first n endpoints of the arrays.
 pub fn endpoint_map_of(eps: [Endpoint; PLACES], owners: [u8; PLACES], n: usize) -> EndpointMap
     requires { ⌜ n ≤ PLACES ⌝ }
@@ -66,9 +47,15 @@ pub fn endpoint_map_of(eps: [Endpoint; PLACES], owners: [u8; PLACES], n: usize) 
             Handle::Active => true,
             Handle::Revoked => false,
         };
+        let owner = owners[i];
         let place = order::place_of(e.address);
-        c = with_endpoint(c, place, e.ring, owners[i], on);
         i += 1;
+        // A place past the end is none.
+        if place < 30 {
+            c.rings[place] = e.ring;
+            c.owners[place] = owner;
+            c.active[place] = on;
+        }
     }
     c
 }

@@ -70,9 +70,13 @@ pub fn claimed_endpoints(interface: u8, pending: [u64; PLACES], mut c: EndpointM
         let owned = endpoint_map::is_owned(Owner::Interface(interface), c.rings[p], c.owners[p]);
         p += 1;
         if ring != 0 {
-            c = endpoint_map::with_endpoint(c, place, ring, interface, true);
+            c.rings[place] = ring;
+            c.owners[place] = interface;
+            c.active[place] = true;
         } else if owned {
-            c = endpoint_map::with_endpoint(c, place, 0, 0, false);
+            c.rings[place] = 0;
+            c.owners[place] = 0;
+            c.active[place] = false;
         }
     }
     c

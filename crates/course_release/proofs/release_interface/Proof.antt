@@ -2,7 +2,6 @@ use Prim.Native.Nat.{ℕ}
 use mathlib.Core.Path.{_≡_}
 use mathlib.Core.Bool.{false}
 use mathlib.Core.List.{List, []}
-use native.Mathlib.Nat.{sub-zero}
 use native.Mathlib.Omega.{arith}
 use lib.ListN.{length}
 use Rattle.answer.specs.declared.Answer.the-variants as answer
@@ -24,11 +23,11 @@ use Rattle.course_release.proofs.release_interface.Tie as tie
 module _ (a : ReleaseArgs) (words ctx routes o log left : List ℕ) (stop : Swept)
     (t : SweptAs stop left (played o 0 (stopEndpoints ctx (dcisIn (a .old))) log)) where
   -- the endpoints are stopped
-  done : {x : Played End} (found : List ℕ) → words ≡ found → stop .sent ≡ sent.Done →
+  done : {x : Played End} → stop .sent ≡ sent.Done →
       x ≡ played o (stop .count) (releaseConfigure (releaseOf a words) ctx routes) left →
-      x ≡ played o 0 (releaseCourse (releaseOf a found) ctx routes) log
+      x ≡ played o 0 (releaseCourse (releaseOf a words) ctx routes) log
   unfolding releaseCourse onSent
-  done found p d x = rw (← p, dcis-in, played-then, ← t .sent, ← t .count, ← t .log, d) x
+  done d x = rw (dcis-in, played-then, ← t .sent, ← t .count, ← t .log, d) x
 
   failed : {r : CourseEnd} (code : ℕ) → length (queuesIn (a .old)) ≡ a .old .count → stop .sent ≡ sent.Failed code →
       r ≡ record { answer = answer.Failed code; count = stop .count; active = a .old .count; moved = false } →
@@ -48,27 +47,13 @@ stop-endpoints-requires c κs = search needs
 enum-told : tie.Need-enum-told
 enum-told c = search needs
 
-sub-setting-words : tie.Need-sub-setting-words
-sub-setting-words c = search needs
-
-part-setting-words-start : tie.Need-part-setting-words-start
-part-setting-words-start c = search needs
-
-part-setting-words-end : tie.Need-part-setting-words-end
-part-setting-words-end c = search needs
-
-setting-words-requires : tie.Need-setting-words-requires
-setting-words-requires c κs = search needs
-
 configure-requires : tie.Need-configure-requires
 configure-requires c κs =
-    let c6 = c .before .before .before .before .before .before in
-    let c10 = c6 .before .before .before .before in
-    let c16 = c10 .before .before .before .before .before .before in (
-      c16 .pre .0,
-      let e = stopped-count _ _ _ _ _ _ _ (c10 .stop-endpoints .ensures []) (c6 .enum-told .given .1) in omega
-          (arith, e, c10 .stop-endpoints .kept .0, c16 .pre .0 .few, c16 .pre .1),
-    )
+    let c3 = c .before .before .before in
+    let c7 = c3 .before .before .before .before in
+    let s = c7 .before .before .before .before .before .before .before in
+    let e = stopped-count _ _ _ _ _ _ _ (c7 .stop-endpoints .ensures []) (c3 .enum-told .given .1) in
+    (s .pre .0, omega (arith, e, c7 .stop-endpoints .kept .0, s .pre .0 .few, s .pre .1))
 
 enum-known-s : tie.Need-enum-known-s
 enum-known-s c = search needs
@@ -95,10 +80,8 @@ returns : tie.Need-returns
 returns c =
     let c6 = c .before .before .before .before .before .before in
     let c10 = c6 .before .before .before .before in
-    let c13 = c10 .before .before .before in
-    let c17 = c13 .before .before .before .before in
-    done _ _ _ _ _ _ _ _ (c17 .stop-endpoints .ensures _) _ (rw sub-zero at (c10 .setting-words .ensures))
-    (c13 .enum-told .given .1) (c6 .configure .ensures)
+    let c14 = c10 .before .before .before .before in
+    done _ _ _ _ _ _ _ _ (c14 .stop-endpoints .ensures _) (c10 .enum-told .given .1) (c6 .configure .ensures)
 
 same-length-4 : tie.Need-same-length-4
 same-length-4 c = search needs
@@ -106,9 +89,8 @@ same-length-4 c = search needs
 returns-2 : tie.Need-returns-2
 returns-2 c =
     let c6 = c .before .before .before .before .before .before in
-    let c12 = c6 .before .before .before .before .before .before in
-    failed _ _ _ _ _ _ _ _ (c6 .stop-endpoints .ensures _) _ (c12 .pre .0 .full) (c .before .before .s .given .1)
-    (c .settings-kept .ensures)
+    let s = c6 .before .before .before .before .before .before .before in
+    failed _ _ _ _ _ _ _ _ (c6 .stop-endpoints .ensures _) _ (s .pre .0 .full) (c .before .before .s .given .1) (c .settings-kept .ensures)
 
 same-length-5 : tie.Need-same-length-5
 same-length-5 c = search needs
@@ -123,10 +105,6 @@ release-interface-spec =
     (tie.spec
     stop-endpoints-requires
     enum-told
-    sub-setting-words
-    part-setting-words-start
-    part-setting-words-end
-    setting-words-requires
     configure-requires
     enum-known-s
     settings-kept-requires

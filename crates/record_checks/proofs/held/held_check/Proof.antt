@@ -1,7 +1,3 @@
-use mathlib.Core.Path.{_≡_, sym}
-use native.Mathlib.Omega.{arith}
-use lib.ListN.{length}
-use lib.Seq.{length-take-le}
 use Rattle.record_settings.specs.Held.{isFound}
 use borrow.Author.Needs.{needs}
 use Rattle.record_checks.proofs.held.held_check.Statement.{statement}
@@ -11,19 +7,8 @@ is-held-requires : tie.Need-is-held-requires
 is-held-requires c κs = search needs
 
 returns : tie.Need-returns
-returns c = λ alternates. rw (← c .before .is-held .ensures alternates, c .if1 .taken)
-
-array-share-prefix-list : tie.Need-array-share-prefix-list
-array-share-prefix-list c = search needs
-
-slice-aggregate-find-interface-endpoints : tie.Need-slice-aggregate-find-interface-endpoints
-slice-aggregate-find-interface-endpoints c =
-    let c3 = c .before .before .before in
-    let full : length (c3 .args .t1) ≡ 256 = search needs in sym (length-take-le (c3 .args .n) (c3 .args .t1) (omega (
-      arith,
-      full,
-      c3 .pre,
-    )))
+returns c =
+    λ alternates. rw (← c .before .is-held .ensures alternates, c .if1 .taken)
 
 find-interface-endpoints-requires : tie.Need-find-interface-endpoints-requires
 find-interface-endpoints-requires c κs = search needs
@@ -36,11 +21,13 @@ enum-told-2 c = search needs
 
 returns-2 : tie.Need-returns-2
 unfolding isFound
-returns-2 c = λ alternates. rw (← c .before .before .before .before .before .is-held .ensures alternates, c .before .before .before .before .if1 .left, ← c .before .before .find-interface-endpoints .ensures, c .enum-told .given .1)
+returns-2 c =
+    λ alternates. rw (← c .before .before .before .before .is-held .ensures alternates, c .before .before .before .if1 .left, ← c .before .before .find-interface-endpoints .ensures, c .enum-told .given .1)
 
 returns-3 : tie.Need-returns-3
 unfolding isFound
-returns-3 c = λ alternates. rw (← c .before .before .before .before .before .is-held .ensures alternates, c .before .before .before .before .if1 .left, ← c .before .before .find-interface-endpoints .ensures, c .enum-told2 .given .1)
+returns-3 c =
+    λ alternates. rw (← c .before .before .before .before .is-held .ensures alternates, c .before .before .before .if1 .left, ← c .before .before .find-interface-endpoints .ensures, c .enum-told2 .given .1)
 
 pub held-check-spec : {M : Type 1} → statement M
 held-check-spec =
@@ -48,8 +35,6 @@ held-check-spec =
     (tie.spec
     is-held-requires
     returns
-    array-share-prefix-list
-    slice-aggregate-find-interface-endpoints
     find-interface-endpoints-requires
     enum-told
     enum-told-2

@@ -4,8 +4,8 @@ use lib.ListN.{getD, drop}
 use mathlib.Core.Logic.{⊎-elim}
 use native.Mathlib.Nat.{sub-zero}
 use Rattle.record_endpoint.specs.Endpoint.{blank}
-use Rattle.record_endpoint.specs.EndpointMap.{Whole, noEndpoints, isActive, endpointMapFrom, endpointMapOf}
-use Rattle.record_endpoint.proofs.Steps.{map-next, map-done, whole-none, whole-entry}
+use Rattle.record_endpoint.specs.EndpointMap.{Whole, noEndpoints, withEndpoint, isActive, endpointMapFrom, endpointMapOf}
+use Rattle.record_endpoint.proofs.Steps.{map-next, map-done, whole-none, whole-entry, entry-out}
 use borrow.Author.Needs.{needs}
 use Rattle.record_endpoint.proofs.endpoint_map.endpoint_map_of.Statement.{statement}
 use Rattle.record_endpoint.proofs.endpoint_map.endpoint_map_of.Tie as tie
@@ -21,7 +21,8 @@ no-endpoints-requires : tie.Need-no-endpoints-requires Inv-loop μ-loop
 no-endpoints-requires c κs = search needs
 
 loop-holds : tie.Need-loop-holds Inv-loop μ-loop
-loop-holds c = (search needs, rw (c .no-endpoints .ensures) whole-none, rw (c .no-endpoints .ensures, sub-zero))
+loop-holds c =
+    (search needs, rw (c .no-endpoints .ensures) whole-none, rw (c .no-endpoints .ensures, sub-zero))
 
 mul-e : tie.Need-mul-e Inv-loop μ-loop
 mul-e c = search needs
@@ -35,17 +36,26 @@ enum-told c = search needs
 enum-told-2 : tie.Need-enum-told-2 Inv-loop μ-loop
 enum-told-2 c = search needs
 
+array-read-owner : tie.Need-array-read-owner Inv-loop μ-loop
+array-read-owner c = search needs
+
 place-of-requires : tie.Need-place-of-requires Inv-loop μ-loop
 place-of-requires c κs = search needs
 
-array-read-with-endpoint : tie.Need-array-read-with-endpoint Inv-loop μ-loop
-array-read-with-endpoint c = search needs
-
-with-endpoint-requires : tie.Need-with-endpoint-requires Inv-loop μ-loop
-with-endpoint-requires c κs = c .before .before .before .before .loop .inv .1
-
 add-i : tie.Need-add-i Inv-loop μ-loop
 add-i c = search needs
+
+mul-c : tie.Need-mul-c Inv-loop μ-loop
+mul-c c = search needs
+
+element-write-c : tie.Need-element-write-c Inv-loop μ-loop
+element-write-c c = search needs
+
+element-write-c-2 : tie.Need-element-write-c-2 Inv-loop μ-loop
+element-write-c-2 c = search needs
+
+element-write-c-3 : tie.Need-element-write-c-3 Inv-loop μ-loop
+element-write-c-3 c = search needs
 
 loop-less : tie.Need-loop-less Inv-loop μ-loop
 loop-less c = search needs
@@ -57,17 +67,35 @@ unfolding isActive
 on-made c = ⊎-elim (λ w. rw (w .1 .given .1) (w .2)) (λ w. rw (w .1 .given .1) (w .2)) (c .match .came)
 
 loop-again : tie.Need-loop-again Inv-loop μ-loop
-loop-again c = let l = c .before .before .before .before .before .loop in (
-  search needs,
-  rw (c .with-endpoint .ensures) (whole-entry _ _ _ _ _ (l .inv .1)),
-  l .inv .2
-      ∙ map-next _ _ _ _ _ (c .before .before .before .before .loop-test .taken)
-      ∙ rw (c .with-endpoint .ensures, c .before .place-of .ensures .0, on-made (c .before .before)),
-)
+unfolding withEndpoint
+loop-again c =
+    let c4 = c .before .before .before .before in
+    let l = c4 .before .loop in (
+      search needs,
+      whole-entry _ _ _ _ _ (l .inv .1),
+      l .inv .2
+          ∙ map-next _ _ _ _ _ (c4 .loop-test .taken)
+          ∙ rw (c .before .place-of .ensures .0, on-made (c .before .before)),
+    )
+
+loop-less-2 : tie.Need-loop-less-2 Inv-loop μ-loop
+loop-less-2 c = search needs
+
+loop-again-2 : tie.Need-loop-again-2 Inv-loop μ-loop
+loop-again-2 c =
+    let c4 = c .before .before .before .before in
+    let l = c4 .before .loop in (
+      search needs,
+      l .inv .1,
+      l .inv .2
+          ∙ map-next _ _ _ _ _ (c4 .loop-test .taken)
+          ∙ rw (← c .before .place-of .ensures .0, entry-out _ _ _ _ _ (l .inv .1) (c .if1 .left)),
+    )
 
 returns : tie.Need-returns Inv-loop μ-loop
 unfolding endpointMapOf
-returns c = sym (c .before .loop .inv .2 ∙ map-done _ _ _ _ _ (c .loop-test .left))
+returns c =
+    sym (c .before .loop .inv .2 ∙ map-done _ _ _ _ _ (c .loop-test .left))
 
 pub endpoint-map-of-spec : {M : Type 1} → statement M
 endpoint-map-of-spec =
@@ -81,10 +109,15 @@ endpoint-map-of-spec =
     array-copy-out-e
     enum-told
     enum-told-2
+    array-read-owner
     place-of-requires
-    array-read-with-endpoint
-    with-endpoint-requires
     add-i
+    mul-c
+    element-write-c
+    element-write-c-2
+    element-write-c-3
     loop-less
     loop-again
+    loop-less-2
+    loop-again-2
     returns)
