@@ -225,15 +225,3 @@ usable-sound slot before s g u = go (g .live)
     go : Slotless (s .device) ⊎ Live slot (s .device) (s .plain) → sound (s .device) ≡ true
     go (inl n) = not-both (s .device .usable) u (n .0)
     go (inr l) = l .is-sound
-
--- What both say stays where plain slots hold the same.
-pub live-same :
-    (slot : ℕ) (d : Device) (p q : Plain) → q .list ≡ p .list → q .held ≡ p .held → Live slot d p → Live slot d q
-live-same slot d p q e h l =
-    record {
-      is-sound = l .is-sound;
-      place = l .place;
-      list = l .list ∙ sym e;
-      held = ap pairs h ∙ l .held;
-      fits = rw h (l .fits);
-    }
