@@ -24,7 +24,8 @@ use Rattle.course_init.specs.Reading.{BringUp, Reading, nothingRead, readUpTo, 
 use Rattle.course_init.specs.Init.{step, bringUpSettings, bringUpSet, bringUpConfigs, bringUpDevice, bringUpConfiguration, bringUpPacket, bringUpHeader, bringUpAddress}
 use Rattle.transfer.specs.Routes.{withRoute}
 use Rattle.device.specs.Left.{Left}
-use Rattle.device_bring_up.specs.BringUp.{spacingOf, bringUpCourse, broughtRecord, broughtLeft, bringUp}
+use Rattle.context.specs.Place.{spacingOf}
+use Rattle.device_bring_up.specs.BringUp.{bringUpCourse, broughtRecord, broughtLeft, bringUp}
 use Rattle.device_bring_up.proofs.Laws.{Refused, Ran, bring-up-cases}
 use Rattle.theorem_accepting.specs.Accepting.{valueSet}
 

@@ -20,7 +20,8 @@ use Rattle.course_init.specs.Reading.{BringUp, nothingRead, Brought, brought}
 use Rattle.course_init.specs.Init.{bringUpAddress}
 use Rattle.course_init.proofs.Contexts.{addressed, sized, settings, cutHere, bring-up-at-address, bring-up-at-packet, bring-up-at-configure, bring-up-at-restore, bring-up-at-evaluate, bring-up-address-reads, bring-up-packet-reads, bring-up-configure-reads, bring-up-restore-reads, bring-up-evaluate-reads}
 use Rattle.device.specs.Calls.{onCheck}
-use Rattle.device_bring_up.specs.BringUp.{spacingOf, queueCheck, bringUpCheck, bringUpCourse, broughtLeft, bringUp}
+use Rattle.context.specs.Place.{spacingOf}
+use Rattle.device_bring_up.specs.BringUp.{queueCheck, bringUpCheck, bringUpCourse, broughtLeft, bringUp}
 use Rattle.device_bring_up.proofs.Checks.{Passed, passed}
 use Rattle.theorem_contexts.specs.Contexts.{Byte, done, failed, At, Addresses, BringUpReads, BringUpContexts}
 use Rattle.theorem_contexts.proofs.Ended.{cut-count, cut-word, cut-end}

@@ -35,7 +35,8 @@ use Rattle.device.specs.Calls.{hubUpdate}
 use Rattle.device.specs.Claim.{claimCheck, claim}
 use Rattle.device.specs.Release.{releaseCheck, release}
 use Rattle.device.specs.SetConfiguration.{setConfiguration}
-use Rattle.device_bring_up.specs.BringUp.{spacingOf, bringUpCheck, bringUp}
+use Rattle.context.specs.Place.{spacingOf}
+use Rattle.device_bring_up.specs.BringUp.{bringUpCheck, bringUp}
 
 -- What the code's types give: bytes, and rings of 64 bits.
 abbrev pub Byte : ℕ → Type 0

@@ -38,7 +38,8 @@ use Rattle.device_bring_up.proofs.Laws.{bring-up-sound}
 use Rattle.answer.specs.declared.Check.{Check}
 use Rattle.answer.specs.declared.Check.the-variants.{Pass}
 use Rattle.transfer.specs.Routes.{withRoute}
-use Rattle.device_bring_up.specs.BringUp.{spacingOf, bringUpCourse, broughtLeft, bringUp}
+use Rattle.context.specs.Place.{spacingOf}
+use Rattle.device_bring_up.specs.BringUp.{bringUpCourse, broughtLeft, bringUp}
 use Rattle.theorem_slot.specs.Call.{Buffers, Asked, bringsUp, claims, releases, configures, updatesHub, Call, left}
 use Rattle.theorem_slot.specs.Answers.{isRefused, refusedRecord, CodeOfOutcome, Answered, AnswersTell, Returned, SoundReturned}
 use Rattle.theorem_slot.specs.Theorem.{NoneQuarantined}

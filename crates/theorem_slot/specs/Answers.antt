@@ -12,7 +12,7 @@ use Rattle.answer.specs.Answer.{number}
 use Rattle.device.specs.declared.record.Device.{Device}
 use Rattle.device.specs.Left.{Left, refused}
 use Rattle.device.specs.Sound.{sound}
-use Rattle.device_bring_up.specs.BringUp.{noDevice}
+use Rattle.device.specs.Device.{noDevice}
 use Rattle.theorem_slot.specs.Call.{Asked, bringsUp, claims, releases, configures, updatesHub, Call, left, cutAt}
 
 -- Refused before any command: 1 to 12 and 17.
