@@ -2,4 +2,5 @@ pub mod Cuts
 pub mod Done
 pub mod Laws
 pub mod Operations
+pub mod Reached
 pub mod Sweeps

@@ -1,2 +1,3 @@
+pub mod Contexts
 pub mod Laws
 pub mod Controlled

@@ -1,5 +1,6 @@
 -- The course of a bring-up after its checks, with control's route registered: `Device::init` of the original; 01, "Course of each call".
 use Prim.Native.Nat.{ℕ, zero, suc, _+_}
+use mathlib.Core.Path.{_≡_}
 use mathlib.Core.Bool.{true, cond}
 use mathlib.Core.List.{List, []}
 use lib.Dec.{eqb}
@@ -74,6 +75,10 @@ unfoldable pub bringUpPacket : BringUp → ℕ → List ℕ → List ℕ → Cou
 bringUpPacket a spacing ctx routes =
     let next = written spacing (maxPacketWrites (a .speed) (a .packet)) ctx in
     step command.Evaluate nothingRead next routes (bringUpConfiguration a spacing next routes)
+
+-- A header in order: eight bytes, and a packet byte that a device of this speed may have.
+abbrev pub HeaderRead : BringUp → Type 0
+HeaderRead a = (a .header ≡ 8) × (exponentOk (a .speed) (a .packet) ≡ true)
 
 -- It is read in a header of eight bytes, which says one that a device of this speed may have.
 unfoldable pub bringUpHeader : BringUp → ℕ → List ℕ → List ℕ → Course Brought

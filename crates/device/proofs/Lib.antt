@@ -1,8 +1,10 @@
 pub mod ClaimLaws
+pub mod Contexts
 pub mod Counts
 pub mod Ends
 pub mod Exits
 pub mod Facts
+pub mod Fit
 pub mod Kept
 pub mod Laws
 pub mod Made

@@ -18,10 +18,11 @@ use Rattle.device_bring_up.proofs.Checks.{passed}
 use Rattle.device_bring_up.proofs.Laws.{BroughtUp as Brought, bring-up-done, bring-up-accepted, brought-control, brought-others}
 use Rattle.theorem_accepting.specs.Accepting.{Accepted, BroughtUp, BringUpAccepted}
 use Rattle.theorem_accepting.proofs.Runs.{done-at}
+use Rattle.theorem_accepting.proofs.Value.{Values, bring-up-values}
 
 -- What an accepted bring-up gives, where the slot had no routes.
 module _ (a : BringUp) (ctx routes log : List ℕ) (l : Left) (b : Brought a ctx routes log l) (e : l .answer ≡ answer.Accepted)
-    (none : (d : ℕ) → 2 ≤ d → d < 32 → routeOf routes (a .slot) d ≡ 0) where
+    (none : (d : ℕ) → 2 ≤ d → d < 32 → routeOf routes (a .slot) d ≡ 0) (v : Values a l) where
   accepted : Accepted (l .device) l
   unfolding withRoute noEndpoints
   accepted =
@@ -38,14 +39,21 @@ module _ (a : BringUp) (ctx routes log : List ℕ) (l : Left) (b : Brought a ctx
             (brought-others a ctx routes log l b _ (λ x. omega arith) ∙ none _ low (dci-high p h) ∙ sym (getD-replicate 30 p 0 0 h));
       }
 
-  brought-up : BroughtUp a l
+  brought-up : BroughtUp a ctx l
   brought-up =
       record {
         accepted = accepted;
         slot = b .slot;
+        n = b .n;
+        spacing = rw (b .spacing) (b .pass .context);
+        speed = b .speed;
+        configured = v .configured;
+        value = v .value;
         list = b .list;
-        held = b .held;
         control = b .control;
+        held = b .held;
+        endpoints = b .endpoints;
+        quarantined = b .quarantined;
         route = brought-control a ctx routes log l b;
       }
 
@@ -56,4 +64,4 @@ bring-up-accepts a ctx routes log outcomes p header nine none done =
     let e =
     bring-up-done a ctx routes log outcomes p header (exponent-fits (a .speed) (a .packet) nine)
     (λ i low high. done-at outcomes _ i done (omega (arith, valid-configurations (a .list) valid))) in
-    brought-up a ctx routes log _ (bring-up-accepted a ctx routes log outcomes e) e none
+    brought-up a ctx routes log _ (bring-up-accepted a ctx routes log outcomes e) e none (bring-up-values a ctx routes log outcomes e)

@@ -2,3 +2,4 @@ pub mod Accepting
 pub mod Back
 pub mod BringUp
 pub mod Runs
+pub mod Value

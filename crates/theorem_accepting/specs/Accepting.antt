@@ -1,11 +1,13 @@
 -- Calls do not refuse everything: one whose checks pass, on a record and a table that agree, with every outcome done, is accepted.
 use Prim.Native.Nat.{ℕ, _+_, _*_, _<_, _≤_}
 use mathlib.Core.Path.{_≡_}
-use mathlib.Core.Bool.{Bool, true, false}
+use mathlib.Core.Bool.{Bool, true, false, cond}
 use mathlib.Core.List.{List, [], _∷_, _++_}
+use lib.Dec.{eqb}
 use lib.ListN.{length, getD}
 use mathlib.Core.Logic.{_⊎_}
 use Rattle.def.specs.Speed.{SUPER, SUPER-PLUS}
+use Rattle.descriptor.specs.Word.{configurationValue}
 use Rattle.answer.specs.declared.Answer.the-variants as answer
 use Rattle.answer.specs.declared.Check.{Check}
 use Rattle.answer.specs.declared.Check.the-variants.{Pass}
@@ -14,12 +16,12 @@ use Rattle.context_block.specs.Blocks.{wordDci}
 use Rattle.context_block.specs.Promises.{someDci}
 use Rattle.transfer.specs.Routes.{routeOf}
 use Rattle.record_endpoint.specs.Order.{PLACES, dciAt}
-use Rattle.record_endpoint.specs.EndpointMap.{isOwned}
+use Rattle.record_endpoint.specs.EndpointMap.{isOwned, noEndpoints}
 use Rattle.record_endpoint.specs.declared.endpoint_map.Owner.the-variants.{Interface}
 use Rattle.record_settings.specs.Held.{isHeld, alternateOf, settingWords, withoutSetting}
 use Rattle.theorem_routing.specs.Routing.{RoutedBy}
 use Rattle.device.specs.declared.record.Device.{Device}
-use Rattle.device.specs.Device.{listOf, endpointMapIn, heldOf}
+use Rattle.device.specs.Device.{listOf, endpointMapIn, heldOf, quarantinedOf}
 use Rattle.device.specs.Sound.{sound}
 use Rattle.device.specs.Left.{Left}
 use Rattle.device.specs.Check.{recordCheck, hubCheck}
@@ -61,13 +63,25 @@ pub record Accepted (d : Device) (l : Left) : Type 0 where
   pub table : length (l .routes) ≡ 32 * (l .device .n + 1)
   pub routed : Routed (l .device) (l .routes)
 
--- A bring-up: the record is that of the slot and of the list that were asked for, it holds no setting, and control's ring is routed.
-pub record BroughtUp (a : BringUp) (l : Left) : Type 0 where
+-- The configuration value after a bring-up: the first configuration's, which is set; the one that was read where the list is empty.
+unfoldable pub valueSet : BringUp → ℕ
+valueSet a = cond (eqb (length (a .list)) 0) (a .value) (configurationValue (getD (a .list) 0 0))
+
+-- A bring-up: the record is that of the slot, N, spacing, speed, list and control ring that were asked for, it holds no setting, and
+-- control's ring is routed.
+pub record BroughtUp (a : BringUp) (ctx : List ℕ) (l : Left) : Type 0 where
   pub accepted : Accepted (l .device) l
   pub slot : l .device .slot .0 ≡ a .slot
+  pub n : l .device .n ≡ a .n
+  pub spacing : length ctx ≡ 33 * l .device .spacing
+  pub speed : l .device .«port_speed» ≡ a .speed
+  pub configured : l .device .configured ≡ true
+  pub value : l .device .«current_config_value» ≡ valueSet a
   pub list : listOf (l .device) ≡ a .list
-  pub held : heldOf (l .device) ≡ []
   pub control : l .device .control ≡ a .ring
+  pub held : heldOf (l .device) ≡ []
+  pub endpoints : endpointMapIn (l .device) ≡ noEndpoints
+  pub quarantined : quarantinedOf (l .device) ≡ []
   pub route : routeOf (l .routes) (a .slot) 1 ≡ a .ring
 
 -- Its checks pass, the header has its eight bytes with, at SuperSpeed, the exponent 9, and the slot has no routes yet.
@@ -79,7 +93,7 @@ BringUpAccepted =
     ((a .speed ≡ SUPER) ⊎ (a .speed ≡ SUPER-PLUS) → a .packet ≡ 9) →
     ((d : ℕ) → 2 ≤ d → d < 32 → routeOf routes (a .slot) d ≡ 0) →
     AllDone outcomes LOG-ROOM →
-    BroughtUp a (bringUp a ctx routes log outcomes)
+    BroughtUp a ctx (bringUp a ctx routes log outcomes)
 
 -- A claim: each endpoint word's Dci is routed to the ring offered for it; of several words of a Dci, the last counts.
 pub record Claimed (d : Device) (interface alternate : ℕ) (rings : List ℕ) (l : Left) : Type 0 where

@@ -52,9 +52,9 @@ use Rattle.course_init.specs.Init.{step, bringUpSettings, bringUpSet, bringUpCo
 use Rattle.device_bring_up.specs.BringUp.{bringUpCheck, bringUpCourse, broughtRecord, broughtLeft, bringUp, slotCheck, deviceCheck, queueCheck}
 use Rattle.theorem_controller.specs.Controller.{isDone, controlled, enabledAfter, doneWord}
 use Rattle.theorem_controller.specs.Controller as controller
-use Rattle.theorem_slot.specs.Call.{left}
+use Rattle.theorem_slot.specs.Call.{cutAt, left}
 use Rattle.theorem_slot.specs.Plain.{heldQueues, plainRoute, isHeldDci, without, hasSetting, settingOf, effectOf, heldAfter, isUnheldRelease, begun, anew, observed, seen}
-use Rattle.theorem_slot.specs.Theorem.{cutAt, contextCut, called, after, start}
+use Rattle.theorem_slot.specs.Theorem.{recordAfter, contextCut, called, start}
 use Rattle.theorem_cases.specs.Added.{interrupt81, addedHolds}
 use Rattle.theorem_cases.specs.Lists.{lists, allListed}
 use Rattle.theorem_cases.specs.Example.{list, asked, usual, ctx, log, free, done, first, second}
@@ -210,5 +210,5 @@ allHold [] = true
 allHold (c ∷ cs) = caseHolds c && allHold cs
 
 pub all-hold : (ring : ℕ) → (allHold (cases ring) && allListed lists) ≡ true
-unfolding hub-route.routeOfPorts speedKnown hubInfo hubAt hubFits chainFrom chainOk ports clamp routeOf routeString thinkTime directionIn endpointNumber typeNumber transferType endpointDescriptor dciOf endpointType periodicInterval xhciInterval isPeriodic periodicBurst esitPayload wordAt putWord readField withBits writeField queues ringFor changed ringFields errorCount periodicFields burstOf basicFields endpointFields wordDci dropFlags inBlock onPart writeAt written blockAt readAt addWrites addAll highestDci wordDcis contextEntries configureWrites firstPacketSize headerPacketSize kind configurationValue interfaceNumber alternateSetting endpointOk wordOk endpointRun ofInterface isAlternate findFrom findEndpoints beginsWithConfiguration wordsOk runFits runsFit configurations hasInterface lastAlternate interfaces validList routeIndex withRoute registered withRegistered names oldMatch isFree newFree replaced cleared published moved withReplaced commandWord outcomeAt onSent then words result played resumeFrom resumeStoppedEndpoints orCode undoStops stopFrom stopEndpoints number codeOf ringOk ringsOk disjoint offerOk noEndpoints withEndpoint isActive handleOf endpointMapFrom endpointMapOf gathered endpointAt endpointsOf ownersOf owns isOwned tabulated ownedRings queuesOf pendingFrom pendingRings claimedRing claimedOwner claimedActive claimedEndpoints activeFrom withActive queueDcis queueRings addresses addressesFit padded addressAt dciAt placeOf heldIn interfacesOf alternatesOf isHeld alternateOf withoutSetting withSetting foundWords settingWords heldWords isFound eachSetting allFound settingsSound hasPlace placesOf agree eachFrom eachPlace ownsPlaces allOwn ownersHeld endpointsMatch addressesFree answerOf configureFailed releaseContext releasePublished releasePublish releaseResume releaseConfigure releaseCourse claimContext undoContext claimPublished claimPublish claimSwitchBack claimUndone claimUndo claimSwitch claimResume claimConfigure claimCourse dropContext restoreContext valueContext setEvaluate setPublished setPublish setRestored setRestore setSwitch setResume setConfigure setCourse onCheck thinkValue hubContext hubCourse hubLeft hubUpdate recordCheck isThought hubCheck claimCheck pendingOf claimIn quarantines claimRecord claim listOf endpointMapIn heldOf quarantinedOf withEndpoints withHeld withConfiguration withQuarantined unusable refused marked ended releaseCheck releaseIn releaseRecord release settingsIn bare setRecord setConfiguration slotSound countsFit listsSound ringsOf allRings ringsSound sound spacingOf bringUpCheck step firstConfigurations nothingRead readUpTo bringUpSettings bringUpSet bringUpConfigs bringUpDevice bringUpHeader bringUpCourse broughtRecord noDevice broughtLeft bringUp elem distinct left controller.configured isDone controlled enabledAfter doneWord heldQueues plainRoute isHeldDci without hasSetting settingOf effectOf heldAfter isUnheldRelease begun anew observed cutAt contextCut called after start slotCheck deviceCheck queueCheck bringUpConfiguration bringUpPacket bringUpAddress seen addressFree heldExponent isochronousInterval isSuper exponentOk
+unfolding hub-route.routeOfPorts speedKnown hubInfo hubAt hubFits chainFrom chainOk ports clamp routeOf routeString thinkTime directionIn endpointNumber typeNumber transferType endpointDescriptor dciOf endpointType periodicInterval xhciInterval isPeriodic periodicBurst esitPayload wordAt putWord readField withBits writeField queues ringFor changed ringFields errorCount periodicFields burstOf basicFields endpointFields wordDci dropFlags inBlock onPart writeAt written blockAt readAt addWrites addAll highestDci wordDcis contextEntries configureWrites firstPacketSize headerPacketSize kind configurationValue interfaceNumber alternateSetting endpointOk wordOk endpointRun ofInterface isAlternate findFrom findEndpoints beginsWithConfiguration wordsOk runFits runsFit configurations hasInterface lastAlternate interfaces validList routeIndex withRoute registered withRegistered names oldMatch isFree newFree replaced cleared published moved withReplaced commandWord outcomeAt onSent then words result played resumeFrom resumeStoppedEndpoints orCode undoStops stopFrom stopEndpoints number codeOf ringOk ringsOk disjoint offerOk noEndpoints withEndpoint isActive handleOf endpointMapFrom endpointMapOf gathered endpointAt endpointsOf ownersOf owns isOwned tabulated ownedRings queuesOf pendingFrom pendingRings claimedRing claimedOwner claimedActive claimedEndpoints activeFrom withActive queueDcis queueRings addresses addressesFit padded addressAt dciAt placeOf heldIn interfacesOf alternatesOf isHeld alternateOf withoutSetting withSetting foundWords settingWords heldWords isFound eachSetting allFound settingsSound hasPlace placesOf agree eachFrom eachPlace ownsPlaces allOwn ownersHeld endpointsMatch addressesFree answerOf configureFailed releaseContext releasePublished releasePublish releaseResume releaseConfigure releaseCourse claimContext undoContext claimPublished claimPublish claimSwitchBack claimUndone claimUndo claimSwitch claimResume claimConfigure claimCourse dropContext restoreContext valueContext setEvaluate setPublished setPublish setRestored setRestore setSwitch setResume setConfigure setCourse onCheck thinkValue hubContext hubCourse hubLeft hubUpdate recordCheck isThought hubCheck claimCheck pendingOf claimIn quarantines claimRecord claim listOf endpointMapIn heldOf quarantinedOf withEndpoints withHeld withConfiguration withQuarantined unusable refused marked ended releaseCheck releaseIn releaseRecord release settingsIn bare setRecord setConfiguration slotSound countsFit listsSound ringsOf allRings ringsSound sound spacingOf bringUpCheck step firstConfigurations nothingRead readUpTo bringUpSettings bringUpSet bringUpConfigs bringUpDevice bringUpHeader bringUpCourse broughtRecord noDevice broughtLeft bringUp elem distinct left controller.configured isDone controlled enabledAfter doneWord heldQueues plainRoute isHeldDci without hasSetting settingOf effectOf heldAfter isUnheldRelease begun anew observed cutAt contextCut called start slotCheck deviceCheck queueCheck bringUpConfiguration bringUpPacket bringUpAddress seen addressFree recordAfter heldExponent isochronousInterval isSuper exponentOk
 all-hold ring = refl

@@ -1,17 +1,21 @@
--- Ten short lists of calls on one slot, and what the plain slot is after each: docs/THEOREM.md works through them.
+-- Lists of calls on one slot, what each call answers, and what is left after them: docs/THEOREM.md works through them.
 use Prim.Native.Nat.{ℕ, zero, suc, _+_}
 use mathlib.Core.Bool.{Bool, true, false, not, cond, _&&_}
-use mathlib.Core.List.{List, [], _∷_}
+use mathlib.Core.List.{List, [], _∷_, _++_}
 use lib.Dec.{eqb}
+use lib.ListN.{length, getD, replicate}
 use Rattle.def.specs.Speed.{HIGH}
+use Rattle.answer.specs.declared.Answer.{Answer}
+use Rattle.answer.specs.declared.Answer.the-variants as answer
+use Rattle.answer.specs.Answer.{number, codeOf}
 use Rattle.transfer.specs.Routes.{Queue, routeOf}
 use Rattle.course_init.specs.Reading.{BringUp}
 use Rattle.device_bring_up.specs.BringUp.{bringUp}
-use Rattle.theorem_slot.specs.Call.{Asked, Call, bringsUp, claims, releases, configures}
+use Rattle.theorem_slot.specs.Call.{Asked, Call, bringsUp, claims, releases, configures, updatesHub, left}
 use Rattle.theorem_slot.specs.Plain.{HeldSetting}
-use Rattle.theorem_slot.specs.Theorem.{State, after, start}
+use Rattle.theorem_slot.specs.Theorem.{State, called, start}
 use Rattle.theorem_cases.specs.Added.{endpointWord}
-use Rattle.theorem_cases.specs.Example.{asked, ctx, log, free, done}
+use Rattle.theorem_cases.specs.Example.{ctx, log, done}
 
 -- Value 1; interface 0: alternate 0 with 0x81, alternate 1 with 0x81 and 0x02; interface 1: alternate 0 with 0x81;
 -- interface 2: alternate 0 with 0x83 twice. All bulk.
@@ -33,20 +37,65 @@ shared =
     ∷ bulk 1 3
     ∷ []
 
+-- On slot 1 of 2, High speed, no hub above it.
 abbrev pub device : BringUp
-device = asked 1 HIGH 8 false shared
+device =
+    record {
+      slot = 1;
+      n = 2;
+      speed = HIGH;
+      hubs = [];
+      hasParent = false;
+      parent = 0;
+      port = 1;
+      rootPort = 1;
+      ring = 16;
+      header = 8;
+      packet = 64;
+      value = 0;
+      list = shared;
+    }
+
+-- The table before the bring-up: slot 1 has no routes, every other word is set, each to another number.
+abbrev pub numbers : ℕ → ℕ → List ℕ
+numbers zero from = []
+numbers (suc k) from = from ∷ numbers k (from + 16)
+
+abbrev pub table : List ℕ
+table = numbers 32 4096 ++ (replicate 32 0 ++ numbers 32 8192)
+
+-- A call, the answer that it gets, and whether the caller keeps his record where it is a bring-up that is not accepted.
+pub record Heard : Type 0 where
+  pub call : Call
+  pub answer : Answer
+  pub keeps : Bool
 
 abbrev pub call : Asked → List ℕ → Call
 call a outcomes = record { asked = a; buffers = record { ctx = ctx; log = log; outcomes = outcomes } }
 
--- Interface 0 claimed at alternate 0, with ring 32 for 0x81.
-abbrev pub firstClaim : Call
-firstClaim = call (claims 0 0 (32 ∷ [])) done
+abbrev pub hears : Asked → List ℕ → Answer → Heard
+hears a outcomes x = record { call = call a outcomes; answer = x; keeps = false }
 
--- A list of calls after the bring-up; the interfaces held after it, the endpoints with a route, those enabled, and the two marks.
+abbrev pub keeps : Asked → List ℕ → Answer → Heard
+keeps a outcomes x = record { call = call a outcomes; answer = x; keeps = true }
+
+-- Interface 0 claimed at alternate 0, with ring 32 for 0x81.
+abbrev pub firstClaim : Heard
+firstClaim = hears (claims 0 0 (32 ∷ [])) done answer.Accepted
+
+-- An interface and the alternate that it holds.
+pub record At : Type 0 where
+  pub interface : ℕ
+  pub alternate : ℕ
+
+abbrev pub at : ℕ → ℕ → At
+at interface alternate = record { interface = interface; alternate = alternate }
+
+-- Calls after the bring-up with their answers; what is held after them, the endpoints with a route beside control, those enabled
+-- beside it, and the two marks.
 pub record Listed : Type 0 where
-  pub calls : List Call
-  pub held : List ℕ
+  pub calls : List Heard
+  pub held : List At
   pub routed : List Queue
   pub enabled : List ℕ
   pub broken : Bool
@@ -55,40 +104,64 @@ pub record Listed : Type 0 where
 abbrev pub route : ℕ → ℕ → Queue
 route dci ring = record { dci = dci; ring = ring }
 
-abbrev pub list : List Call → List ℕ → List Queue → List ℕ → Bool → Bool → Listed
+abbrev pub list : List Heard → List At → List Queue → List ℕ → Bool → Bool → Listed
 list calls held routed enabled broken unheldRelease =
     record { calls = calls; held = held; routed = routed; enabled = enabled; broken = broken; unheldRelease = unheldRelease }
 
 abbrev pub lists : List Listed
 lists =
     -- 1: a claim, and one of the other alternate in its place
-    list (firstClaim ∷ call (claims 0 1 (48 ∷ 64 ∷ [])) done ∷ []) (0 ∷ []) (route 3 48 ∷ route 4 64 ∷ []) (3 ∷ 4 ∷ []) false false
+    list (firstClaim ∷ hears (claims 0 1 (48 ∷ 64 ∷ [])) done answer.Accepted ∷ [])
+    (at 0 1 ∷ []) (route 3 48 ∷ route 4 64 ∷ []) (3 ∷ 4 ∷ []) false false
     -- 2: a claim undone: its SetInterface fails
-    ∷ list (firstClaim ∷ call (claims 0 1 (48 ∷ 64 ∷ [])) (0 ∷ 0 ∷ 7 ∷ 0 ∷ 0 ∷ []) ∷ []) (0 ∷ []) (route 3 32 ∷ []) (3 ∷ []) false false
+    ∷ list (firstClaim ∷ hears (claims 0 1 (48 ∷ 64 ∷ [])) (0 ∷ 0 ∷ 7 ∷ 0 ∷ 0 ∷ []) (answer.Failed 7) ∷ [])
+    (at 0 0 ∷ []) (route 3 32 ∷ []) (3 ∷ []) false false
     -- 3: the undoing fails too: broken, with the new endpoints in the controller
-    ∷ list (firstClaim ∷ call (claims 0 1 (48 ∷ 64 ∷ [])) (0 ∷ 0 ∷ 7 ∷ 5 ∷ []) ∷ []) (0 ∷ []) (route 3 32 ∷ []) (3 ∷ 4 ∷ []) true false
+    ∷ list (firstClaim ∷ hears (claims 0 1 (48 ∷ 64 ∷ [])) (0 ∷ 0 ∷ 7 ∷ 5 ∷ []) answer.InterfaceBroken ∷ [])
+    (at 0 0 ∷ []) (route 3 32 ∷ []) (3 ∷ 4 ∷ []) true false
     -- 4: a claim and its release
-    ∷ list (firstClaim ∷ call (releases 0) done ∷ []) [] [] [] false false
+    ∷ list (firstClaim ∷ hears (releases 0) done answer.Accepted ∷ []) [] [] [] false false
     -- 5: a repeated address: the last word's ring
-    ∷ list (call (claims 2 0 (32 ∷ 48 ∷ [])) done ∷ []) (2 ∷ []) (route 7 48 ∷ []) (7 ∷ []) false false
+    ∷ list (hears (claims 2 0 (32 ∷ 48 ∷ [])) done answer.Accepted ∷ []) (at 2 0 ∷ []) (route 7 48 ∷ []) (7 ∷ []) false false
     -- 6: a set configuration cut at its last Evaluate
-    ∷ list (firstClaim ∷ call (configures 1) (0 ∷ 0 ∷ 0 ∷ []) ∷ []) [] [] [] true false
+    ∷ list (firstClaim ∷ hears (configures 1) (0 ∷ 0 ∷ 0 ∷ []) answer.Cut ∷ []) [] [] [] true false
     -- 7: a set configuration that fails and is undone
-    ∷ list (firstClaim ∷ call (configures 1) (0 ∷ 0 ∷ 9 ∷ 0 ∷ 0 ∷ []) ∷ []) (0 ∷ []) (route 3 32 ∷ []) (3 ∷ []) false false
-    -- 8: a second bring-up is refused (17), and every call after it (12)
-    ∷ list (firstClaim ∷ call (bringsUp device) done ∷ call (releases 0) done ∷ []) (0 ∷ []) (route 3 32 ∷ []) (3 ∷ []) false false
+    ∷ list (firstClaim ∷ hears (configures 1) (0 ∷ 0 ∷ 9 ∷ 0 ∷ 0 ∷ []) (answer.Failed 9) ∷ [])
+    (at 0 0 ∷ []) (route 3 32 ∷ []) (3 ∷ []) false false
+    -- 8: a second bring-up is refused (17), and every call with its record after it (12)
+    ∷ list (firstClaim ∷ hears (bringsUp device) done answer.QueueFull ∷ hears (releases 0) done answer.Unusable ∷ [])
+    (at 0 0 ∷ []) (route 3 32 ∷ []) (3 ∷ []) false false
     -- 9: a claim of an address that another interface has is refused (9)
-    ∷ list (firstClaim ∷ call (claims 1 0 (48 ∷ [])) done ∷ call (claims 2 0 (48 ∷ 64 ∷ [])) done ∷ []) (0 ∷ 2 ∷ []) (route 3 32 ∷ route 7 64 ∷ []) (3 ∷ 7 ∷ []) false false
+    ∷ list
+    (firstClaim ∷ hears (claims 1 0 (48 ∷ [])) done answer.InvalidParameter ∷ hears (claims 2 0 (48 ∷ 64 ∷ [])) done answer.Accepted ∷ [])
+    (at 0 0 ∷ at 2 0 ∷ []) (route 3 32 ∷ route 7 64 ∷ []) (3 ∷ 7 ∷ []) false false
     -- 10: a release of an interface that holds nothing but lists the same address: the controller drops a held endpoint
-    ∷ list (firstClaim ∷ call (releases 1) done ∷ []) (0 ∷ []) (route 3 32 ∷ []) [] false true
+    ∷ list (firstClaim ∷ hears (releases 1) done answer.Accepted ∷ []) (at 0 0 ∷ []) (route 3 32 ∷ []) [] false true
+    -- 11: a dozen calls and one
+    ∷ list
+    (firstClaim
+    ∷ hears (claims 0 1 (48 ∷ 64 ∷ [])) done answer.Accepted
+    ∷ hears (claims 1 0 (80 ∷ [])) done answer.InvalidParameter
+    ∷ hears (claims 2 0 (80 ∷ 96 ∷ [])) done answer.Accepted
+    ∷ hears (updatesHub 4 false 666) done answer.Accepted
+    ∷ hears (claims 0 0 (32 ∷ [])) (0 ∷ 0 ∷ 0 ∷ 7 ∷ 0 ∷ 0 ∷ []) (answer.Failed 7)
+    ∷ hears (releases 0) done answer.Accepted
+    ∷ hears (releases 5) done answer.NotFound
+    ∷ hears (claims 1 0 (80 ∷ [])) done answer.Accepted
+    ∷ hears (configures 1) done answer.Accepted
+    ∷ firstClaim
+    ∷ keeps (bringsUp device) done answer.QueueFull
+    ∷ hears (claims 2 0 (48 ∷ 64 ∷ [])) done answer.Accepted
+    ∷ [])
+    (at 0 0 ∷ at 2 0 ∷ []) (route 3 32 ∷ route 7 64 ∷ []) (3 ∷ 7 ∷ []) false false
     ∷ []
 
--- The interfaces of settings, in order.
-abbrev pub sameHeld : List HeldSetting → List ℕ → Bool
+-- The interfaces and alternates of settings, in order.
+abbrev pub sameHeld : List HeldSetting → List At → Bool
 sameHeld [] [] = true
-sameHeld [] (i ∷ is) = false
+sameHeld [] (a ∷ rest) = false
 sameHeld (s ∷ ss) [] = false
-sameHeld (s ∷ ss) (i ∷ is) = eqb (s .interface) i && sameHeld ss is
+sameHeld (s ∷ ss) (a ∷ rest) = (eqb (s .interface) (a .interface) && eqb (s .alternate) (a .alternate)) && sameHeld ss rest
 
 abbrev pub has : ℕ → List ℕ → Bool
 has d [] = false
@@ -101,18 +174,37 @@ ringIn d (q ∷ qs) = cond (eqb (q .dci) d) (q .ring) (ringIn d qs)
 abbrev pub same : Bool → Bool → Bool
 same a b = cond a b (not b)
 
--- Each Dci from 2 to 31.
-abbrev pub dcisHold : ℕ → ℕ → State → Listed → Bool
-dcisHold zero d s l = true
-dcisHold (suc k) d s l =
-    (eqb (routeOf (s .routes) 1 d) (ringIn d (l .routed)) && same (s .plain .enabled d) (has d (l .enabled)))
-    && dcisHold k (d + 1) s l
+-- Each of the slot's 32 words, and whether its endpoint is enabled; control's ring is 16, and it is enabled.
+abbrev pub wordsHold : ℕ → ℕ → State → Listed → Bool
+wordsHold zero d s l = true
+wordsHold (suc k) d s l =
+    (eqb (routeOf (s .routes) 1 d) (ringIn d (route 1 16 ∷ l .routed)) && same (s .plain .enabled d) (has d (1 ∷ l .enabled)))
+    && wordsHold k (d + 1) s l
+
+-- Each word of a slot is as before the bring-up.
+abbrev pub slotAsBefore : ℕ → ℕ → ℕ → State → Bool
+slotAsBefore zero slot d s = true
+slotAsBefore (suc k) slot d s = eqb (routeOf (s .routes) slot d) (routeOf table slot d) && slotAsBefore k slot (d + 1) s
+
+abbrev pub leftHolds : State → Listed → Bool
+leftHolds s l =
+    sameHeld (s .plain .held) (l .held)
+    && (same (s .plain .broken) (l .broken)
+    && (same (s .plain .unheldRelease) (l .unheldRelease)
+    && (eqb (length (s .routes)) 96 && (wordsHold 32 0 s l && (slotAsBefore 32 0 0 s && slotAsBefore 32 2 0 s)))))
+
+abbrev pub sameAnswer : Answer → Answer → Bool
+sameAnswer a b = eqb (number a) (number b) && eqb (codeOf a) (codeOf b)
+
+-- Each call answers what is listed, and after the last the rest holds.
+abbrev pub heardFrom : State → List Heard → Listed → Bool
+heardFrom s [] l = leftHolds s l
+heardFrom s (h ∷ hs) l =
+    sameAnswer ((left (h .call .asked) (h .call .buffers) (s .device) (s .routes)) .answer) (h .answer)
+    && heardFrom (called s (record { call = h .call; table = s .routes; keeps = h .keeps })) hs l
 
 abbrev pub listedHolds : Listed → Bool
-listedHolds l =
-    let s = after (start device (bringUp device ctx free log done)) (l .calls) in
-    sameHeld (s .plain .held) (l .held)
-    && (same (s .plain .broken) (l .broken) && (same (s .plain .unheldRelease) (l .unheldRelease) && dcisHold 30 2 s l))
+listedHolds l = heardFrom (start device (bringUp device ctx table log done)) (l .calls) l
 
 abbrev pub allListed : List Listed → Bool
 allListed [] = true

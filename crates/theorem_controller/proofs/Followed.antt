@@ -82,14 +82,14 @@ module _ {S : Type 0} (step : Step S) where
         follows-sends c ctx done failed cut (rw (i Done ctx state) d) (λ code. rw (i (Failed code) ctx state) (f code)) (rw (i Cut ctx state) u)
 
     -- what comes after idle commands decides
-    follows-then : {B : Type 0} (c : Course B) (f : B → Course A) → EachCommand (λ x. Idle (operation x)) c →
+    pub follows-then : {B : Type 0} (c : Course B) (f : B → Course A) → EachCommand (λ x. Idle (operation x)) c →
         ((b : B) → Follows Q state (f b)) → Follows Q state (then c f)
     unfolding Follows then EachCommand
     follows-then (ends b) f e g = g b
     follows-then (sends c ctx k) f e g = λ s. rw (e .0 s ctx state) (follows-then (k s) f (e .1 s) g)
 
     module _ (resumes : Idle 5) (ctx ds : List ℕ) (f : Sweep → Course A) (next : (r : Sweep) → Follows Q state (f r)) where
-      -- as after a sweep
+      -- as after a sweep: Stop is operation 4, Resume 5
       pub resume-then : Follows Q state (then (resumeStoppedEndpoints ctx ds) f)
       unfolding operation
       resume-then = follows-then (resumeStoppedEndpoints ctx ds) f (resume-each _ ctx ds (λ k. resumes)) next

@@ -109,15 +109,16 @@ module _ {A : Type 0} (Q : A → (ℕ → Bool) → Type 0) (enabled : ℕ → B
 
   -- a Configure, where it is done
   pub follows-configure : (ctx : List ℕ) (done : Course A) (failed : ℕ → Course A) (cut : Course A) →
-      Follows enabledAfter Q (configured ctx enabled) done → ((code : ℕ) → Follows enabledAfter Q enabled (failed code)) → Follows enabledAfter Q enabled cut →
-      Follows enabledAfter Q enabled (sends command.Configure ctx (λ s. onSent s done failed cut))
+      Follows enabledAfter Q (configured ctx enabled) done → ((code : ℕ) → Follows enabledAfter Q enabled (failed code)) →
+      Follows enabledAfter Q enabled cut → Follows enabledAfter Q enabled (sends command.Configure ctx (λ s. onSent s done failed cut))
   unfolding enabledAfter operation isDone
   follows-configure ctx done failed cut d f u = follows-sends enabledAfter Q enabled command.Configure ctx done failed cut d f u
 
   -- any other command
   pub follows-other : (c : Command) → eqb (operation c) CONFIGURE ≡ false → (ctx : List ℕ) (done : Course A)
-      (failed : ℕ → Course A) (cut : Course A) → Follows enabledAfter Q enabled done → ((code : ℕ) → Follows enabledAfter Q enabled (failed code)) →
-      Follows enabledAfter Q enabled cut → Follows enabledAfter Q enabled (sends c ctx (λ s. onSent s done failed cut))
+      (failed : ℕ → Course A) (cut : Course A) → Follows enabledAfter Q enabled done →
+      ((code : ℕ) → Follows enabledAfter Q enabled (failed code)) → Follows enabledAfter Q enabled cut →
+      Follows enabledAfter Q enabled (sends c ctx (λ s. onSent s done failed cut))
   follows-other c e = follows-idle enabledAfter Q enabled c (idle-other (operation c) e)
 
 -- What an answer tells of whether an endpoint is enabled: accepted, it is as `made`; failed, it is as it `was`, given what an undoing needs.

@@ -365,9 +365,6 @@ module _ (words rings : List ℕ) (h : EndpointWords words) (d : ℕ) (l : d < 2
   pub words-low-name : names d (queues (wordDcis words) rings) ≡ false
   words-low-name = words-dci d words rings ∙ no-dci words d h l
 
-  pub words-low-ring : ringFor d (queues (wordDcis words) rings) 0 ≡ 0
-  words-low-ring = ringFor-none d (queues (wordDcis words) rings) 0 words-low-name
-
 -- Rings that passed an offer are at the places of the words.
 pub offer-places :
     (words rings live : List ℕ) (control : ℕ) (quarantined : List ℕ) →

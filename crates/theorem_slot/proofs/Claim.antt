@@ -48,12 +48,12 @@ use Rattle.device.specs.Calls.{onCheck}
 use Rattle.device.specs.Claim.{claimCheck, pendingOf, claimIn, claimRecord, claim}
 use Rattle.device.proofs.Laws.{Passed, passed, pass-if}
 use Rattle.device.proofs.Kept.{claim-moves, claim-stays}
-use Rattle.theorem_slot.specs.Call.{Buffers, claims, left}
+use Rattle.theorem_slot.specs.Call.{Buffers, claims, left, cutAt}
 use Rattle.theorem_slot.specs.Plain.{HeldSetting, Plain, plainRoute, isHeldDci, without, settingOf, Effect, holdsInterface, effectOf, heldAfter, anew, observed, seen}
-use Rattle.theorem_slot.specs.Theorem.{State, cutAt, contextCut, called}
+use Rattle.theorem_slot.specs.Theorem.{State, contextCut}
 use Rattle.theorem_slot.proofs.Settings.{last-ring, AllFit, pairs, pairs-append, pairs-without, fit-without, fit-append, alternate-byte}
 use Rattle.theorem_slot.proofs.Good.{Live, Unrouted, Good, live-tells, routed-from, named-from, enabled-was, live-here}
-use Rattle.theorem_slot.proofs.Step.{accepted-not, lost-not, checked, good-checked, mild-claim, ran, checked-ran}
+use Rattle.theorem_slot.proofs.Step.{accepted-not, lost-not, checked, good-checked, mild-claim, ran, checked-ran, calledHere}
 use Rattle.theorem_slot.proofs.Made.{fit-active, made-moved, made-same, byte-dcis}
 use Rattle.theorem_slot.proofs.Claimed.{some-place, owned-ring, free-ring, fits-other, fits-own, pending-free, claimed-some}
 
@@ -287,8 +287,8 @@ module _ (slot : ℕ) (before : List ℕ) (s : State) (buffers : Buffers) (i a :
         (claim-cuts (claimIn d i a rings) (buffers .ctx) (s .routes)) bytes)
         good-end
 
-  pub claim-good : Good slot before (called s (record { asked = claims i a rings; buffers = buffers }))
-  unfolding called contextCut cutAt left effectOf claim checked run refuse course
+  pub claim-good : Good slot before (calledHere s (record { asked = claims i a rings; buffers = buffers }))
+  unfolding calledHere contextCut cutAt left effectOf claim checked run refuse course
   claim-good =
       good-checked slot before s effect buffers run (buffers .ctx) (buffers .log) _ (mild-claim d _ _ _ i a rings) g
       (λ k. run-good k (live-here slot before s g (passed d _ _ _ _ k .0 .is-sound)))
@@ -320,10 +320,10 @@ module _ (slot : ℕ) (before : List ℕ) (s : State) (buffers : Buffers) (i a :
       someDci x (settingWords (p .list) i a) ≡ true → someDci 1 (settingWords (p .list) i a) ≡ false →
       routeOf ((left (claims i a rings) buffers d (s .routes)) .routes) slot x
       ≡ ringFor x (queues (wordDcis (settingWords (p .list) i a)) rings) 0
-  unfolding called effectOf observed anew seen heldAfter number plainRoute settingOf
+  unfolding calledHere effectOf observed anew seen heldAfter number plainRoute settingOf
   claim-routes u e x h w z =
       let ws = settingWords (p .list) i a in
-      let next = called s (record { asked = claims i a rings; buffers = buffers }) in
+      let next = calledHere s (record { asked = claims i a rings; buffers = buffers }) in
       let held : next .plain .held ≡ without i (p .held) ++ (settingOf (p .list) i a rings ∷ []) = rw e refl in
       let n : eqb x 1 ≡ false = ne-eqb x 1 (λ q. not-both (someDci 1 ws) (rw q at w) z) in
       claim-good .own u x h ∙ rw (n, held) (last-ring x (without i (p .held)) (settingOf (p .list) i a rings) (words-dci x ws rings ∙ w))

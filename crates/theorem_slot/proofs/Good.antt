@@ -24,7 +24,7 @@ use Rattle.device.specs.Device.{listOf, endpointMapIn, heldOf}
 use Rattle.device.specs.Sound.{sound}
 use Rattle.device.proofs.Facts.{sound-facts}
 use Rattle.theorem_slot.specs.Plain.{Plain, plainRoute, isHeldDci, heldQueues, hasSetting}
-use Rattle.theorem_slot.specs.Theorem.{State, Kept, Untouched}
+use Rattle.theorem_slot.specs.Theorem.{State, Untouched}
 use Rattle.theorem_slot.proofs.Settings.{AllFit, heldAt, held-low, held-names, held-ring, pairs, pairs-setting}
 
 -- A sound record and the plain slot say the same, whether or not it is usable.
@@ -59,9 +59,6 @@ pub record Good (slot : ℕ) (before : List ℕ) (s : State) : Type 0 where
       routeOf (s .routes) slot (dciAt q) ≡ ringFor (dciAt q) (heldQueues (s .plain .held)) 0
   -- and nothing else, where they were all 0
   pub own : Unrouted before slot → (d : ℕ) → d < 32 → routeOf (s .routes) slot d ≡ plainRoute (s .plain) d
-
-pub good-kept : (slot : ℕ) (before : List ℕ) (s : State) → Unrouted before slot → Good slot before s → Kept slot before s
-good-kept slot before s e g = record { own = g .own e; others = g .others; enabled = g .enabled }
 
 -- The plain slot's queues are those of some endpoints.
 pub record Tells (p : Plain) (c : EndpointMap) : Type 0 where
@@ -225,15 +222,3 @@ usable-sound slot before s g u = go (g .live)
     go : Slotless (s .device) ⊎ Live slot (s .device) (s .plain) → sound (s .device) ≡ true
     go (inl n) = not-both (s .device .usable) u (n .0)
     go (inr l) = l .is-sound
-
--- What both say stays where plain slots hold the same.
-pub live-same :
-    (slot : ℕ) (d : Device) (p q : Plain) → q .list ≡ p .list → q .held ≡ p .held → Live slot d p → Live slot d q
-live-same slot d p q e h l =
-    record {
-      is-sound = l .is-sound;
-      place = l .place;
-      list = l .list ∙ sym e;
-      held = ap pairs h ∙ l .held;
-      fits = rw h (l .fits);
-    }

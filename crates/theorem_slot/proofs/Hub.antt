@@ -20,11 +20,11 @@ use Rattle.device.specs.Left.{Left, refused, marked}
 use Rattle.device.specs.Calls.{onCheck, hubContext, hubCourse, hubLeft, hubUpdate}
 use Rattle.device.proofs.Made.{marked-made}
 use Rattle.device.proofs.Laws.{passed}
-use Rattle.theorem_slot.specs.Call.{Buffers, updatesHub, left}
+use Rattle.theorem_slot.specs.Call.{Buffers, updatesHub, left, cutAt}
 use Rattle.theorem_slot.specs.Plain.{nothing, effectOf, heldAfter, isUnheldRelease, anew, observed, seen}
-use Rattle.theorem_slot.specs.Theorem.{State, cutAt, contextCut, called}
+use Rattle.theorem_slot.specs.Theorem.{State, contextCut}
 use Rattle.theorem_slot.proofs.Good.{Good, live-here}
-use Rattle.theorem_slot.proofs.Step.{checked, good-checked, mild-hub}
+use Rattle.theorem_slot.proofs.Step.{checked, good-checked, mild-hub, calledHere}
 use Rattle.theorem_slot.proofs.Made.{made-same}
 use Rattle.theorem_slot.proofs.Words.{taken-words}
 
@@ -65,8 +65,8 @@ module _ (slot : ℕ) (before : List ℕ) (s : State) (buffers : Buffers) (ports
   unfolding words hubCourse
   one-word = refl
 
-  pub hub-good : Good slot before (called s (record { asked = updatesHub ports multi ns; buffers = buffers }))
-  unfolding called contextCut cutAt left effectOf hubUpdate checked run refuse ctx
+  pub hub-good : Good slot before (calledHere s (record { asked = updatesHub ports multi ns; buffers = buffers }))
+  unfolding calledHere contextCut cutAt left effectOf hubUpdate checked run refuse ctx
   hub-good =
       good-checked slot before s nothing buffers run (buffers .ctx) (buffers .log) _ (mild-hub (s .device) _ _ _ ns) g
       (λ e.

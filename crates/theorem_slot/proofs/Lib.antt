@@ -2,6 +2,7 @@ mod BringUp
 mod Claim
 mod Claimed
 pub mod Demand3
+pub mod Ends
 pub mod Few
 pub mod Good
 mod Hub
@@ -12,4 +13,6 @@ pub mod Returned
 mod SetConfiguration
 pub mod Settings
 pub mod Step
+pub mod Surplus
+pub mod Told
 pub mod Words

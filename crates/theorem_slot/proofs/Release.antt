@@ -41,12 +41,12 @@ use Rattle.device.specs.Check.{recordCheck}
 use Rattle.device.specs.Release.{releaseCheck, releaseIn, releaseRecord, release}
 use Rattle.device.proofs.Laws.{Passed, passed}
 use Rattle.device.proofs.Kept.{release-moves, release-stays}
-use Rattle.theorem_slot.specs.Call.{Buffers, releases, left}
+use Rattle.theorem_slot.specs.Call.{Buffers, releases, left, cutAt}
 use Rattle.theorem_slot.specs.Plain.{Plain, isHeldDci, without, hasSetting, Effect, endsOne, effectOf, heldAfter, isUnheldRelease, anew, seen}
-use Rattle.theorem_slot.specs.Theorem.{State, cutAt, contextCut, called}
+use Rattle.theorem_slot.specs.Theorem.{State, contextCut}
 use Rattle.theorem_slot.proofs.Settings.{AllFit, pairs, pairs-setting, pairs-without, fit-without}
 use Rattle.theorem_slot.proofs.Good.{Live, Unrouted, Good, live-tells, routed-from, named-from, enabled-was, live-here}
-use Rattle.theorem_slot.proofs.Step.{lost-not, checked, good-checked, mild-release, ran, checked-ran}
+use Rattle.theorem_slot.proofs.Step.{lost-not, checked, good-checked, mild-release, ran, checked-ran, calledHere}
 use Rattle.theorem_slot.proofs.Made.{fit-active, made-moved, made-same, byte-dcis}
 use Rattle.theorem_slot.proofs.Claimed.{some-place, fits-other, claimed-some}
 
@@ -274,8 +274,8 @@ module _ (slot : ℕ) (before : List ℕ) (s : State) (buffers : Buffers) (i : �
         (release-cuts (releaseIn d i) (buffers .ctx) (s .routes)) bytes)
         good-end
 
-  pub release-good : Good slot before (called s (record { asked = releases i; buffers = buffers }))
-  unfolding called contextCut cutAt left effectOf release checked run refuse course
+  pub release-good : Good slot before (calledHere s (record { asked = releases i; buffers = buffers }))
+  unfolding calledHere contextCut cutAt left effectOf release checked run refuse course
   release-good =
       good-checked slot before s effect buffers run (buffers .ctx) (buffers .log) _ (mild-release d _ _ _ i) g
       (λ k. run-good k (live-here slot before s g (passed d _ _ _ _ k .0 .is-sound)))

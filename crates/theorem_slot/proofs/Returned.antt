@@ -1,36 +1,232 @@
--- Every call returns the record that it got, or one that is unusable, or a sound one.
-use mathlib.Core.Path.{_≡_}
-use mathlib.Core.Bool.{true, false}
+-- What a call's answer says of its count, its outcomes and all that it leaves.
+use Prim.Native.Nat.{ℕ, _+_, _≤_, _<_}
+use mathlib.Core.Path.{_≡_, refl, sym, _∙_, ap}
+use mathlib.Core.Bool.{Bool, true, false, cond}
+use mathlib.Core.List.{List}
 use mathlib.Core.Logic.{_⊎_, inl, inr}
+use native.Mathlib.Omega.{arith}
+use native.Mathlib.Decide.{decLt}
+use borrow.Author.Tests.{eqb-false, ltb-true}
+use lib.Dec.{eqb, ltb}
+use lib.ListN.{length, getD, take}
+use Rattle.laws.proofs.Tests.{not-both}
+use Rattle.answer.specs.declared.Answer.{Answer}
+use Rattle.answer.specs.declared.Answer.the-variants as answer
+use Rattle.answer.specs.Answer.{number, isCut}
+use Rattle.command.specs.declared.Sent.{Sent}
+use Rattle.command.specs.declared.Sent.the-variants.{Done, Failed, Cut}
+use Rattle.command.specs.Command.{outcomeAt}
+use Rattle.command.specs.Course.{Course, words, result, played}
+use Rattle.command.proofs.Cuts.{done-cut, failed-cut, failed-done}
 use Rattle.device.specs.declared.record.Device.{Device}
+use Rattle.device.specs.Left.{Left, refused, ended}
 use Rattle.device.specs.Sound.{sound}
-use Rattle.device.proofs.Kept.{Returned, claim-sound, release-sound, set-configuration-sound, hub-update-returned}
+use Rattle.device.specs.Calls.{onCheck, hubContext, hubCourse, hubLeft, hubUpdate}
+use Rattle.device.specs.Claim.{claimIn, claim}
+use Rattle.device.specs.Release.{releaseIn, release}
+use Rattle.device.specs.SetConfiguration.{settingsIn, setConfiguration}
+use Rattle.device.proofs.Laws.{passed}
+use Rattle.device.proofs.Kept as kept
+use Rattle.device.proofs.Kept.{claim-sound, release-sound, set-configuration-sound, hub-update-returned}
 use Rattle.device.proofs.Facts as facts
+use Rattle.course_steps.specs.End.{End}
+use Rattle.course_claim.specs.Claim.{claimCourse}
+use Rattle.course_release.specs.Release.{releaseCourse}
+use Rattle.course_set_configuration.specs.SetConfiguration.{setCourse}
+use Rattle.course_init.specs.Reading.{Brought}
 use Rattle.device_bring_up.proofs.Laws.{bring-up-sound}
-use Rattle.theorem_slot.specs.Call.{Buffers, Asked, bringsUp, claims, releases, configures, updatesHub, left}
-use Rattle.theorem_slot.specs.Theorem.{SoundReturned, NoneQuarantined}
+use Rattle.answer.specs.declared.Check.{Check}
+use Rattle.answer.specs.declared.Check.the-variants.{Pass}
+use Rattle.transfer.specs.Routes.{withRoute}
+use Rattle.context.specs.Place.{spacingOf}
+use Rattle.device_bring_up.specs.BringUp.{bringUpCourse, broughtLeft, bringUp}
+use Rattle.theorem_slot.specs.Call.{Buffers, Asked, bringsUp, claims, releases, configures, updatesHub, Call, left}
+use Rattle.theorem_slot.specs.Answers.{isRefused, refusedRecord, CodeOfOutcome, Answered, AnswersTell, Returned, SoundReturned}
+use Rattle.theorem_slot.specs.Theorem.{NoneQuarantined}
+use Rattle.theorem_slot.proofs.Told.{Told, told-whole, told-cut}
+use Rattle.theorem_slot.proofs.Ends.{Fair, hub-sends, claim-tells, release-tells, set-tells, hub-tells, bring-up-tells, claim-sends, release-sends, set-sends, bring-up-sends}
+use Rattle.theorem_slot.proofs.Step.{MildCheck, on-mild, mild-claim, mild-release, mild-set, mild-hub, mild-bring-up}
 
--- A call on a record returns it as it came, or a sound one.
-kept : (d e : Device) → Returned d e → (e ≡ d) ⊎ ((e .usable ≡ false) ⊎ (sound e ≡ true))
-kept d e (inl same) = inl same
-kept d e (inr ok) = inr (inr ok)
+-- A failed outcome is there, and not 0.
+failed-byte :
+    (o : List ℕ) (k code : ℕ) (there zero : Bool) → ltb k (length o) ≡ there → eqb (getD o k 0) 0 ≡ zero →
+    cond there (cond zero Done (Failed (getD o k 0))) Cut ≡ Failed code →
+    (k < length o) × ((getD o k 0 ≡ code) × (getD o k 0 ≡ 0 → ⊥))
+failed-byte o k code false zero t z e = failed-cut (sym e)
+failed-byte o k code true true t z e = failed-done (sym e)
+failed-byte o k code true false t z e = (ltb-true k (length o) t, (cc, eqb-false (getD o k 0) 0 z))
+
+code-there : (o : List ℕ) (count k code : ℕ) → k < count → outcomeAt o k ≡ Failed code → CodeOfOutcome o count code
+unfolding outcomeAt
+code-there o count k code h e =
+    let f = failed-byte o k code (ltb k (length o)) (eqb (getD o k 0) 0) refl refl e in
+    record { place = k; logged = h; there = f .0; same = f .1 .0; failure = λ z. f .1 .1 (f .1 .0 ∙ z) }
+
+-- What holds of a call that ran a course.
+pub record Ran (o : List ℕ) (l : Left) : Type 0 where
+  pub answered : Answered o l
+  pub late : isRefused (l .answer) ≡ false
+
+cut-late : (a : Answer) → a ≡ answer.Cut → isRefused a ≡ false
+unfolding isRefused number
+cut-late a e = rw e refl
+
+cut-code : {P : Type 0} (a : Answer) (code : ℕ) → a ≡ answer.Cut → a ≡ answer.Failed code → P
+unfolding number
+cut-code a code c f = let z : _≡_ {A = ℕ} 15 13 = sym (ap number c) ∙ ap number f in absurd (omega arith)
+
+not-cut : (a : Answer) → isCut a ≡ false → a ≡ answer.Cut → ⊥
+unfolding number
+not-cut a n c = not-both (isCut a) (rw c refl) n
+
+module _ {A : Type 0} (answerIn : A → Answer) (o : List ℕ) (c : Course A) (log : List ℕ)
+    (told : (K : ℕ → Type 0) → Told (λ a. Fair K (answerIn a)) (λ a. answerIn a ≡ answer.Cut) K c)
+    (some : 1 ≤ length (words o 0 c)) (l : Left) where
+  count : ℕ
+  count = 0 + length (words o 0 c)
+
+  abbrev Codes : ℕ → Type 0
+  Codes = CodeOfOutcome o count
+
+  read : (k : ℕ) → k < 0 + length (words o 0 c) → (code : ℕ) → outcomeAt o k ≡ Failed code → Codes code
+  unfolding count
+  read k h code e = code-there o count k code h e
+
+  ran-by : l .answer ≡ answerIn (result o 0 c) → l .count ≡ count → Dec (length o < count) → Ran o l
+  unfolding count
+  ran-by a n (yes h) =
+      let t = told-cut _ _ Codes o 0 c (told Codes) read (omega arith) h in
+      let cut : l .answer ≡ answer.Cut = a ∙ t .0 in
+      record {
+        answered =
+            record {
+              cut = λ e. n ∙ t .1;
+              whole = λ e. absurd (e cut);
+              failed = λ code e. cut-code (l .answer) code cut e;
+              sent = λ e. omega arith;
+            };
+        late = cut-late (l .answer) cut;
+      }
+  ran-by a n (no h) =
+      let t : Fair Codes (answerIn (result o 0 c)) = told-whole _ _ Codes o 0 c (told Codes) read (omega arith) in
+      let f : Fair Codes (l .answer) = rw a t in
+      record {
+        answered =
+            record {
+              cut = λ e. absurd (not-cut (l .answer) (f .uncut) e);
+              whole = λ e. omega arith;
+              failed = λ code e. rw n (f .code code e);
+              sent = λ e. omega arith;
+            };
+        late = f .late;
+      }
+
+  pub ran-course : l .answer ≡ answerIn ((played o 0 c log) .end) → l .count ≡ (played o 0 c log) .count → Ran o l
+  unfolding played count
+  ran-course a n = ran-by a n (decLt (length o) count)
+
+-- A refused call.
+refused-answered :
+    (o : List ℕ) (d : Device) (a : Answer) (ctx routes log : List ℕ) → isRefused a ≡ true → Answered o (refused d a ctx routes log)
+unfolding refused isRefused number
+refused-answered o d a ctx routes log r =
+    record {
+      cut = λ e. not-both (isRefused a) r (cut-late a e);
+      whole = λ e. omega arith;
+      failed = λ code e. not-both (isRefused a) r (failed-late code a e);
+      sent = λ e. not-both (isRefused a) r e;
+    }
+  where
+    failed-late : (code : ℕ) (x : Answer) → x ≡ answer.Failed code → isRefused x ≡ false
+    failed-late code x e = rw e refl
+
+-- What every call leaves.
+record Tells (c : Call) (d : Device) (routes : List ℕ) (l : Left) : Type 0 where
+  pub answered : Answered (c .buffers .outcomes) l
+  pub returned : Returned c d routes l
+
+-- By what its check answers.
+checked-tells :
+    (c : Call) (d : Device) (routes : List ℕ) (k : Check) (run : Left) → MildCheck k →
+    (k ≡ Pass → Ran (c .buffers .outcomes) run × ((run .device .usable ≡ false) ⊎ (sound (run .device) ≡ true))) →
+    Tells c d routes (onCheck k run (λ a. refused (refusedRecord (c .asked) d) a (c .buffers .ctx) routes (c .buffers .log)))
+unfolding refused
+checked-tells c d routes k run m h =
+    on-mild (Tells c d routes) k run (λ a. refused (refusedRecord (c .asked) d) a (c .buffers .ctx) routes (c .buffers .log)) m
+    (λ e.
+    record {
+      answered = h e .0 .answered;
+      returned = record { refusal = λ r. not-both (isRefused (run .answer)) r (h e .0 .late); other = λ r. h e .1 };
+    })
+    (λ a r.
+    record {
+      answered = refused-answered (c .buffers .outcomes) _ a (c .buffers .ctx) routes (c .buffers .log) r;
+      returned = record { refusal = λ t. refl; other = λ f. not-both (isRefused a) r f };
+    })
+
+-- The record that a call returns, whose check has passed.
+kept-sound : (d e : Device) → kept.Returned d e → sound d ≡ true → (e .usable ≡ false) ⊎ (sound e ≡ true)
+kept-sound d e (inl same) s = inr (ap sound same ∙ s)
+kept-sound d e (inr ok) s = inr ok
+
+module _ (b : Buffers) (d : Device) (routes : List ℕ) where
+  o : List ℕ
+  o = b .outcomes
+
+  call : Asked → Call
+  call a = record { asked = a; buffers = b }
+
+  each : (a : Asked) → Tells (call a) d routes (left a b d routes)
+  unfolding call o left refusedRecord claim release setConfiguration hubUpdate bringUp ended hubLeft broughtLeft bringUpCourse onCheck
+  each (bringsUp a) =
+      let next = withRoute routes (a .slot) 1 (a .ring) in
+      let course = bringUpCourse a (spacingOf (length (b .ctx))) (b .ctx) routes in
+      checked-tells (call (bringsUp a)) d routes _ _ (mild-bring-up a (length (b .ctx)) routes (length (b .log)))
+      (λ e. (
+        ran-course (λ (x : Brought). x .answer) o course (b .log)
+            (λ K. bring-up-tells K a (spacingOf (length (b .ctx))) next (b .ctx))
+            (bring-up-sends o (b .ctx) next a (spacingOf (length (b .ctx)))) _ refl refl,
+        rw e at (bring-up-sound a (b .ctx) routes (b .log) (b .outcomes)),
+      ))
+  each (claims i a rings) =
+      checked-tells (call (claims i a rings)) d routes _ _ (mild-claim d _ _ _ i a rings)
+      (λ e. (
+        ran-course (λ (x : End). x .answer) o (claimCourse (claimIn d i a rings) (b .ctx) routes) (b .log)
+            (λ K. claim-tells K (claimIn d i a rings) (b .ctx) routes)
+            (claim-sends o (b .ctx) routes (claimIn d i a rings)) _ refl refl,
+        kept-sound d _ (rw e at (claim-sound d (b .ctx) routes (b .log) (b .outcomes) i a rings)) (passed d _ _ _ _ e .0 .is-sound),
+      ))
+  each (releases i) =
+      checked-tells (call (releases i)) d routes _ _ (mild-release d _ _ _ i)
+      (λ e. (
+        ran-course (λ (x : End). x .answer) o (releaseCourse (releaseIn d i) (b .ctx) routes) (b .log)
+            (λ K. release-tells K (releaseIn d i) (b .ctx) routes)
+            (release-sends o (b .ctx) routes (releaseIn d i)) _ refl refl,
+        kept-sound d _ (rw e at (release-sound d (b .ctx) routes (b .log) (b .outcomes) i)) (passed d _ _ _ _ e .0 .is-sound),
+      ))
+  each (configures value) =
+      checked-tells (call (configures value)) d routes _ _ (mild-set d _ _ _)
+      (λ e. (
+        ran-course (λ (x : End). x .answer) o (setCourse (settingsIn d value) (b .ctx) routes) (b .log)
+            (λ K. set-tells K (settingsIn d value) (b .ctx) routes)
+            (set-sends o (b .ctx) routes (settingsIn d value)) _ refl refl,
+        kept-sound d _ (rw e at (set-configuration-sound d (b .ctx) routes (b .log) (b .outcomes) value)) (passed d _ _ _ _ e .0 .is-sound),
+      ))
+  each (updatesHub ports multi ns) =
+      let ctx = hubContext d ports multi ns (b .ctx) in
+      checked-tells (call (updatesHub ports multi ns)) d routes _ _ (mild-hub d _ _ _ ns)
+      (λ e. (
+        ran-course (λ (x : Answer). x) o (hubCourse ctx) (b .log) (λ K. hub-tells K ctx) (hub-sends o ctx) _ refl refl,
+        kept-sound d _ (rw e at (hub-update-returned d (b .ctx) routes (b .log) (b .outcomes) ports multi ns)) (passed d _ _ _ _ e .0 .is-sound),
+      ))
+
+pub answers-tell : AnswersTell
+unfolding call
+answers-tell c d routes = each (c .buffers) d routes (c .asked) .answered
 
 pub sound-returned : SoundReturned
-unfolding left
-sound-returned c d routes = go (c .asked)
-  where
-    l : Buffers
-    l = c .buffers
-
-    go :
-        (a : Asked) →
-        ((left a (c .buffers) d routes) .device ≡ d)
-        ⊎ (((left a (c .buffers) d routes) .device .usable ≡ false) ⊎ (sound ((left a (c .buffers) d routes) .device) ≡ true))
-    go (bringsUp a) = inr (bring-up-sound a (l .ctx) routes (l .log) (l .outcomes))
-    go (claims i a rings) = kept d _ (claim-sound d (l .ctx) routes (l .log) (l .outcomes) i a rings)
-    go (releases i) = kept d _ (release-sound d (l .ctx) routes (l .log) (l .outcomes) i)
-    go (configures value) = kept d _ (set-configuration-sound d (l .ctx) routes (l .log) (l .outcomes) value)
-    go (updatesHub ports multi ns) = kept d _ (hub-update-returned d (l .ctx) routes (l .log) (l .outcomes) ports multi ns)
+unfolding call
+sound-returned c d routes = each (c .buffers) d routes (c .asked) .returned
 
 pub none-quarantined : NoneQuarantined
 none-quarantined = facts.none-quarantined

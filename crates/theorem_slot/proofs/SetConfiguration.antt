@@ -44,12 +44,12 @@ use Rattle.device.specs.Check.{recordCheck}
 use Rattle.device.specs.SetConfiguration.{settingsIn, setRecord, setConfiguration}
 use Rattle.device.proofs.Laws.{Passed, passed}
 use Rattle.device.proofs.Kept.{set-moves, set-stays}
-use Rattle.theorem_slot.specs.Call.{Buffers, configures, left}
+use Rattle.theorem_slot.specs.Call.{Buffers, configures, left, cutAt}
 use Rattle.theorem_slot.specs.Plain.{Plain, isHeldDci, Effect, endsAll, effectOf, heldAfter, anew, seen}
-use Rattle.theorem_slot.specs.Theorem.{State, cutAt, contextCut, called}
+use Rattle.theorem_slot.specs.Theorem.{State, contextCut}
 use Rattle.theorem_slot.proofs.Settings.{AllFit, pairs}
 use Rattle.theorem_slot.proofs.Good.{Live, Unrouted, Good, live-tells, routed-from, named-from, enabled-was, live-here}
-use Rattle.theorem_slot.proofs.Step.{lost-not, checked, good-checked, mild-set, ran, checked-ran}
+use Rattle.theorem_slot.proofs.Step.{lost-not, checked, good-checked, mild-set, ran, checked-ran, calledHere}
 use Rattle.theorem_slot.proofs.Made.{fit-active, made-moved, made-same, byte-dcis}
 use Rattle.theorem_slot.proofs.Claimed.{some-place, owned-ring}
 
@@ -295,8 +295,8 @@ module _ (slot : ℕ) (before : List ℕ) (s : State) (buffers : Buffers) (value
         (set-cuts (settingsIn d value) (buffers .ctx) (s .routes)) bytes)
         good-end
 
-  pub set-good : Good slot before (called s (record { asked = configures value; buffers = buffers }))
-  unfolding called contextCut cutAt left effectOf setConfiguration checked run refuse course
+  pub set-good : Good slot before (calledHere s (record { asked = configures value; buffers = buffers }))
+  unfolding calledHere contextCut cutAt left effectOf setConfiguration checked run refuse course
   set-good =
       good-checked slot before s effect buffers run (buffers .ctx) (buffers .log) _ (mild-set d _ _ _) g
       (λ k. run-good k (live-here slot before s g (passed d _ _ _ _ k .0 .is-sound)))

@@ -2,7 +2,8 @@
 use Prim.Native.Nat.{ℕ, _<_}
 use mathlib.Core.Path.{_≡_}
 use mathlib.Core.Bool.{Bool}
-use mathlib.Core.List.{List, [], _∷_}
+use mathlib.Core.List.{List}
+use lib.ListN.{take}
 use Rattle.course_init.specs.Reading.{BringUp}
 use Rattle.device_bring_up.specs.BringUp.{bringUp}
 use Rattle.device.specs.declared.record.Device.{Device}
@@ -17,6 +18,10 @@ pub record Buffers : Type 0 where
   pub ctx : List ℕ
   pub log : List ℕ
   pub outcomes : List ℕ
+
+-- The same, with only the first i outcomes.
+unfoldable pub cutAt : ℕ → Buffers → Buffers
+cutAt i l = record { ctx = l .ctx; log = l .log; outcomes = take i (l .outcomes) }
 
 pub data Asked : Type 0 where
   bringsUp : BringUp → Asked
@@ -50,7 +55,3 @@ OfSlot slot (claims interface alternate rings) = (interface < 256) × (alternate
 OfSlot slot (releases interface) = interface < 256
 OfSlot slot (configures value) = value < 256
 OfSlot slot (updatesHub ports multi ns) = Unit {0}
-
-unfoldable pub AllOfSlot : ℕ → List Call → Type 0
-AllOfSlot slot [] = Unit {0}
-AllOfSlot slot (c ∷ cs) = OfSlot slot (c .asked) × AllOfSlot slot cs

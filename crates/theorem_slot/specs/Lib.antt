@@ -1,3 +1,4 @@
+pub mod Answers
 pub mod Call
 pub mod Plain
 pub mod Theorem

@@ -1,11 +1,12 @@
 -- Demand 3: what every list of calls on a slot leaves of its routes and of its controller's endpoints.
 use Prim.Native.Nat.{ℕ, _<_, _≤_}
 use mathlib.Core.Path.{_≡_}
-use mathlib.Core.Bool.{true, false}
+use mathlib.Core.Bool.{Bool, true, false, not, cond, _&&_}
 use mathlib.Core.List.{List, [], _∷_}
-use mathlib.Core.Logic.{_⊎_}
 use lib.ListN.{length, getD, take}
+use Rattle.answer.specs.declared.Answer.{Answer}
 use Rattle.answer.specs.declared.Answer.the-variants as answer
+use Rattle.answer.specs.Answer.{isAccepted}
 use Rattle.answer.specs.declared.Check.the-variants.{Pass}
 use Rattle.command.specs.declared.Sent.the-variants.{Done}
 use Rattle.command.specs.Command.{outcomeAt}
@@ -21,7 +22,7 @@ use Rattle.device.specs.Left.{Left}
 use Rattle.device.specs.Sound.{sound}
 use Rattle.device.specs.Check.{recordCheck}
 use Rattle.device.specs.Claim.{claimCheck}
-use Rattle.theorem_slot.specs.Call.{Buffers, Asked, bringsUp, claims, releases, configures, updatesHub, Call, left, AllOfSlot}
+use Rattle.theorem_slot.specs.Call.{Buffers, Asked, bringsUp, claims, releases, configures, updatesHub, Call, left, cutAt, OfSlot}
 use Rattle.theorem_slot.specs.Plain.{Plain, plainRoute, isHeldDci, effectOf, begun, observed}
 
 -- The record and the table as the calls hand them on, and the plain slot beside them.
@@ -30,59 +31,92 @@ pub record State : Type 0 where
   pub routes : List ℕ
   pub plain : Plain
 
--- The same call, given only the first i outcomes, and the context that it leaves.
-unfoldable pub cutAt : ℕ → Buffers → Buffers
-cutAt i l = record { ctx = l .ctx; log = l .log; outcomes = take i (l .outcomes) }
+-- A call on the slot, as its caller makes it.
+pub record Turn : Type 0 where
+  pub call : Call
+  -- the table that it gets
+  pub table : List ℕ
+  -- whether he keeps the record that he had, where it is a bring-up that is not accepted
+  pub keeps : Bool
 
-unfoldable pub contextCut : State → Call → ℕ → List ℕ
-contextCut s c i = (left (c .asked) (cutAt i (c .buffers)) (s .device) (s .routes)) .ctx
+-- The record that he has after it.
+unfoldable pub recordAfter : Asked → Bool → Answer → Device → Device → Device
+recordAfter (bringsUp a) keeps answer had returned = cond (keeps && not (isAccepted answer)) had returned
+recordAfter (claims interface alternate rings) keeps answer had returned = returned
+recordAfter (releases interface) keeps answer had returned = returned
+recordAfter (configures value) keeps answer had returned = returned
+recordAfter (updatesHub ports multi ns) keeps answer had returned = returned
 
--- One call: it gets the record and the table of the last one. The plain slot reads its answer and the words that it logged; its
--- controller the context that the same call leaves when it is cut at a command.
-unfoldable pub called : State → Call → State
-called s c =
-    let l = left (c .asked) (c .buffers) (s .device) (s .routes) in
+-- The context that the same call leaves, given only the first i outcomes.
+unfoldable pub contextCut : Call → Device → List ℕ → ℕ → List ℕ
+contextCut c d routes i = (left (c .asked) (cutAt i (c .buffers)) d routes) .ctx
+
+-- One call. The plain slot reads its answer and the words that it logged; its controller the context that the same call leaves when
+-- it is cut at a command.
+unfoldable pub called : State → Turn → State
+called s t =
+    let c = t .call in
+    let l = left (c .asked) (c .buffers) (s .device) (t .table) in
     record {
-      device = l .device;
+      device = recordAfter (c .asked) (t .keeps) (l .answer) (s .device) (l .device);
       routes = l .routes;
-      plain = observed (effectOf (c .asked)) (c .buffers) (l .answer) (take (l .count) (l .log)) (contextCut s c) (s .plain);
+      plain =
+          observed (effectOf (c .asked)) (c .buffers) (l .answer) (take (l .count) (l .log))
+          (contextCut c (s .device) (t .table))
+          (s .plain);
     }
 
-unfoldable pub after : State → List Call → State
+unfoldable pub after : State → List Turn → State
 after s [] = s
-after s (c ∷ cs) = after (called s c) cs
+after s (t ∷ ts) = after (called s t) ts
+
+-- A table that a call of the slot gets, beside the one that the last call left: calls of other slots may have written words of theirs
+-- in between, but none that is `still`.
+pub record Between (slot : ℕ) (still : ℕ → Bool) (left now : List ℕ) : Type 0 where
+  pub long : length now ≡ length left
+  pub own : (d : ℕ) → d < 32 → routeOf now slot d ≡ routeOf left slot d
+  pub others : (k : ℕ) → still k ≡ true → getD now k 0 ≡ getD left k 0
+
+-- Calls of this slot, each with such a table.
+unfoldable pub Turns : ℕ → (ℕ → Bool) → State → List Turn → Type 0
+Turns slot still s [] = Unit {0}
+Turns slot still s (t ∷ ts) =
+    OfSlot slot (t .call .asked) × (Between slot still (s .routes) (t .table) × Turns slot still (called s t) ts)
 
 -- The slot after its accepted bring-up.
 unfoldable pub start : BringUp → Left → State
 start b l = record { device = l .device; routes = l .routes; plain = begun b }
 
 -- What holds of a slot, where `before` is the table before its bring-up.
-pub record Kept (slot : ℕ) (before : List ℕ) (s : State) : Type 0 where
+pub record Kept (slot : ℕ) (still : ℕ → Bool) (before : List ℕ) (s : State) : Type 0 where
+  pub long : length (s .routes) ≡ length before
   -- its routes are the plain slot's
   pub own : (d : ℕ) → d < 32 → routeOf (s .routes) slot d ≡ plainRoute (s .plain) d
-  -- every other word is as before
-  pub others : (k : ℕ) → OutsideSlot slot k → getD (s .routes) k 0 ≡ getD before k 0
-  -- before the first broken or cut answer the enabled endpoints are the held ones
+  -- every other word is as before, unless somebody else wrote it
+  pub others : (k : ℕ) → OutsideSlot slot k → still k ≡ true → getD (s .routes) k 0 ≡ getD before k 0
+  -- control is enabled
+  pub control : s .plain .enabled 1 ≡ true
+  -- before the first broken or cut answer the other enabled endpoints are the held ones
   pub enabled :
       s .plain .broken ≡ false → s .plain .unheldRelease ≡ false → (d : ℕ) → 2 ≤ d → d < 32 →
       s .plain .enabled d ≡ isHeldDci (s .plain) d
 
--- For every slot whose routes were all 0, every accepted bring-up of it and whatever calls follow: P of the slot, the table before
--- its bring-up and the state after the calls.
-abbrev pub AfterBringUp : (ℕ → List ℕ → State → Type 0) → Type 0
+-- For every slot whose routes were all 0, every accepted bring-up of it and whatever calls follow: P of the slot, the words that
+-- nobody else writes, the table before its bring-up and the state after the calls.
+abbrev pub AfterBringUp : (ℕ → (ℕ → Bool) → List ℕ → State → Type 0) → Type 0
 AfterBringUp P =
-    (b : BringUp) (l : Buffers) (routes : List ℕ) (calls : List Call) →
+    (b : BringUp) (l : Buffers) (routes : List ℕ) (still : ℕ → Bool) (turns : List Turn) →
     ((d : ℕ) → d < 32 → routeOf routes (b .slot) d ≡ 0) →
     (bringUp b (l .ctx) routes (l .log) (l .outcomes)) .answer ≡ answer.Accepted →
-    AllOfSlot (b .slot) calls →
-    P (b .slot) routes (after (start b (bringUp b (l .ctx) routes (l .log) (l .outcomes))) calls)
+    Turns (b .slot) still (start b (bringUp b (l .ctx) routes (l .log) (l .outcomes))) turns →
+    P (b .slot) still routes (after (start b (bringUp b (l .ctx) routes (l .log) (l .outcomes))) turns)
 
 abbrev pub Demand3 : Type 0
 Demand3 = AfterBringUp Kept
 
 -- Beside it, so that calls which refuse everything do not meet it: the record is sound while it is usable,
 abbrev pub SoundWhileUsable : Type 0
-SoundWhileUsable = AfterBringUp (λ slot before s. s .device .usable ≡ true → sound (s .device) ≡ true)
+SoundWhileUsable = AfterBringUp (λ slot still before s. s .device .usable ≡ true → sound (s .device) ≡ true)
 
 -- and a claim that passes its checks, with every outcome done, is accepted and its rings are routed.
 pub record Claimed (slot : ℕ) (words rings : List ℕ) (l : Left) : Type 0 where
@@ -93,7 +127,7 @@ pub record Claimed (slot : ℕ) (words rings : List ℕ) (l : Left) : Type 0 whe
 abbrev pub ClaimsAccepted : Type 0
 ClaimsAccepted =
     AfterBringUp
-    (λ slot before s.
+    (λ slot still before s.
     (i a : ℕ) (rings : List ℕ) (l : Buffers) → i < 256 → a < 256 →
     recordCheck (s .device) (length (l .ctx)) (length (s .routes)) (length (l .log)) (claimCheck (s .device) i a rings Pass) ≡ Pass →
     ((k : ℕ) → k < 32 → outcomeAt (l .outcomes) k ≡ Done) →
@@ -122,13 +156,6 @@ OutsideUntouched =
 abbrev pub FewWords : Type 0
 FewWords = (c : Call) (d : Device) (routes : List ℕ) → (left (c .asked) (c .buffers) d routes) .count ≤ 64
 
--- Every call returns the record that it got, or one that is unusable, or a sound one,
-abbrev pub SoundReturned : Type 0
-SoundReturned =
-    (c : Call) (d : Device) (routes : List ℕ) →
-    let e = (left (c .asked) (c .buffers) d routes) .device in
-    (e ≡ d) ⊎ ((e .usable ≡ false) ⊎ (sound e ≡ true))
-
--- and a sound record that is usable has no quarantined ring.
+-- A sound record that is usable has no quarantined ring.
 abbrev pub NoneQuarantined : Type 0
 NoneQuarantined = (d : Device) → d .usable ≡ true → sound d ≡ true → quarantinedOf d ≡ []

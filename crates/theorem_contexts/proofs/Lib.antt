@@ -1,0 +1,6 @@
+pub mod BringUp
+pub mod Claim
+pub mod Ended
+pub mod HubUpdate
+pub mod Release
+pub mod SetConfiguration
