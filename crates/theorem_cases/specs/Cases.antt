@@ -52,9 +52,9 @@ use Rattle.course_init.specs.Init.{step, bringUpSettings, bringUpSet, bringUpCo
 use Rattle.device_bring_up.specs.BringUp.{bringUpCheck, bringUpCourse, broughtRecord, broughtLeft, bringUp, slotCheck, deviceCheck, queueCheck}
 use Rattle.theorem_controller.specs.Controller.{isDone, controlled, enabledAfter, doneWord}
 use Rattle.theorem_controller.specs.Controller as controller
-use Rattle.theorem_slot.specs.Call.{cutAt, left}
+use Rattle.theorem_slot.specs.Call.{cutAt, contextCut, left}
 use Rattle.theorem_slot.specs.Plain.{heldQueues, plainRoute, isHeldDci, without, hasSetting, settingOf, effectOf, heldAfter, isUnheldRelease, begun, anew, observed, seen}
-use Rattle.theorem_slot.specs.Theorem.{recordAfter, contextCut, called, start}
+use Rattle.theorem_slot.specs.Theorem.{recordAfter, called, start}
 use Rattle.theorem_cases.specs.Added.{interrupt81, addedHolds}
 use Rattle.theorem_cases.specs.Lists.{lists, allListed}
 use Rattle.theorem_cases.specs.Example.{list, asked, usual, ctx, log, free, done, first, second}
