@@ -29,7 +29,9 @@ use Rattle.device.specs.Calls.{onCheck, hubContext, hubCourse, hubLeft, hubUpda
 use Rattle.device.specs.Claim.{claimIn, claimRecord, claim}
 use Rattle.device.specs.Release.{releaseIn, releaseRecord, release}
 use Rattle.device.specs.SetConfiguration.{settingsIn, setRecord, setConfiguration}
-use Rattle.device_bring_up.specs.BringUp.{spacingOf, bringUpCourse, noDevice, broughtLeft, bringUp}
+use Rattle.device.specs.Device.{noDevice}
+use Rattle.context.specs.Place.{spacingOf}
+use Rattle.device_bring_up.specs.BringUp.{bringUpCourse, broughtLeft, bringUp}
 use Rattle.theorem_slot.specs.Call.{Buffers, Asked, bringsUp, claims, releases, configures, updatesHub, left, cutAt, contextCut}
 use Rattle.theorem_slot.specs.Answers.{commandContext, ContextsAgree}
 

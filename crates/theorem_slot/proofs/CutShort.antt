@@ -25,7 +25,9 @@ use Rattle.device.specs.Claim.{claimCheck, claimIn, claimRecord, claim}
 use Rattle.device.specs.Release.{releaseCheck, releaseIn, releaseRecord, release}
 use Rattle.device.specs.SetConfiguration.{settingsIn, setRecord, setConfiguration}
 use Rattle.device.proofs.Laws.{passed}
-use Rattle.device_bring_up.specs.BringUp.{spacingOf, queueCheck, bringUpCheck, bringUpCourse, noDevice, broughtLeft, bringUp}
+use Rattle.device.specs.Device.{noDevice}
+use Rattle.context.specs.Place.{spacingOf}
+use Rattle.device_bring_up.specs.BringUp.{queueCheck, bringUpCheck, bringUpCourse, broughtLeft, bringUp}
 use Rattle.device_bring_up.proofs.Checks as brought-checks
 use Rattle.theorem_slot.specs.Call.{Buffers, Asked, bringsUp, claims, releases, configures, updatesHub, Call, left, cutAt}
 use Rattle.theorem_slot.specs.Answers.{CutThere, CutsAgree}
