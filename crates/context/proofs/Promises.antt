@@ -85,7 +85,7 @@ address-promise s speed route translator rootPort ring ctx spaced h-speed h-rout
           made CONTROL both both (of-block-append CONTROL (inBlock CONTROL both) rest-writes ∙ rw (of-block-same CONTROL both, no-control))
           (block.single-promise _ ADD-FLAGS 3 (size CONTROL (omega arith)) (lit< tt, omega arith) (lit< tt));
       slot =
-          made SLOT slot slot (of-block-skip SLOT CONTROL both rest-writes refl ∙ first-of SLOT 2 slot endpoint refl)
+          made SLOT slot _ (of-block-skip SLOT CONTROL both rest-writes refl ∙ first-of SLOT 2 slot endpoint refl)
           (block.address-slot-promise _ speed route translator rootPort (size SLOT (omega arith)) h-speed h-route h-slot h-port h-root);
       endpoint =
           made 2 endpoint _ (of-block-skip 2 CONTROL both rest-writes refl ∙ second-of SLOT 2 slot endpoint refl)

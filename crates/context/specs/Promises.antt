@@ -14,8 +14,8 @@ use Rattle.context_field.specs.declared.Field.{Field}
 use Rattle.context_field.specs.Field.{readField, InBlock}
 use Rattle.context_block.specs.Fields.{DROP-FLAGS, ADD-FLAGS, DROP-FLAG, ADD-FLAG, CONFIGURATION-VALUE, INTERFACE-NUMBER, ALTERNATE-SETTING, MTT, HUB, CONTEXT-ENTRIES, NUMBER-OF-PORTS, TT-THINK-TIME, CERR, EP-TYPE, MAX-PACKET-SIZE, AVERAGE-TRB-LENGTH, apartFromAll}
 use Rattle.context_block.specs.FieldWrite.{FieldWrite, _:=_}
-use Rattle.context_block.specs.Blocks.{addressSlot, wordDci}
-use Rattle.context_block.specs.Promises.{Holds, fieldsOf, someDci, ringReads, endpointReads}
+use Rattle.context_block.specs.Blocks.{wordDci}
+use Rattle.context_block.specs.Promises.{Holds, fieldsOf, someDci, slotReads, ringReads, endpointReads}
 use Rattle.context.specs.Place.{CONTROL, SLOT, written, blockAt, readAt, OutsideBlock, Spaced}
 use Rattle.context.specs.Steps.{addressContext, maxPacketWrites, addAll, contextEntries, configureWrites, configurationWrites, hubWrites}
 
@@ -42,7 +42,7 @@ zeroField g = 0
 
 pub record AddressReads (s speed route : ℕ) (translator : Translator) (rootPort ring : ℕ) (ctx : List ℕ) : Type 0 where
   pub control : Reads (blockAt s ctx CONTROL) ((ADD-FLAGS := 3) ∷ []) zeroField
-  pub slot : Reads (blockAt s ctx SLOT) (addressSlot speed route translator rootPort) zeroField
+  pub slot : Reads (blockAt s ctx SLOT) (slotReads speed route translator rootPort) zeroField
   pub endpoint :
       Reads (blockAt s ctx 2)
       ((CERR := 3) ∷ (EP-TYPE := 4) ∷ (MAX-PACKET-SIZE := firstPacketSize speed) ∷ (AVERAGE-TRB-LENGTH := 8) ∷ ringReads ring)

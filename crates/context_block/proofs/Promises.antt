@@ -18,6 +18,7 @@ use Rattle.descriptor.specs.declared.TransferType.{TransferType}
 use Rattle.descriptor.specs.declared.TransferType.the-variants.{Control, Isochronous, Bulk, Interrupt}
 use Rattle.descriptor.specs.Word.{endpointDescriptor}
 use Rattle.descriptor.specs.Endpoint.{isPeriodic, esitPayload, endpointType, xhciInterval}
+use Rattle.hub.specs.declared.translator.Translator.{Translator}
 use Rattle.descriptor.proofs.Laws.{fields-fit, endpoint-type-small, interval-small, burst-small, payload-small, dci-small}
 use Rattle.context_field.specs.declared.Field.{Field}
 use Rattle.context_field.specs.Field.{readField, writeField, InBlock, apart, within, readAfter}
@@ -25,7 +26,7 @@ use Rattle.context_field.proofs.Laws.{within-self, length-writeField, read-apar
 use Rattle.context_block.specs.Fields.{DROP-FLAG, ADD-FLAG, MTT, HUB, NUMBER-OF-PORTS, TT-THINK-TIME, MULT, MAX-PSTREAMS, MAX-ESIT-PAYLOAD-HI, MAX-BURST-SIZE, AVERAGE-TRB-LENGTH, MAX-ESIT-PAYLOAD-LO, apartFromAll}
 use Rattle.context_block.specs.FieldWrite.{_:=_, fieldsWritten, afterFieldWrites, inside, allInside, clearCut}
 use Rattle.context_block.specs.Blocks.{changed, ringFields, addressSlot, addressEndpoint, errorCount, periodicFields, burstOf, basicFields, endpointFields, wordDci, dropFlags, multiFields, thinkFields, hubFields}
-use Rattle.context_block.specs.Promises.{Holds, fieldsOf, Leaves, unchanged, madeIf, SinglePromise, changedReads, ChangedPromise, ChangedFlagPromise, InterfacePromise, ConfigurationPromise, ControlPacketPromise, someDci, DropFlagsPromise, AddressSlotPromise, HubPromise, ringReads, AddressEndpointPromise, endpointReads, EndpointPromise}
+use Rattle.context_block.specs.Promises.{Holds, fieldsOf, Leaves, unchanged, madeIf, SinglePromise, changedReads, ChangedPromise, ChangedFlagPromise, InterfacePromise, ConfigurationPromise, ControlPacketPromise, someDci, DropFlagsPromise, slotReads, AddressSlotPromise, HubPromise, ringReads, AddressEndpointPromise, endpointReads, EndpointPromise}
 use Rattle.context_block.proofs.Laws.{fields-written-append, fields-written-length, bit-fields-written, apart-from, apart-part, clear, liesIn, covered, Follow, leaves, flag-set}
 
 pub single-promise : SinglePromise
@@ -51,13 +52,13 @@ unfolding changed changedReads afterFieldWrites readAfter apart within inside al
 configuration-promise block value size v = leaves block _ _ size refl refl refl (omega arith)
 
 pub address-slot-promise : AddressSlotPromise
-unfolding addressSlot afterFieldWrites readAfter apart within inside allInside clearCut clear liesIn covered Follow
+unfolding addressSlot slotReads afterFieldWrites readAfter apart within inside allInside clearCut clear liesIn covered Follow
 address-slot-promise block speed route translator rootPort size s r t p q = go (translator .multi)
   where
     go :
         (multi : Bool) →
-        let settings = addressSlot speed route (record { «slot_id» = translator .«slot_id»; multi = multi; port = translator .port }) rootPort in
-        Leaves block settings settings
+        let t : Translator = record { «slot_id» = translator .«slot_id»; multi = multi; port = translator .port } in
+        Leaves block (addressSlot speed route t rootPort) (slotReads speed route t rootPort)
     go true = leaves block _ _ size refl refl refl (omega arith)
     go false = leaves block _ _ size refl refl refl (omega arith)
 

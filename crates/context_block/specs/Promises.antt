@@ -9,13 +9,13 @@ use lib.ListN.{length}
 use Rattle.def.specs.Speed.{FULL, HIGH, firstPacketSize}
 use Rattle.descriptor.specs.declared.EndpointDescriptor.{EndpointDescriptor}
 use Rattle.descriptor.specs.Word.{endpointDescriptor}
-use Rattle.descriptor.specs.Endpoint.{isPeriodic, esitPayload}
+use Rattle.descriptor.specs.Endpoint.{endpointType, xhciInterval, isPeriodic, periodicBurst, esitPayload}
 use Rattle.hub.specs.declared.translator.Translator.{Translator}
 use Rattle.context_field.specs.declared.Field.{Field}
 use Rattle.context_field.specs.Field.{readField, InBlock}
-use Rattle.context_block.specs.Fields.{DROP-FLAGS, ADD-FLAGS, DROP-FLAG, ADD-FLAG, CONFIGURATION-VALUE, INTERFACE-NUMBER, ALTERNATE-SETTING, MTT, HUB, NUMBER-OF-PORTS, TT-THINK-TIME, MULT, MAX-PSTREAMS, MAX-ESIT-PAYLOAD-HI, CERR, EP-TYPE, MAX-BURST-SIZE, MAX-PACKET-SIZE, DCS, TR-DEQUEUE-POINTER-LO, TR-DEQUEUE-POINTER-HI, AVERAGE-TRB-LENGTH, MAX-ESIT-PAYLOAD-LO, apartFromAll}
+use Rattle.context_block.specs.Fields.{DROP-FLAGS, ADD-FLAGS, DROP-FLAG, ADD-FLAG, CONFIGURATION-VALUE, INTERFACE-NUMBER, ALTERNATE-SETTING, ROUTE-STRING, SPEED, MTT, HUB, CONTEXT-ENTRIES, ROOT-HUB-PORT-NUMBER, NUMBER-OF-PORTS, PARENT-HUB-SLOT-ID, PARENT-PORT-NUMBER, TT-THINK-TIME, MULT, MAX-PSTREAMS, INTERVAL, MAX-ESIT-PAYLOAD-HI, CERR, EP-TYPE, MAX-BURST-SIZE, MAX-PACKET-SIZE, DCS, TR-DEQUEUE-POINTER-LO, TR-DEQUEUE-POINTER-HI, AVERAGE-TRB-LENGTH, MAX-ESIT-PAYLOAD-LO, apartFromAll}
 use Rattle.context_block.specs.FieldWrite.{FieldWrite, _:=_, fieldsWritten}
-use Rattle.context_block.specs.Blocks.{changed, addressSlot, addressEndpoint, burstOf, basicFields, endpointFields, wordDci, dropFlags, hubFields}
+use Rattle.context_block.specs.Blocks.{changed, addressSlot, addressEndpoint, errorCount, endpointFields, wordDci, dropFlags, hubFields}
 
 -- Every field listed reads the value beside it.
 unfoldable pub Holds : List ℕ → List FieldWrite → Type 0
@@ -106,6 +106,16 @@ DropFlagsPromise =
     × ((g : Field) → InBlock g → g .word ≢ 0 → readField (fieldsWritten (dropFlags ws) block) g ≡ readField block g)
 
 -- The slot of a device.
+unfoldable pub slotReads : ℕ → ℕ → Translator → ℕ → List FieldWrite
+slotReads speed route translator rootPort =
+    (ROUTE-STRING := route)
+    ∷ (SPEED := speed)
+    ∷ (MTT := cond (translator .multi) 1 0)
+    ∷ (CONTEXT-ENTRIES := 1)
+    ∷ (ROOT-HUB-PORT-NUMBER := rootPort)
+    ∷ (PARENT-HUB-SLOT-ID := translator .«slot_id»)
+    ∷ (PARENT-PORT-NUMBER := translator .port) ∷ []
+
 abbrev pub AddressSlotPromise : Type 0
 AddressSlotPromise =
     (block : List ℕ) (speed route : ℕ) (translator : Translator) (rootPort : ℕ) →
@@ -115,7 +125,7 @@ AddressSlotPromise =
     translator .«slot_id» < 2 ^ 8 →
     translator .port < 2 ^ 8 →
     rootPort < 2 ^ 8 →
-    let settings = addressSlot speed route translator rootPort in Leaves block settings settings
+    Leaves block (addressSlot speed route translator rootPort) (slotReads speed route translator rootPort)
 
 -- The slot of a hub: the multi flag stays without multi but at Full speed, the think time stays but at High speed.
 abbrev pub HubPromise : Type 0
@@ -148,10 +158,14 @@ AddressEndpointPromise =
 unfoldable pub endpointReads : List ℕ → ℕ → EndpointDescriptor → ℕ → List FieldWrite
 endpointReads block speed e ring =
     let periodic = isPeriodic (e .«transfer_type») in
-    let payload = esitPayload (e .«max_packet_size») (burstOf speed e) in
-    basicFields speed e
-    ++ (ringReads ring
-    ++ (madeIf periodic block MAX-BURST-SIZE (burstOf speed e)
+    let burst = periodicBurst (e .«transfer_type») (e .«packets_per_microframe») speed in
+    let payload = esitPayload (e .«max_packet_size») burst in
+    (INTERVAL := xhciInterval (e .interval) (e .«transfer_type») speed)
+    ∷ (CERR := errorCount (e .«transfer_type»))
+    ∷ (EP-TYPE := endpointType (e .«transfer_type») (e .address))
+    ∷ (MAX-PACKET-SIZE := e .«max_packet_size»)
+    ∷ (ringReads ring
+    ++ (madeIf periodic block MAX-BURST-SIZE burst
     ∷ madeIf periodic block MULT 0
     ∷ madeIf periodic block AVERAGE-TRB-LENGTH payload
     ∷ madeIf periodic block MAX-ESIT-PAYLOAD-LO payload

@@ -4,21 +4,18 @@ use mathlib.Core.Path.{_≡_, refl, sym, _∙_, ap}
 use mathlib.Core.Bool.{Bool, true, false, cond}
 use mathlib.Core.List.{List}
 use mathlib.Core.Logic.{_⊎_, inl, inr}
-use native.Mathlib.Omega.{arith}
 use borrow.Author.Tests.{eq-eqb}
 use lib.Dec.{eqb}
 use lib.ListN.{length}
 use Rattle.laws.proofs.Tests.{not-both}
 use Rattle.descriptor_list.specs.Valid.{configurations}
-use Rattle.answer.specs.declared.Answer.{Answer}
 use Rattle.answer.specs.declared.Answer.the-variants as answer
 use Rattle.answer.specs.Answer.{number, isAccepted}
 use Rattle.command.specs.declared.Command.{Command}
 use Rattle.command.specs.declared.Sent.{Sent}
 use Rattle.command.specs.Command.{outcomeAt}
-use Rattle.command.specs.Course.{Course, ends, sends, onSent, then, result, played}
+use Rattle.command.specs.Course.{Course, ends, sends, then, result, played}
 use Rattle.command.proofs.Cuts.{on-sent}
-use Rattle.course_steps.specs.End.{End}
 use Rattle.course_set_configuration.specs.SetConfiguration.{setCourse}
 use Rattle.course_init.specs.Reading.{BringUp, Reading, nothingRead, readUpTo, Brought, brought}
 use Rattle.course_init.specs.Init.{step, bringUpSettings, bringUpSet, bringUpConfigs, bringUpDevice, bringUpConfiguration, bringUpPacket, bringUpHeader, bringUpAddress}

@@ -23,7 +23,8 @@ use Rattle.context_field.specs.Field.{wordAt, putWord, readField, withBits, wri
 use Rattle.transfer.specs.Routes.{queues, ringFor, routeIndex, routeOf, withRoute, registered, withRegistered, names, oldMatch, isFree, newFree, replaced, cleared, published, moved, withReplaced}
 use Rattle.record_ring.specs.Rings.{ringOk, ringsOk, disjoint, offerOk}
 use Rattle.context_block.specs.Blocks.{changed, ringFields, errorCount, periodicFields, burstOf, basicFields, endpointFields, wordDci, dropFlags}
-use Rattle.context.specs.Place.{inBlock, onPart, writeAt, written, blockAt, readAt, spacingOf}
+use Rattle.context_block.specs.Fields.{CONTEXT-ENTRIES}
+use Rattle.context.specs.Place.{SLOT, inBlock, onPart, writeAt, written, blockAt, readAt, spacingOf}
 use Rattle.context.specs.Steps.{addWrites, addAll, highestDci, wordDcis, contextEntries, configureWrites}
 use Rattle.command.specs.Command.{commandWord, outcomeAt}
 use Rattle.command.specs.Course.{onSent, then, words, result, played}
@@ -52,9 +53,9 @@ use Rattle.course_init.specs.Init.{step, bringUpSettings, bringUpSet, bringUpCo
 use Rattle.device_bring_up.specs.BringUp.{bringUpCheck, bringUpCourse, broughtRecord, broughtLeft, bringUp, slotCheck, deviceCheck, queueCheck}
 use Rattle.theorem_controller.specs.Controller.{isDone, controlled, enabledAfter, doneWord}
 use Rattle.theorem_controller.specs.Controller as controller
-use Rattle.theorem_slot.specs.Call.{cutAt, left}
+use Rattle.theorem_slot.specs.Call.{cutAt, contextCut, left}
 use Rattle.theorem_slot.specs.Plain.{heldQueues, plainRoute, isHeldDci, without, hasSetting, settingOf, effectOf, heldAfter, isUnheldRelease, begun, anew, observed, seen}
-use Rattle.theorem_slot.specs.Theorem.{recordAfter, contextCut, called, start}
+use Rattle.theorem_slot.specs.Theorem.{recordAfter, called, start}
 use Rattle.theorem_cases.specs.Added.{interrupt81, addedHolds}
 use Rattle.theorem_cases.specs.Lists.{lists, allListed}
 use Rattle.theorem_cases.specs.Example.{list, asked, usual, ctx, log, free, done, first, second}
@@ -64,6 +65,8 @@ pub data Case : Type 0 where
   route : (hubs : List ℕ) (hasParent : Bool) (parent port expected : ℕ) → Case
   think : (ns expected : ℕ) → Case
   added : (spacing speed word ring first second fifth entries : ℕ) → Case
+  -- what a claim of Dci 3 leaves at a spacing: doublewords 0, 1 and 4 of its block, and the entries
+  claimed : (spacing : ℕ) (left : Left) (first second fifth entries : ℕ) → Case
   -- what a call leaves; the words that it logs, and the alternate that interface 0 holds after it
   logged : (left : Left) (words : List ℕ) (alternate : ℕ) → Case
   -- what a call leaves; 01's number of its answer, and the code
@@ -146,6 +149,12 @@ hubs = hubWord rootHub ∷ hubWord outerHub ∷ hubWord innerHub ∷ []
 abbrev pub switched : Left → Left
 switched l = claim (l .device) ctx (l .routes) log (0 ∷ 0 ∷ 7 ∷ 0 ∷ 0 ∷ []) 0 1 (48 ∷ [])
 
+-- The first claim, of interrupt 0x81, after a bring-up at a spacing; its context is all zeros before.
+abbrev pub firstClaim : (spacing : ℕ) → Left
+firstClaim spacing =
+    let l = bringUp usual (replicate (33 * spacing) 0) free log done in
+    claim (l .device) (replicate (33 * spacing) 0) (l .routes) log done 0 0 (32 ∷ [])
+
 -- 01's cases, and after them a call for each of its answers from 0 to 18. The ring of the added endpoint is any.
 abbrev pub cases : (ring : ℕ) → List Case
 cases ring =
@@ -160,6 +169,8 @@ cases ring =
     ∷ think 3329 3
     ∷ added 32 HIGH interrupt81 ring 0x00030000 0x0040003E 0x00400040 4
     ∷ added 64 HIGH interrupt81 ring 0x00030000 0x0040003E 0x00400040 4
+    ∷ claimed 32 (firstClaim 32) 0x00030000 0x0040003E 0x00400040 4
+    ∷ claimed 64 (firstClaim 64) 0x00030000 0x0040003E 0x00400040 4
     ∷ logged (switched second) (0x40300000 ∷ 0x30000000 ∷ 0x60001000 ∷ 0x30000000 ∷ 0x60000000 ∷ []) 0
     ∷ answered (switched second) 13 7
     ∷ answered second 0 0
@@ -200,6 +211,11 @@ caseHolds (route hubs hasParent parent port expected) =
 caseHolds (think ns expected) = isValue expected (thinkTime ns)
 caseHolds (added spacing speed word ring first second fifth entries) =
     addedHolds spacing speed word ring first second fifth entries
+caseHolds (claimed spacing left first second fifth entries) =
+    let block = blockAt spacing (left .ctx) 4 in
+    eqb (wordAt block 0) first
+    && (eqb (wordAt block 1) second
+    && (eqb (wordAt block 4) fifth && eqb (readAt spacing (left .ctx) SLOT CONTEXT-ENTRIES) entries))
 caseHolds (logged left words alternate) =
     sameWords (take (left .count) (left .log)) words
     && (isHeld 0 (heldOf (left .device)) && eqb (alternateOf 0 (heldOf (left .device))) alternate)

@@ -17,7 +17,6 @@ use Rattle.answer.specs.declared.Check.the-variants.{Pass}
 use Rattle.command.specs.declared.Command.{Command}
 use Rattle.command.specs.declared.Command.the-variants as command
 use Rattle.command.proofs.Reached.{CutHere, dones-before, dones-past, fails-before, fails-there, fails-past}
-use Rattle.context_block.specs.Blocks.{addressSlot}
 use Rattle.context.specs.Promises.{ConfigurationReads, ConfigureReads}
 use Rattle.course_set_configuration.specs.SetConfiguration.{dropContext, restoreContext, valueContext}
 use Rattle.course_init.specs.Reading.{BringUp, nothingRead, Brought, brought}
@@ -27,7 +26,7 @@ use Rattle.device.specs.Calls.{onCheck}
 use Rattle.context.specs.Place.{spacingOf}
 use Rattle.device_bring_up.specs.BringUp.{queueCheck, bringUpCheck, bringUpCourse, broughtLeft, bringUp}
 use Rattle.device_bring_up.proofs.Checks.{Passed, passed}
-use Rattle.theorem_contexts.specs.Contexts.{Byte, done, failed, At, Addresses, sizeSaid, BringUpReads, BringUpContexts}
+use Rattle.theorem_contexts.specs.Contexts.{Byte, done, failed, At, sizeSaid, BringUpReads, BringUpContexts}
 use Rattle.theorem_contexts.proofs.Ended.{cut-count, cut-word, cut-end}
 
 size-said : (a : BringUp) → HeaderRead a → sizeSaid a ≡ headerPacketSize (a .speed) (a .packet)
@@ -70,12 +69,6 @@ module _ (a : BringUp) (ctx routes log : List ℕ) (pass : bringUpCheck a (lengt
 
   table : List ℕ
   table = withRoute routes (a .slot) 1 (a .ring)
-
-  addresses : Addresses a s (addressed a s ctx table)
-  unfolding s addressSlot
-  addresses =
-      let w = bring-up-address-reads a s ctx table (facts .spaced) (facts .speed) (facts .chain) byte-port byte-root ring in
-      record { slot = w .slot; whole = w }
 
   dropped : List ℕ
   dropped = dropContext (settings a s ctx table) (sized a s ctx table)
@@ -151,7 +144,9 @@ module _ (a : BringUp) (ctx routes log : List ℕ) (pass : bringUpCheck a (lengt
   unfolding s table n
   bring-up-reads =
       record {
-        address = left-at a ctx routes log [] pass 0 _ _ one-cut _ (omega (arith, few)) addresses;
+        address =
+            left-at a ctx routes log [] pass 0 _ _ one-cut _ (omega (arith, few))
+            (bring-up-address-reads a s ctx table (facts .spaced) (facts .speed) (facts .chain) byte-port byte-root ring);
         packet = λ e.
             left-at a ctx routes log (done 2) pass 2 _ _ (two-cut e) _ (omega (arith, few)) (rw (one-context, size-said a e) (bring-up-packet-reads a s ctx table (facts .spaced) byte-packet e));
         configure = configure;

@@ -15,11 +15,8 @@ use Rattle.hub.specs.Translator.{translatorOf}
 use Rattle.hub.specs.ThinkTime.{thinkTime}
 use Rattle.transfer.specs.declared.Replaced.the-variants as replace
 use Rattle.transfer.specs.Routes.{Queue, queues, replaced}
-use Rattle.context_block.specs.Fields.{ROUTE-STRING, SPEED, MTT, CONTEXT-ENTRIES, ROOT-HUB-PORT-NUMBER, PARENT-HUB-SLOT-ID, PARENT-PORT-NUMBER}
-use Rattle.context_block.specs.FieldWrite.{_:=_}
-use Rattle.context.specs.Place.{SLOT, blockAt}
 use Rattle.context.specs.Steps.{wordDcis}
-use Rattle.context.specs.Promises.{Reads, zeroField, AddressReads, MaxPacketReads, ConfigurationReads, HubReads, ConfigureReads}
+use Rattle.context.specs.Promises.{AddressReads, MaxPacketReads, ConfigurationReads, HubReads, ConfigureReads}
 use Rattle.command.specs.declared.Command.{Command}
 use Rattle.command.specs.declared.Command.the-variants as command
 use Rattle.command.specs.Command.{commandWord}
@@ -157,24 +154,6 @@ HubUpdateContexts =
     Byte ports →
     HubUpdateReads d ports multi ns ctx (λ outcomes. hubUpdate d ctx routes log outcomes ports multi ns)
 
--- The slot of a device that is addressed, field by field.
-pub record Addresses (a : BringUp) (s : ℕ) (ctx : List ℕ) : Type 0 where
-  pub slot :
-      let translator = translatorOf (a .speed) (a .hubs) (a .hasParent) (a .parent) (a .port) in
-      Reads (blockAt s ctx SLOT)
-      ((ROUTE-STRING := routeString (a .hubs) (a .hasParent) (a .parent) (a .port))
-      ∷ (SPEED := a .speed)
-      ∷ (MTT := cond (translator .multi) 1 0)
-      ∷ (CONTEXT-ENTRIES := 1)
-      ∷ (ROOT-HUB-PORT-NUMBER := a .rootPort)
-      ∷ (PARENT-HUB-SLOT-ID := translator .«slot_id»)
-      ∷ (PARENT-PORT-NUMBER := translator .port) ∷ [])
-      zeroField
-  pub whole :
-      AddressReads s (a .speed) (routeString (a .hubs) (a .hasParent) (a .parent) (a .port))
-      (translatorOf (a .speed) (a .hubs) (a .hasParent) (a .parent) (a .port))
-      (a .rootPort) (a .ring) ctx
-
 -- The size that a packet byte says: at SuperSpeed 512; at the other speeds the byte, where 0 says 8.
 unfoldable pub sizeSaid : BringUp → ℕ
 sizeSaid a = cond (isSuper (a .speed)) 512 (cond (eqb (a .packet) 0) 8 (a .packet))
@@ -182,7 +161,10 @@ sizeSaid a = cond (isSuper (a .speed)) 512 (cond (eqb (a .packet) 0) 8 (a .packe
 -- A bring-up: Address, over zeros; after ReadHeader, where that is in order, the packet size; and, where the device has
 -- configurations and they are read, the set configuration of the first, with no endpoint.
 pub record BringUpReads (a : BringUp) (s : ℕ) (call : List ℕ → Left) : Type 0 where
-  pub address : At 0 command.Address (Addresses a s) (call [])
+  pub address :
+      let route = routeString (a .hubs) (a .hasParent) (a .parent) (a .port) in
+      let translator = translatorOf (a .speed) (a .hubs) (a .hasParent) (a .parent) (a .port) in
+      At 0 command.Address (AddressReads s (a .speed) route translator (a .rootPort) (a .ring)) (call [])
   pub packet :
       HeaderRead a → At 2 command.Evaluate (MaxPacketReads s (sizeSaid a) ((call []) .ctx)) (call (done 2))
   pub configure :

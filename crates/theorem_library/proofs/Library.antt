@@ -1,5 +1,5 @@
 -- Demand 3 of the linked library.
-use Prim.Native.Nat.{ℕ, _<_}
+use Prim.Native.Nat.{ℕ}
 use mathlib.Core.Path.{_≡_, refl, sym, ap, _∙_}
 use mathlib.Core.Bool.{Bool, true, false, not, cond, _&&_}
 use mathlib.Core.List.{List, [], _∷_}
@@ -7,18 +7,16 @@ use borrow.Author.Tests.{eq-eqb}
 use lib.Dec.{eqb}
 use lib.ListN.{length}
 use Rattle.answer.specs.Answer.{number, isAccepted}
-use Rattle.device.specs.declared.record.Device.{Device}
 use Rattle.device.specs.Left.{Left}
-use Rattle.course_init.specs.Reading.{BringUp}
 use Rattle.device_bring_up.specs.BringUp.{bringUp}
-use Rattle.device_image.specs.Image.{WORDS, encode, decode, isImage}
+use Rattle.device_image.specs.Image.{WORDS, decode, isImage}
 use Rattle.device_image.specs.Fits.{Fits}
 use Rattle.device_image.proofs.Laws.{image-encode, decode-encode}
 use Rattle.xhci_device.specs.Crossed.{Crossed, answeredOf, crossed, CrossedAs}
-use Rattle.theorem_slot.specs.Call.{Buffers, Asked, bringsUp, claims, releases, configures, updatesHub, Call, left, OfSlot}
-use Rattle.theorem_slot.specs.Theorem.{State, Turn, recordAfter, called, after, Between, Turns, start}
+use Rattle.theorem_slot.specs.Call.{Buffers, Asked, bringsUp, claims, releases, configures, updatesHub, left}
+use Rattle.theorem_slot.specs.Theorem.{State, recordAfter, called, after, Turns, start}
 use Rattle.theorem_slot.proofs.Demand3.{kept-by-number}
-use Rattle.theorem_library.specs.Library.{Exchange, reads, Meets, Lent, imageAfter, imageThen, Proper, Exchanges, imageEnd, tableEnd, turnsOf, KeptAcross, LibraryDemand3}
+use Rattle.theorem_library.specs.Library.{Exchange, reads, Lent, imageAfter, imageThen, Exchanges, imageEnd, tableEnd, turnsOf, LibraryDemand3}
 
 -- What a call that reads its image leaves.
 record Leaves (x : Crossed) (l : Left) : Type 0 where

@@ -12,9 +12,9 @@ use Rattle.device.specs.Device.{noDevice}
 use Rattle.device_bring_up.specs.BringUp.{bringUp}
 use Rattle.device_bring_up.proofs.Laws.{Refusal, Refused, bring-up-full}
 use Rattle.device.specs.Sound.{slotSound, sound}
-use Rattle.theorem_slot.specs.Call.{Buffers, bringsUp, left}
+use Rattle.theorem_slot.specs.Call.{Buffers, bringsUp, left, contextCut}
 use Rattle.theorem_slot.specs.Plain.{begins, effectOf}
-use Rattle.theorem_slot.specs.Theorem.{State, recordAfter, contextCut, called}
+use Rattle.theorem_slot.specs.Theorem.{State, recordAfter, called}
 use Rattle.theorem_slot.proofs.Good.{Good, good-same}
 use Rattle.theorem_slot.proofs.Step.{Mild, observed-refused, calledHere}
 

@@ -48,9 +48,9 @@ use Rattle.device.specs.Calls.{onCheck}
 use Rattle.device.specs.Claim.{claimCheck, pendingOf, claimIn, claimRecord, claim}
 use Rattle.device.proofs.Laws.{Passed, passed, pass-if}
 use Rattle.device.proofs.Kept.{claim-moves, claim-stays}
-use Rattle.theorem_slot.specs.Call.{Buffers, claims, left, cutAt}
+use Rattle.theorem_slot.specs.Call.{Buffers, claims, left, cutAt, contextCut}
 use Rattle.theorem_slot.specs.Plain.{HeldSetting, Plain, plainRoute, isHeldDci, without, settingOf, Effect, holdsInterface, effectOf, heldAfter, anew, observed, seen}
-use Rattle.theorem_slot.specs.Theorem.{State, contextCut}
+use Rattle.theorem_slot.specs.Theorem.{State}
 use Rattle.theorem_slot.proofs.Settings.{last-ring, AllFit, pairs, pairs-append, pairs-without, fit-without, fit-append, alternate-byte}
 use Rattle.theorem_slot.proofs.Good.{Live, Unrouted, Good, live-tells, routed-from, named-from, enabled-was, live-here}
 use Rattle.theorem_slot.proofs.Step.{accepted-not, lost-not, checked, good-checked, mild-claim, ran, checked-ran, calledHere}

@@ -1,10 +1,10 @@
 -- How the course of each call ends: by a cut where a command is cut, and else by an answer whose code was read.
 use Prim.Native.Nat.{ℕ, zero, suc, _+_, _≤_}
 use mathlib.Core.Path.{_≡_, refl, ap}
-use mathlib.Core.Bool.{Bool, true, false, cond, _&&_, _||_}
+use mathlib.Core.Bool.{Bool, true, false, cond}
 use mathlib.Core.List.{List}
 use native.Mathlib.Omega.{arith}
-use lib.Dec.{eqb, leb}
+use lib.Dec.{eqb}
 use lib.ListN.{length}
 use Rattle.laws.proofs.Tests.{not-both}
 use Rattle.descriptor_list.specs.Valid.{configurations}
@@ -14,7 +14,7 @@ use Rattle.answer.specs.Answer.{number, codeOf, isCut}
 use Rattle.command.specs.declared.Command.{Command}
 use Rattle.command.specs.declared.Sent.{Sent}
 use Rattle.command.specs.declared.Sent.the-variants.{Done, Failed, Cut}
-use Rattle.command.specs.Course.{Course, ends, sends, onSent, then, words, EndsWith}
+use Rattle.command.specs.Course.{Course, ends, onSent, words, EndsWith}
 use Rattle.command.specs.Sweep.{stopEndpoints, resumeStoppedEndpoints, orCode}
 use Rattle.record_endpoint.specs.EndpointMap.{queueDcis}
 use Rattle.transfer.specs.declared.Replaced.{Replaced}

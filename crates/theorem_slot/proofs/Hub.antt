@@ -20,9 +20,9 @@ use Rattle.device.specs.Left.{Left, refused, marked}
 use Rattle.device.specs.Calls.{onCheck, hubContext, hubCourse, hubLeft, hubUpdate}
 use Rattle.device.proofs.Made.{marked-made}
 use Rattle.device.proofs.Laws.{passed}
-use Rattle.theorem_slot.specs.Call.{Buffers, updatesHub, left, cutAt}
+use Rattle.theorem_slot.specs.Call.{Buffers, updatesHub, left, cutAt, contextCut}
 use Rattle.theorem_slot.specs.Plain.{nothing, effectOf, heldAfter, isUnheldRelease, anew, observed, seen}
-use Rattle.theorem_slot.specs.Theorem.{State, contextCut}
+use Rattle.theorem_slot.specs.Theorem.{State}
 use Rattle.theorem_slot.proofs.Good.{Good, live-here}
 use Rattle.theorem_slot.proofs.Step.{checked, good-checked, mild-hub, calledHere}
 use Rattle.theorem_slot.proofs.Made.{made-same}

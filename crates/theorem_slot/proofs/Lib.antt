@@ -1,6 +1,8 @@
 mod BringUp
 mod Claim
 mod Claimed
+pub mod Contexts
+pub mod CutShort
 pub mod Demand3
 pub mod Ends
 pub mod Few

@@ -1,12 +1,16 @@
 -- Every call leaves every word outside its slot as it was.
-use Prim.Native.Nat.{ℕ}
+use Prim.Native.Nat.{ℕ, _+_, _*_, _<_, _≤_}
 use mathlib.Core.Path.{_≡_, refl}
 use mathlib.Core.Bool.{true, false}
 use mathlib.Core.List.{List, []}
-use mathlib.Core.Logic.{inl, inr}
-use Rattle.laws.proofs.Cases.{Decided, decided}
+use mathlib.Core.Logic.{_⊎_, inl, inr}
+use native.Mathlib.Omega.{arith}
+use native.Mathlib.Decide.{decLt}
+use borrow.Author.Tests.{ltb-true, leb-true}
+use lib.Dec.{ltb, leb}
+use Rattle.laws.proofs.Cases.{Decided, decided, or-cases}
 use Rattle.command.specs.Course.{result, played}
-use Rattle.transfer.specs.Routes.{Queue, withReplaced, Small}
+use Rattle.transfer.specs.Routes.{Queue, withReplaced, Small, OutsideSlot, routeIndex, routeOf}
 use Rattle.transfer.proofs.Laws.{replaced-length, replaced-outside}
 use Rattle.record_endpoint.proofs.Laws.{queues-small}
 use Rattle.course_steps.specs.End.{End}
@@ -25,7 +29,7 @@ use Rattle.device.specs.SetConfiguration.{settingsIn, setConfiguration}
 use Rattle.device.proofs.Marks.{on-check}
 use Rattle.device_bring_up.proofs.Laws.{bring-up-length, bring-up-outside}
 use Rattle.theorem_slot.specs.Call.{Buffers, Asked, bringsUp, claims, releases, configures, updatesHub, left}
-use Rattle.theorem_slot.specs.Theorem.{slotOf, Untouched, OutsideUntouched}
+use Rattle.theorem_slot.specs.Theorem.{slotOf, Untouched, OutsideUntouched, isOutside, OthersBetween}
 
 -- The table itself.
 untouched-same : (slot : ℕ) (routes : List ℕ) → Untouched slot routes routes
@@ -104,3 +108,33 @@ each (updatesHub ports multi ns) buffers d routes =
 -- Whatever the record and the table.
 pub outside-untouched : OutsideUntouched
 outside-untouched c d routes = each (c .asked) (c .buffers) d routes
+
+-- A word of one slot is outside of another.
+apart : (slot other d : ℕ) → (other ≡ slot → ⊥) → d < 32 → OutsideSlot other (32 * slot + d)
+apart slot other d n h = go (decLt slot other)
+  where
+    higher : (slot < other → ⊥) → Dec (other < slot) → 32 * other + 32 ≤ 32 * slot + d
+    higher l (yes m) = omega arith
+    higher l (no m) = absurd (n (omega arith))
+
+    go : Dec (slot < other) → OutsideSlot other (32 * slot + d)
+    go (yes l) = inl (omega arith)
+    go (no l) = inr (higher l (decLt other slot))
+
+outside-is : (slot k : ℕ) → isOutside slot k ≡ true → OutsideSlot slot k
+unfolding isOutside
+outside-is slot k e = go (or-cases (ltb k (32 * slot)) (leb (32 * slot + 32) k) e)
+  where
+    go : (ltb k (32 * slot) ≡ true) ⊎ (leb (32 * slot + 32) k ≡ true) → OutsideSlot slot k
+    go (inl l) = inl (ltb-true k (32 * slot) l)
+    go (inr l) = inr (leb-true (32 * slot + 32) k l)
+
+pub others-between : OthersBetween
+unfolding routeOf routeIndex
+others-between c d routes slot n =
+    let u = outside-untouched c d routes in
+    record {
+      long = u .long;
+      own = λ e h. u .words (32 * slot + e) (apart slot (slotOf (c .asked) d) e n h);
+      others = λ k e. u .words k (outside-is (slotOf (c .asked) d) k e);
+    }

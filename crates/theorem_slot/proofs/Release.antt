@@ -41,9 +41,9 @@ use Rattle.device.specs.Check.{recordCheck}
 use Rattle.device.specs.Release.{releaseCheck, releaseIn, releaseRecord, release}
 use Rattle.device.proofs.Laws.{Passed, passed}
 use Rattle.device.proofs.Kept.{release-moves, release-stays}
-use Rattle.theorem_slot.specs.Call.{Buffers, releases, left, cutAt}
+use Rattle.theorem_slot.specs.Call.{Buffers, releases, left, cutAt, contextCut}
 use Rattle.theorem_slot.specs.Plain.{Plain, isHeldDci, without, hasSetting, Effect, endsOne, effectOf, heldAfter, isUnheldRelease, anew, seen}
-use Rattle.theorem_slot.specs.Theorem.{State, contextCut}
+use Rattle.theorem_slot.specs.Theorem.{State}
 use Rattle.theorem_slot.proofs.Settings.{AllFit, pairs, pairs-setting, pairs-without, fit-without}
 use Rattle.theorem_slot.proofs.Good.{Live, Unrouted, Good, live-tells, routed-from, named-from, enabled-was, live-here}
 use Rattle.theorem_slot.proofs.Step.{lost-not, checked, good-checked, mild-release, ran, checked-ran, calledHere}

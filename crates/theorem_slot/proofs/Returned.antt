@@ -1,23 +1,22 @@
 -- What a call's answer says of its count, its outcomes and all that it leaves.
 use Prim.Native.Nat.{ℕ, _+_, _≤_, _<_}
 use mathlib.Core.Path.{_≡_, refl, sym, _∙_, ap}
-use mathlib.Core.Bool.{Bool, true, false, cond}
+use mathlib.Core.Bool.{Bool, true, false, not, cond}
 use mathlib.Core.List.{List}
-use mathlib.Core.Logic.{_⊎_, inl, inr}
+use mathlib.Core.Logic.{_⊎_, inr, ⊎-elim}
 use native.Mathlib.Omega.{arith}
 use native.Mathlib.Decide.{decLt}
 use borrow.Author.Tests.{eqb-false, ltb-true}
 use lib.Dec.{eqb, ltb}
-use lib.ListN.{length, getD, take}
+use lib.ListN.{length, getD}
 use Rattle.laws.proofs.Tests.{not-both}
 use Rattle.answer.specs.declared.Answer.{Answer}
 use Rattle.answer.specs.declared.Answer.the-variants as answer
 use Rattle.answer.specs.Answer.{number, isCut}
-use Rattle.command.specs.declared.Sent.{Sent}
 use Rattle.command.specs.declared.Sent.the-variants.{Done, Failed, Cut}
 use Rattle.command.specs.Command.{outcomeAt}
 use Rattle.command.specs.Course.{Course, words, result, played}
-use Rattle.command.proofs.Cuts.{done-cut, failed-cut, failed-done}
+use Rattle.command.proofs.Cuts.{failed-cut, failed-done}
 use Rattle.device.specs.declared.record.Device.{Device}
 use Rattle.device.specs.Left.{Left, refused, ended}
 use Rattle.device.specs.Sound.{sound}
@@ -26,8 +25,11 @@ use Rattle.device.specs.Claim.{claimIn, claim}
 use Rattle.device.specs.Release.{releaseIn, release}
 use Rattle.device.specs.SetConfiguration.{settingsIn, setConfiguration}
 use Rattle.device.proofs.Laws.{passed}
-use Rattle.device.proofs.Kept as kept
-use Rattle.device.proofs.Kept.{claim-sound, release-sound, set-configuration-sound, hub-update-returned}
+use Rattle.device.proofs.Made.{Made, marked-made}
+use Rattle.device.proofs.Kept.{claim-moves, claim-stays, release-moves, release-stays, set-moves, set-stays}
+use Rattle.record_settings.specs.Held.{Held}
+use Rattle.record_endpoint.specs.declared.endpoint_map.EndpointMap.{EndpointMap}
+use Rattle.laws.proofs.Cases.{decided}
 use Rattle.device.proofs.Facts as facts
 use Rattle.course_steps.specs.End.{End}
 use Rattle.course_claim.specs.Claim.{claimCourse}
@@ -39,9 +41,9 @@ use Rattle.answer.specs.declared.Check.{Check}
 use Rattle.answer.specs.declared.Check.the-variants.{Pass}
 use Rattle.transfer.specs.Routes.{withRoute}
 use Rattle.context.specs.Place.{spacingOf}
-use Rattle.device_bring_up.specs.BringUp.{bringUpCourse, broughtLeft, bringUp}
+use Rattle.device_bring_up.specs.BringUp.{bringUpCourse, broughtRecord, broughtLeft, bringUp}
 use Rattle.theorem_slot.specs.Call.{Buffers, Asked, bringsUp, claims, releases, configures, updatesHub, Call, left}
-use Rattle.theorem_slot.specs.Answers.{isRefused, refusedRecord, CodeOfOutcome, Answered, AnswersTell, Returned, SoundReturned}
+use Rattle.theorem_slot.specs.Answers.{isRefused, refusedRecord, CodeOfOutcome, Answered, AnswersTell, Returned, SoundReturned, usableAfter}
 use Rattle.theorem_slot.specs.Theorem.{NoneQuarantined}
 use Rattle.theorem_slot.proofs.Told.{Told, told-whole, told-cut}
 use Rattle.theorem_slot.proofs.Ends.{Fair, hub-sends, claim-tells, release-tells, set-tells, hub-tells, bring-up-tells, claim-sends, release-sends, set-sends, bring-up-sends}
@@ -148,7 +150,9 @@ record Tells (c : Call) (d : Device) (routes : List ℕ) (l : Left) : Type 0 whe
 -- By what its check answers.
 checked-tells :
     (c : Call) (d : Device) (routes : List ℕ) (k : Check) (run : Left) → MildCheck k →
-    (k ≡ Pass → Ran (c .buffers .outcomes) run × ((run .device .usable ≡ false) ⊎ (sound (run .device) ≡ true))) →
+    (k ≡ Pass →
+    Ran (c .buffers .outcomes) run
+    × ((run .device .usable ≡ usableAfter (c .asked) (run .answer)) × ((run .device .usable ≡ false) ⊎ (sound (run .device) ≡ true)))) →
     Tells c d routes (onCheck k run (λ a. refused (refusedRecord (c .asked) d) a (c .buffers .ctx) routes (c .buffers .log)))
 unfolding refused
 checked-tells c d routes k run m h =
@@ -156,18 +160,17 @@ checked-tells c d routes k run m h =
     (λ e.
     record {
       answered = h e .0 .answered;
-      returned = record { refusal = λ r. not-both (isRefused (run .answer)) r (h e .0 .late); other = λ r. h e .1 };
+      returned = record { refusal = λ r. not-both (isRefused (run .answer)) r (h e .0 .late); usable = λ r. h e .1 .0; is-sound = λ r. h e .1 .1 };
     })
     (λ a r.
     record {
       answered = refused-answered (c .buffers .outcomes) _ a (c .buffers .ctx) routes (c .buffers .log) r;
-      returned = record { refusal = λ t. refl; other = λ f. not-both (isRefused a) r f };
+      returned = record { refusal = λ t. refl; usable = λ f. not-both (isRefused a) r f; is-sound = λ f. not-both (isRefused a) r f };
     })
 
--- The record that a call returns, whose check has passed.
-kept-sound : (d e : Device) → kept.Returned d e → sound d ≡ true → (e .usable ≡ false) ⊎ (sound e ≡ true)
-kept-sound d e (inl same) s = inr (ap sound same ∙ s)
-kept-sound d e (inr ok) s = inr ok
+-- The record that a call makes.
+fit : {d e : Device} {hs : List Held} {c : EndpointMap} {lost : Bool} → Made d e hs c lost → (e .usable ≡ not lost) × ((e .usable ≡ false) ⊎ (sound e ≡ true))
+fit m = (m .usable, inr (m .is-sound))
 
 module _ (b : Buffers) (d : Device) (routes : List ℕ) where
   o : List ℕ
@@ -177,7 +180,7 @@ module _ (b : Buffers) (d : Device) (routes : List ℕ) where
   call a = record { asked = a; buffers = b }
 
   each : (a : Asked) → Tells (call a) d routes (left a b d routes)
-  unfolding call o left refusedRecord claim release setConfiguration hubUpdate bringUp ended hubLeft broughtLeft bringUpCourse onCheck
+  unfolding call o left refusedRecord usableAfter claim release setConfiguration hubUpdate bringUp ended hubLeft broughtLeft bringUpCourse broughtRecord played onCheck
   each (bringsUp a) =
       let next = withRoute routes (a .slot) 1 (a .ring) in
       let course = bringUpCourse a (spacingOf (length (b .ctx))) (b .ctx) routes in
@@ -186,7 +189,7 @@ module _ (b : Buffers) (d : Device) (routes : List ℕ) where
         ran-course (λ (x : Brought). x .answer) o course (b .log)
             (λ K. bring-up-tells K a (spacingOf (length (b .ctx))) next (b .ctx))
             (bring-up-sends o (b .ctx) next a (spacingOf (length (b .ctx)))) _ refl refl,
-        rw e at (bring-up-sound a (b .ctx) routes (b .log) (b .outcomes)),
+        (refl, rw e at (bring-up-sound a (b .ctx) routes (b .log) (b .outcomes))),
       ))
   each (claims i a rings) =
       checked-tells (call (claims i a rings)) d routes _ _ (mild-claim d _ _ _ i a rings)
@@ -194,7 +197,7 @@ module _ (b : Buffers) (d : Device) (routes : List ℕ) where
         ran-course (λ (x : End). x .answer) o (claimCourse (claimIn d i a rings) (b .ctx) routes) (b .log)
             (λ K. claim-tells K (claimIn d i a rings) (b .ctx) routes)
             (claim-sends o (b .ctx) routes (claimIn d i a rings)) _ refl refl,
-        kept-sound d _ (rw e at (claim-sound d (b .ctx) routes (b .log) (b .outcomes) i a rings)) (passed d _ _ _ _ e .0 .is-sound),
+        ⊎-elim (λ m. fit (claim-moves d _ _ _ i a rings e _ m)) (λ m. fit (claim-stays d _ _ _ i a rings e _ m)) (decided _),
       ))
   each (releases i) =
       checked-tells (call (releases i)) d routes _ _ (mild-release d _ _ _ i)
@@ -202,7 +205,7 @@ module _ (b : Buffers) (d : Device) (routes : List ℕ) where
         ran-course (λ (x : End). x .answer) o (releaseCourse (releaseIn d i) (b .ctx) routes) (b .log)
             (λ K. release-tells K (releaseIn d i) (b .ctx) routes)
             (release-sends o (b .ctx) routes (releaseIn d i)) _ refl refl,
-        kept-sound d _ (rw e at (release-sound d (b .ctx) routes (b .log) (b .outcomes) i)) (passed d _ _ _ _ e .0 .is-sound),
+        ⊎-elim (λ m. fit (release-moves d _ _ _ i e _ m)) (λ m. fit (release-stays d _ _ _ i e _ m)) (decided _),
       ))
   each (configures value) =
       checked-tells (call (configures value)) d routes _ _ (mild-set d _ _ _)
@@ -210,14 +213,14 @@ module _ (b : Buffers) (d : Device) (routes : List ℕ) where
         ran-course (λ (x : End). x .answer) o (setCourse (settingsIn d value) (b .ctx) routes) (b .log)
             (λ K. set-tells K (settingsIn d value) (b .ctx) routes)
             (set-sends o (b .ctx) routes (settingsIn d value)) _ refl refl,
-        kept-sound d _ (rw e at (set-configuration-sound d (b .ctx) routes (b .log) (b .outcomes) value)) (passed d _ _ _ _ e .0 .is-sound),
+        ⊎-elim (λ m. fit (set-moves d _ _ _ value e _ m)) (λ m. fit (set-stays d _ _ _ value e _ m)) (decided _),
       ))
   each (updatesHub ports multi ns) =
       let ctx = hubContext d ports multi ns (b .ctx) in
       checked-tells (call (updatesHub ports multi ns)) d routes _ _ (mild-hub d _ _ _ ns)
       (λ e. (
         ran-course (λ (x : Answer). x) o (hubCourse ctx) (b .log) (λ K. hub-tells K ctx) (hub-sends o ctx) _ refl refl,
-        kept-sound d _ (rw e at (hub-update-returned d (b .ctx) routes (b .log) (b .outcomes) ports multi ns)) (passed d _ _ _ _ e .0 .is-sound),
+        let p = passed d _ _ _ _ e .0 in fit (marked-made d (p .usable) (p .is-sound) _),
       ))
 
 pub answers-tell : AnswersTell

@@ -44,9 +44,9 @@ use Rattle.device.specs.Check.{recordCheck}
 use Rattle.device.specs.SetConfiguration.{settingsIn, setRecord, setConfiguration}
 use Rattle.device.proofs.Laws.{Passed, passed}
 use Rattle.device.proofs.Kept.{set-moves, set-stays}
-use Rattle.theorem_slot.specs.Call.{Buffers, configures, left, cutAt}
+use Rattle.theorem_slot.specs.Call.{Buffers, configures, left, cutAt, contextCut}
 use Rattle.theorem_slot.specs.Plain.{Plain, isHeldDci, Effect, endsAll, effectOf, heldAfter, anew, seen}
-use Rattle.theorem_slot.specs.Theorem.{State, contextCut}
+use Rattle.theorem_slot.specs.Theorem.{State}
 use Rattle.theorem_slot.proofs.Settings.{AllFit, pairs}
 use Rattle.theorem_slot.proofs.Good.{Live, Unrouted, Good, live-tells, routed-from, named-from, enabled-was, live-here}
 use Rattle.theorem_slot.proofs.Step.{lost-not, checked, good-checked, mild-set, ran, checked-ran, calledHere}

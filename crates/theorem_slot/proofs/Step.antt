@@ -45,10 +45,10 @@ use Rattle.device.specs.Check.{recordCheck, hubCheck}
 use Rattle.device.specs.Calls.{onCheck}
 use Rattle.device.specs.Claim.{claimCheck}
 use Rattle.device.specs.Release.{releaseCheck}
-use Rattle.theorem_slot.specs.Call.{Buffers, Call, left}
+use Rattle.theorem_slot.specs.Call.{Buffers, Call, left, contextCut}
 use Rattle.theorem_slot.specs.Answers.{isRefused}
 use Rattle.theorem_slot.specs.Plain.{Plain, Effect, begins, holdsInterface, endsOne, endsAll, nothing, effectOf, heldAfter, begun, isUnheldRelease, anew, seen, observed}
-use Rattle.theorem_slot.specs.Theorem.{State, contextCut}
+use Rattle.theorem_slot.specs.Theorem.{State}
 use Rattle.theorem_slot.proofs.Words.{taken-words}
 use Rattle.theorem_slot.proofs.Good.{Good}
 

@@ -1,6 +1,6 @@
 -- What the end of a course says of the outcomes that were read: how many, and which codes.
-use Prim.Native.Nat.{ℕ, zero, suc, _+_, _≤_, _<_}
-use mathlib.Core.Path.{_≡_, refl, sym, _∙_, ap}
+use Prim.Native.Nat.{ℕ, suc, _+_, _≤_, _<_}
+use mathlib.Core.Path.{_≡_, refl, _∙_, ap}
 use mathlib.Core.List.{List, [], _∷_, _++_}
 use native.Mathlib.Omega.{arith}
 use native.Mathlib.Decide.{decLt}
@@ -8,7 +8,7 @@ use lib.ListN.{length, take}
 use Rattle.command.specs.declared.Sent.{Sent}
 use Rattle.command.specs.declared.Sent.the-variants.{Done, Failed, Cut}
 use Rattle.command.specs.Command.{commandWord, outcomeAt}
-use Rattle.command.specs.Course.{Course, ends, sends, onSent, then, words, result, played, EndsWith}
+use Rattle.command.specs.Course.{Course, ends, sends, onSent, then, words, result, played, EndsWith, CutsTo}
 use Rattle.command.specs.Sweep.{Sweep, swept, resumeFrom, resumeStoppedEndpoints, orCode, undoStops, stopFrom, stopEndpoints}
 use Rattle.command.proofs.Cuts.{outcome-none, outcome-there, outcome-take, ended-then}
 
@@ -90,6 +90,27 @@ module _ {A : Type 0} (P C : A → Type 0) (K : ℕ → Type 0) (o : List ℕ) w
           let z : n ≡ length o = omega arith in
           let s = cut (k Cut) (t .0) in
           rw (outcome-none o n (omega arith)) (s .0, s .1 ∙ ap (λ m. m + 1) z)
+
+-- Wherever a command is cut, the course ends by C.
+sent-cases : (P : Sent → Type 0) → P Done → ((code : ℕ) → P (Failed code)) → P Cut → (s : Sent) → P s
+sent-cases P d f c Done = d
+sent-cases P d f c (Failed code) = f code
+sent-cases P d f c Cut = c
+
+ended-cuts : {A : Type 0} (C : A → Type 0) (c : Course A) → EndsWith C c → CutsTo (λ ctx. C) c
+unfolding EndsWith CutsTo
+ended-cuts C (ends a) e = tt
+ended-cuts C (sends c ctx k) e = absurd e
+
+pub told-cuts : {A : Type 0} (P C : A → Type 0) (c : Course A) → Told P C (λ code. Unit {0}) c → CutsTo (λ ctx. C) c
+unfolding Told CutsTo Read
+told-cuts P C (ends a) t = tt
+told-cuts P C (sends c ctx k) t = (
+  t .0,
+  sent-cases (λ s. CutsTo (λ ctx. C) (k s)) (told-cuts P C (k Done) (t .1 Done tt))
+      (λ code. told-cuts P C (k (Failed code)) (t .1 (Failed code) tt))
+      (ended-cuts C (k Cut) (t .0)),
+)
 
 -- Outcomes past the last command are not read.
 pub words-surplus :

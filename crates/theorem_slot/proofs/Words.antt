@@ -1,23 +1,27 @@
 -- The words that a call logged.
 use Prim.Native.Nat.{ℕ, _+_, _≤_, _<_}
-use mathlib.Core.Path.{_≡_, _∙_}
+use mathlib.Core.Path.{_≡_, sym, _∙_}
 use mathlib.Core.List.{List}
 use native.Mathlib.Omega.{arith}
 use lib.ListN.{length, take, length-take}
-use lib.Seq.{sets, length-sets, getD-take, ext-getD}
+use lib.Seq.{sets, length-sets, getD-take, ext-getD, take-length}
 use Rattle.command.specs.Course.{Course, words, played}
 use Rattle.command.proofs.Laws.{sets-there}
 
--- Words stored from the front of a log that has room for them.
-stored : (ws log : List ℕ) → length ws ≤ length log → take (length ws) (sets log 0 ws) ≡ ws
-stored ws log h =
-    let l : length (take (length ws) (sets log 0 ws)) ≡ length ws =
-    length-take (length ws) (sets log 0 ws) ∙ rw (length-sets log 0 ws) (omega arith) in
-    ext-getD 0 (take (length ws) (sets log 0 ws)) ws l
-    (λ k g.
-    let m : k < length ws = omega arith in
+-- The first of some words stored from the front of a log that has room for them.
+pub stored-first : (m : ℕ) (ws log : List ℕ) → m ≤ length ws → length ws ≤ length log → take m (sets log 0 ws) ≡ take m ws
+stored-first m ws log g h =
+    let l : length (take m (sets log 0 ws)) ≡ m = length-take m (sets log 0 ws) ∙ rw (length-sets log 0 ws) (omega arith) in
+    let n : length (take m ws) ≡ m = length-take m ws ∙ omega arith in
+    ext-getD 0 (take m (sets log 0 ws)) (take m ws) (l ∙ sym n)
+    (λ k x.
+    let y : k < m = omega arith in
     let z : 0 + k ≡ k = omega arith in
-    getD-take (length ws) (sets log 0 ws) k 0 m ∙ (rw z at (sets-there ws log 0 k m (omega arith))))
+    getD-take m (sets log 0 ws) k 0 y ∙ (rw z at (sets-there ws log 0 k (omega arith) (omega arith))) ∙ sym (getD-take m ws k 0 y))
+
+-- And all of them.
+pub stored : (ws log : List ℕ) → length ws ≤ length log → take (length ws) (sets log 0 ws) ≡ ws
+stored ws log h = stored-first (length ws) ws log (omega arith) h ∙ take-length ws
 
 -- The log up to its count is the words of the course.
 pub taken-words :

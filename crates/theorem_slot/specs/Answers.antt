@@ -1,19 +1,29 @@
 -- What a call's answer says of its count, its outcomes and all that it leaves, whatever record and table it gets.
 use Prim.Native.Nat.{ℕ, _+_, _<_, _≤_}
 use mathlib.Core.Path.{_≡_}
-use mathlib.Core.Bool.{Bool, true, false, _&&_, _||_}
+use mathlib.Core.Bool.{Bool, true, false, not, _&&_, _||_}
 use mathlib.Core.List.{List}
 use mathlib.Core.Logic.{_⊎_}
 use lib.Dec.{eqb, leb}
 use lib.ListN.{length, getD, take}
 use Rattle.answer.specs.declared.Answer.{Answer}
 use Rattle.answer.specs.declared.Answer.the-variants as answer
-use Rattle.answer.specs.Answer.{number}
+use Rattle.answer.specs.Answer.{number, isAccepted, isLost}
 use Rattle.device.specs.declared.record.Device.{Device}
 use Rattle.device.specs.Left.{Left, refused}
 use Rattle.device.specs.Sound.{sound}
+use Rattle.command.specs.Course.{contextAt}
+use Rattle.course_claim.specs.Claim.{claimCourse}
+use Rattle.course_release.specs.Release.{releaseCourse}
+use Rattle.course_set_configuration.specs.SetConfiguration.{setCourse}
+use Rattle.device.specs.Calls.{hubContext, hubCourse}
+use Rattle.device.specs.Claim.{claimIn}
+use Rattle.device.specs.Release.{releaseIn}
+use Rattle.device.specs.SetConfiguration.{settingsIn}
+use Rattle.context.specs.Place.{spacingOf}
 use Rattle.device.specs.Device.{noDevice}
-use Rattle.theorem_slot.specs.Call.{Asked, bringsUp, claims, releases, configures, updatesHub, Call, left, cutAt}
+use Rattle.device_bring_up.specs.BringUp.{bringUpCourse}
+use Rattle.theorem_slot.specs.Call.{Buffers, Asked, bringsUp, claims, releases, configures, updatesHub, Call, left, cutAt, contextCut}
 
 -- Refused before any command: 1 to 12 and 17.
 unfoldable pub isRefused : Answer → Bool
@@ -46,6 +56,37 @@ SurplusUnread =
     let l = left (c .asked) (c .buffers) d routes in
     left (c .asked) (cutAt (l .count) (c .buffers)) d routes ≡ l
 
+-- Given only the outcomes before one of its commands, the same call is cut there, and its log is the same up to that command's word.
+pub record CutThere (i : ℕ) (whole cut : Left) : Type 0 where
+  pub answer : cut .answer ≡ answer.Cut
+  pub count : cut .count ≡ i + 1
+  pub words : take (i + 1) (cut .log) ≡ take (i + 1) (whole .log)
+
+abbrev pub CutsAgree : Type 0
+CutsAgree =
+    (c : Call) (d : Device) (routes : List ℕ) (i : ℕ) →
+    let l = left (c .asked) (c .buffers) d routes in
+    i < l .count → CutThere i l (left (c .asked) (cutAt i (c .buffers)) d routes)
+
+-- The context over which a call sends command i, by its course.
+unfoldable pub commandContext : Asked → Buffers → Device → List ℕ → ℕ → List ℕ
+commandContext (bringsUp a) b d routes i =
+    contextAt (b .outcomes) 0 i (bringUpCourse a (spacingOf (length (b .ctx))) (b .ctx) routes)
+commandContext (claims interface alternate rings) b d routes i =
+    contextAt (b .outcomes) 0 i (claimCourse (claimIn d interface alternate rings) (b .ctx) routes)
+commandContext (releases interface) b d routes i =
+    contextAt (b .outcomes) 0 i (releaseCourse (releaseIn d interface) (b .ctx) routes)
+commandContext (configures value) b d routes i = contextAt (b .outcomes) 0 i (setCourse (settingsIn d value) (b .ctx) routes)
+commandContext (updatesHub ports multi ns) b d routes i =
+    contextAt (b .outcomes) 0 i (hubCourse (hubContext d ports multi ns (b .ctx)))
+
+-- It is the one that the call cut there leaves: so the plain slot's controller reads each command with its own context.
+abbrev pub ContextsAgree : Type 0
+ContextsAgree =
+    (c : Call) (d : Device) (routes : List ℕ) (i : ℕ) →
+    i < (left (c .asked) (c .buffers) d routes) .count →
+    contextCut c d routes i ≡ commandContext (c .asked) (c .buffers) d routes i
+
 -- The record that a refused call returns: the one that came, of a bring-up the empty one.
 unfoldable pub refusedRecord : Asked → Device → Device
 refusedRecord (bringsUp a) d = noDevice
@@ -54,13 +95,22 @@ refusedRecord (releases interface) d = d
 refusedRecord (configures value) d = d
 refusedRecord (updatesHub ports multi ns) d = d
 
+-- Whether the record is usable after an answer: not after 14 and 15, and of a bring-up after 0 only.
+unfoldable pub usableAfter : Asked → Answer → Bool
+usableAfter (bringsUp a) x = isAccepted x
+usableAfter (claims interface alternate rings) x = not (isLost x)
+usableAfter (releases interface) x = not (isLost x)
+usableAfter (configures value) x = not (isLost x)
+usableAfter (updatesHub ports multi ns) x = not (isLost x)
+
 pub record Returned (c : Call) (d : Device) (routes : List ℕ) (l : Left) : Type 0 where
   -- refused: nothing that was lent is changed, and the count is 0
   pub refusal :
       isRefused (l .answer) ≡ true →
       l ≡ refused (refusedRecord (c .asked) d) (l .answer) (c .buffers .ctx) routes (c .buffers .log)
   -- any other answer: the record is unusable or sound
-  pub other : isRefused (l .answer) ≡ false → (l .device .usable ≡ false) ⊎ (sound (l .device) ≡ true)
+  pub usable : isRefused (l .answer) ≡ false → l .device .usable ≡ usableAfter (c .asked) (l .answer)
+  pub is-sound : isRefused (l .answer) ≡ false → (l .device .usable ≡ false) ⊎ (sound (l .device) ≡ true)
 
 abbrev pub SoundReturned : Type 0
 SoundReturned = (c : Call) (d : Device) (routes : List ℕ) → Returned c d routes (left (c .asked) (c .buffers) d routes)

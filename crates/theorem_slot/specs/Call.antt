@@ -48,6 +48,10 @@ left (configures value) l d routes = setConfiguration d (l .ctx) routes (l .log)
 left (updatesHub ports multi ns) l d routes =
     hubUpdate d (l .ctx) routes (l .log) (l .outcomes) ports multi ns
 
+-- The context that the same call leaves, given only the first i outcomes.
+unfoldable pub contextCut : Call → Device → List ℕ → ℕ → List ℕ
+contextCut c d routes i = (left (c .asked) (cutAt i (c .buffers)) d routes) .ctx
+
 -- A call of this slot, with interfaces, alternates and values that are bytes, as the code's types have it.
 unfoldable pub OfSlot : ℕ → Asked → Type 0
 OfSlot slot (bringsUp a) = a .slot ≡ slot

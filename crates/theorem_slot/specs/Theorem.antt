@@ -1,8 +1,9 @@
 -- Demand 3: what every list of calls on a slot leaves of its routes and of its controller's endpoints.
-use Prim.Native.Nat.{ℕ, _<_, _≤_}
+use Prim.Native.Nat.{ℕ, _+_, _*_, _<_, _≤_}
 use mathlib.Core.Path.{_≡_}
-use mathlib.Core.Bool.{Bool, true, false, not, cond, _&&_}
+use mathlib.Core.Bool.{Bool, true, false, not, cond, _&&_, _||_}
 use mathlib.Core.List.{List, [], _∷_}
+use lib.Dec.{leb, ltb}
 use lib.ListN.{length, getD, take}
 use Rattle.answer.specs.declared.Answer.{Answer}
 use Rattle.answer.specs.declared.Answer.the-variants as answer
@@ -22,7 +23,7 @@ use Rattle.device.specs.Left.{Left}
 use Rattle.device.specs.Sound.{sound}
 use Rattle.device.specs.Check.{recordCheck}
 use Rattle.device.specs.Claim.{claimCheck}
-use Rattle.theorem_slot.specs.Call.{Buffers, Asked, bringsUp, claims, releases, configures, updatesHub, Call, left, cutAt, OfSlot}
+use Rattle.theorem_slot.specs.Call.{Buffers, Asked, bringsUp, claims, releases, configures, updatesHub, Call, left, contextCut, OfSlot}
 use Rattle.theorem_slot.specs.Plain.{Plain, plainRoute, isHeldDci, effectOf, begun, observed}
 
 -- The record and the table as the calls hand them on, and the plain slot beside them.
@@ -46,10 +47,6 @@ recordAfter (claims interface alternate rings) keeps answer had returned = retur
 recordAfter (releases interface) keeps answer had returned = returned
 recordAfter (configures value) keeps answer had returned = returned
 recordAfter (updatesHub ports multi ns) keeps answer had returned = returned
-
--- The context that the same call leaves, given only the first i outcomes.
-unfoldable pub contextCut : Call → Device → List ℕ → ℕ → List ℕ
-contextCut c d routes i = (left (c .asked) (cutAt i (c .buffers)) d routes) .ctx
 
 -- One call. The plain slot reads its answer and the words that it logged; its controller the context that the same call leaves when
 -- it is cut at a command.
@@ -151,6 +148,16 @@ abbrev pub OutsideUntouched : Type 0
 OutsideUntouched =
     (c : Call) (d : Device) (routes : List ℕ) →
     Untouched (slotOf (c .asked) d) routes ((left (c .asked) (c .buffers) d routes) .routes)
+
+-- So a call of another slot leaves a table that a call of this one may get.
+unfoldable pub isOutside : ℕ → ℕ → Bool
+isOutside slot k = ltb k (32 * slot) || leb (32 * slot + 32) k
+
+abbrev pub OthersBetween : Type 0
+OthersBetween =
+    (c : Call) (d : Device) (routes : List ℕ) (slot : ℕ) →
+    (slotOf (c .asked) d ≡ slot → ⊥) →
+    Between slot (isOutside (slotOf (c .asked) d)) routes ((left (c .asked) (c .buffers) d routes) .routes)
 
 -- Every call logs at most 64 words, so that the shortest log has room for them.
 abbrev pub FewWords : Type 0
