@@ -16,6 +16,12 @@
  * call up is to cut it. From its begin to its end nobody else may write image, context or the slot's own 32
  * routes; other slots' calls may run between two steps, over the same routes. While a step runs, nobody may
  * read these routes: the slot's own are put back first and then written again.
+ *
+ * Before Address and Configure the rings of xhci_device_added are cleared and begun anew. Resume sets the dequeue
+ * pointer to where the ring is next written, and rings the doorbell; an endpoint that the output context calls
+ * running was added by the Configure before it: there the doorbell is all. A control endpoint that a request has
+ * halted is reset before the outcome is told. Completions that come while a command waits go to the rings that the
+ * routes name now; the next step may move them.
  */
 #ifndef XHCI_DEVICE_DRIVER_H
 #define XHCI_DEVICE_DRIVER_H

@@ -11,7 +11,7 @@ use lib.ListN.{length}
 use Rattle.descriptor.specs.Word.{CONFIGURATION, ALTERNATE, kind, configurationValue, interfaceNumber, alternateSetting, typeNumber, endpointDescriptor}
 use Rattle.descriptor_raw.specs.Descriptor.{CONFIGURATION-TYPE, LENGTH, sizeOf, byteAt, isConfiguration}
 use Rattle.descriptor_raw.specs.Claims.{upTo, bytesOf, interfaceNumbers, endpoints, bytesAfter, interfacesAfter, endpointsAfter}
-use Rattle.descriptor_raw.specs.Write.{configurationDescriptor, interfaceDescriptor, endpointBytes, packetField, descriptorOf}
+use Rattle.descriptor_raw.specs.Write.{configurationDescriptor, interfaceDescriptor, endpointBytes, wordPackets, descriptorOf}
 
 -- The interface numbers before the next configuration.
 abbrev pub numbersAfter : List (List ℕ) → List ℕ
@@ -57,7 +57,7 @@ module _ (w : ℕ) (after : List (List ℕ)) where
   module _ (c : kind w ≢ CONFIGURATION) (a : kind w ≢ ALTERNATE) where
     pub made-endpoint :
         descriptorOf w after
-        ≡ endpointBytes ((endpointDescriptor w) .address) (typeNumber w) (packetField w) ((endpointDescriptor w) .interval)
+        ≡ endpointBytes ((endpointDescriptor w) .address) (typeNumber w) (wordPackets w) ((endpointDescriptor w) .interval)
     unfolding descriptorOf
     made-endpoint = rw (ne-eqb _ _ c, ne-eqb _ _ a)
 
@@ -85,7 +85,7 @@ made-length w after = go (eqb (kind w) CONFIGURATION) (eqb (kind w) ALTERNATE)
         (configurationDescriptor (sizeOf CONFIGURATION-TYPE + bytesAfter after) (interfacesAfter after) (configurationValue w))
         (cond a
         (interfaceDescriptor (interfaceNumber w) (alternateSetting w) (endpointsAfter after))
-        (endpointBytes ((endpointDescriptor w) .address) (typeNumber w) (packetField w) ((endpointDescriptor w) .interval)))
+        (endpointBytes ((endpointDescriptor w) .address) (typeNumber w) (wordPackets w) ((endpointDescriptor w) .interval)))
 
     go : (c a : Bool) → (byteAt LENGTH (d c a) ≡ length (d c a)) × (2 ≤ length (d c a)) × (length (d c a) ≤ 9)
     go true a = (refl, omega arith, omega arith)

@@ -1,5 +1,5 @@
 -- The descriptors of USB 2.0, section 9.6. A descriptor is the list of its bytes; a field of two bytes has the low one first.
-use Prim.Native.Nat.{ℕ, _+_, _*_}
+use Prim.Native.Nat.{ℕ, _+_, _*_, _/_, _%_}
 use mathlib.Core.Bool.{Bool, cond}
 use mathlib.Core.List.{List}
 use lib.Dec.{eqb}
@@ -57,6 +57,16 @@ MAX-PACKET-SIZE = 4
 
 abbrev pub INTERVAL : ℕ
 INTERVAL = 6
+
+-- Of the packet size field bits 10 to 0 are the size, and bits 12 and 11 the packets per microframe less one.
+abbrev pub packetSize : ℕ → ℕ
+packetSize field = field % 2048
+
+abbrev pub packetsLessOne : ℕ → ℕ
+packetsLessOne field = field / 2048 % 4
+
+abbrev pub packetField : ℕ → ℕ → ℕ
+packetField size lessOne = size + 2048 * lessOne
 
 -- The size of a descriptor by its type; one of another type has at least a length and a type.
 unfoldable pub sizeOf : ℕ → ℕ

@@ -1,5 +1,5 @@
 -- The reader: bytes to descriptor words.
-use Prim.Native.Nat.{ℕ, zero, suc, _+_, _-_, _/_, _%_}
+use Prim.Native.Nat.{ℕ, zero, suc, _+_, _-_}
 use mathlib.Core.Bool.{Bool, true, not, cond, _&&_}
 use mathlib.Core.List.{List, [], _∷_, _++_}
 use lib.Dec.{eqb, leb}
@@ -7,7 +7,7 @@ use lib.ListN.{length, take}
 use Rattle.descriptor_list.specs.Valid.{validList}
 use Rattle.descriptor_raw.specs.declared.RawAnswer.the-variants.{TooShort, DescriptorList, Malformed}
 use Rattle.descriptor_raw.specs.Answer.{Left, accepts, unless}
-use Rattle.descriptor_raw.specs.Descriptor.{LENGTH, TYPE, TOTAL-LENGTH, NUM-INTERFACES, CONFIGURATION-VALUE, INTERFACE-NUMBER, ALTERNATE-SETTING, NUM-ENDPOINTS, ENDPOINT-ADDRESS, ENDPOINT-ATTRIBUTES, MAX-PACKET-SIZE, INTERVAL, sizeOf, byteAt, twoBytesAt, isConfiguration, isInterface, isEndpoint}
+use Rattle.descriptor_raw.specs.Descriptor.{LENGTH, TYPE, TOTAL-LENGTH, NUM-INTERFACES, CONFIGURATION-VALUE, INTERFACE-NUMBER, ALTERNATE-SETTING, NUM-ENDPOINTS, ENDPOINT-ADDRESS, ENDPOINT-ATTRIBUTES, MAX-PACKET-SIZE, INTERVAL, packetsLessOne, sizeOf, byteAt, twoBytesAt, isConfiguration, isInterface, isEndpoint}
 use Rattle.descriptor_raw.specs.Claims.{bytesAfter, interfacesAfter, endpointsAfter}
 use Rattle.descriptor_raw.specs.Words.{configurationWord, alternateWord, endpointWord}
 
@@ -31,7 +31,7 @@ borneOut d after =
     cond (isConfiguration d)
     (eqb (twoBytesAt TOTAL-LENGTH d) (length d + bytesAfter after) && eqb (byteAt NUM-INTERFACES d) (interfacesAfter after))
     (cond (isInterface d) (eqb (byteAt NUM-ENDPOINTS d) (endpointsAfter after))
-    (cond (isEndpoint d) (not (eqb (twoBytesAt MAX-PACKET-SIZE d / 2048 % 4) 3)) true))
+    (cond (isEndpoint d) (not (eqb (packetsLessOne (twoBytesAt MAX-PACKET-SIZE d)) 3)) true))
 
 unfoldable pub allWhole : List (List ℕ) → Bool
 allWhole [] = true

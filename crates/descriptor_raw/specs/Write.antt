@@ -1,5 +1,5 @@
 -- The writer: descriptor words to bytes.
-use Prim.Native.Nat.{ℕ, _+_, _-_, _*_, _/_, _%_}
+use Prim.Native.Nat.{ℕ, _+_, _-_, _/_, _%_}
 use mathlib.Core.Bool.{Bool, true, not, cond, _&&_}
 use mathlib.Core.List.{List, [], _∷_, _++_}
 use lib.Dec.{eqb, leb}
@@ -8,7 +8,7 @@ use Rattle.descriptor.specs.Word.{CONFIGURATION, ALTERNATE, ENDPOINT, kind, con
 use Rattle.descriptor_list.specs.Valid.{validList}
 use Rattle.descriptor_raw.specs.declared.RawAnswer.the-variants.{TooShort, DescriptorList, Malformed}
 use Rattle.descriptor_raw.specs.Answer.{Left, accepts, unless}
-use Rattle.descriptor_raw.specs.Descriptor.{CONFIGURATION-TYPE, INTERFACE-TYPE, ENDPOINT-TYPE, LENGTH, TYPE, TOTAL-LENGTH, NUM-INTERFACES, CONFIGURATION-VALUE, CONFIGURATION-ATTRIBUTES, INTERFACE-NUMBER, ALTERNATE-SETTING, NUM-ENDPOINTS, ENDPOINT-ADDRESS, ENDPOINT-ATTRIBUTES, MAX-PACKET-SIZE, INTERVAL, sizeOf}
+use Rattle.descriptor_raw.specs.Descriptor.{CONFIGURATION-TYPE, INTERFACE-TYPE, ENDPOINT-TYPE, LENGTH, TYPE, TOTAL-LENGTH, NUM-INTERFACES, CONFIGURATION-VALUE, CONFIGURATION-ATTRIBUTES, INTERFACE-NUMBER, ALTERNATE-SETTING, NUM-ENDPOINTS, ENDPOINT-ADDRESS, ENDPOINT-ATTRIBUTES, MAX-PACKET-SIZE, INTERVAL, packetField, sizeOf}
 use Rattle.descriptor_raw.specs.Claims.{bytesAfter, interfacesAfter, endpointsAfter}
 
 -- A descriptor of a type, with every other byte 0.
@@ -43,10 +43,10 @@ endpointBytes address type packet interval =
     (withTwoBytes MAX-PACKET-SIZE packet
     (withByte ENDPOINT-ATTRIBUTES type (withByte ENDPOINT-ADDRESS address (blank ENDPOINT-TYPE))))
 
--- The packet size field: the size, and above it the packets per microframe less one.
-unfoldable pub packetField : ℕ → ℕ
-packetField w =
-    (endpointDescriptor w) .«max_packet_size» + 2048 * ((endpointDescriptor w) .«packets_per_microframe» - 1)
+-- The packet size field of a word.
+unfoldable pub wordPackets : ℕ → ℕ
+wordPackets w =
+    packetField ((endpointDescriptor w) .«max_packet_size») ((endpointDescriptor w) .«packets_per_microframe» - 1)
 
 -- The descriptor of a word, before the descriptors of the words after it.
 unfoldable pub descriptorOf : ℕ → List (List ℕ) → List ℕ
@@ -55,7 +55,7 @@ descriptorOf w after =
     (configurationDescriptor (sizeOf CONFIGURATION-TYPE + bytesAfter after) (interfacesAfter after) (configurationValue w))
     (cond (eqb (kind w) ALTERNATE)
     (interfaceDescriptor (interfaceNumber w) (alternateSetting w) (endpointsAfter after))
-    (endpointBytes ((endpointDescriptor w) .address) (typeNumber w) (packetField w) ((endpointDescriptor w) .interval)))
+    (endpointBytes ((endpointDescriptor w) .address) (typeNumber w) (wordPackets w) ((endpointDescriptor w) .interval)))
 
 unfoldable pub allDescriptors : List ℕ → List (List ℕ)
 allDescriptors [] = []

@@ -1,15 +1,13 @@
 -- The exits of the reader.
 use Prim.Native.Nat.{ℕ, _≤_, _<_}
-use mathlib.Core.Path.{_≡_, refl, sym}
-use mathlib.Core.Bool.{Bool, true, false, cond, _&&_, and-false}
+use mathlib.Core.Path.{_≡_}
+use mathlib.Core.Bool.{true, false, and-false}
 use mathlib.Core.List.{List}
 use borrow.Author.Tests.{le-leb, lt-leb}
-use lib.Dec.{leb}
 use lib.ListN.{length, take}
-use lib.Seq.{sets}
 use Rattle.descriptor_list.specs.Valid.{validList}
-use Rattle.descriptor_raw.specs.declared.RawAnswer.the-variants.{Accepted, TooShort, DescriptorList, Malformed}
-use Rattle.descriptor_raw.specs.Answer.{leaves}
+use Rattle.descriptor_raw.specs.declared.RawAnswer.the-variants.{TooShort, DescriptorList, Malformed}
+use Rattle.descriptor_raw.specs.Answer.{leaves, accepts, unless}
 use Rattle.descriptor_raw.specs.Read.{descriptors, allWhole, allBorneOut, wellFormed, readWords, readDescriptors}
 use Rattle.descriptor_reader.specs.Walk.{Gathered}
 
@@ -32,12 +30,9 @@ module _ (bytes lent : List ℕ) where
       unfolding readDescriptors wellFormed validList
       too-many m = rw (le-leb 256 (length lent) room, w, b, lt-leb (length (readWords bytes)) 256 (g .many m))
 
-      module _ (few : count ≤ 256) where
-        pub not-valid : validList (take count list) ≡ false → leaves DescriptorList lent ≡ readDescriptors bytes lent
-        unfolding readDescriptors wellFormed
-        not-valid v = rw (le-leb 256 (length lent) room, w, b, ← g .few few, v)
-
-        pub all-read : validList (take count list) ≡ true → count ≡ length (take count list) →
-            leaves (Accepted count) (sets lent 0 (take count list)) ≡ readDescriptors bytes lent
-        unfolding readDescriptors wellFormed
-        all-read v n = rw (le-leb 256 (length lent) room, w, b, ← g .few few, v, ← n)
+      -- what is gathered is judged, and taken
+      pub taken :
+          (few : count ≤ 256) →
+          unless (validList (take count list)) DescriptorList lent (accepts (take count list) lent) ≡ readDescriptors bytes lent
+      unfolding readDescriptors wellFormed
+      taken few = rw (le-leb 256 (length lent) room, w, b, ← g .few few)

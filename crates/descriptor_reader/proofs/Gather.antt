@@ -1,12 +1,12 @@
 -- One turn of the walk that gathers words.
 use Prim.Native.Nat.{ℕ, suc, _+_, _≤_, _<_}
-use mathlib.Core.Path.{_≡_, refl, sym, ap, _∙_}
-use mathlib.Core.List.{List, [], _∷_, _++_, append-assoc, append-nil}
+use mathlib.Core.Path.{_≡_, sym, ap, _∙_}
+use mathlib.Core.List.{List, _∷_, _++_, append-assoc, append-nil}
 use native.Mathlib.Numerals.{add-one}
 use native.Mathlib.Omega.{arith}
-use lib.ListN.{length, getD, take, drop, set, length-append, length-set}
+use lib.ListN.{length, getD, take, set, length-append, length-set}
 use lib.Seq.{take-suc-set, length-take-le}
-use Rattle.descriptor_raw.specs.Read.{descriptors, allWhole, wordsOf, allWords, readWords}
+use Rattle.descriptor_raw.specs.Read.{wordsOf, allWords, readWords}
 use Rattle.descriptor_reader.specs.declared.words.Made.{Made}
 use Rattle.descriptor_reader.specs.declared.words.Made.the-variants.{Word, Nothing}
 use Rattle.descriptor_reader.specs.Walk.{descriptorsFrom, descriptorAt, WholeFrom, madeWords, Gathered}

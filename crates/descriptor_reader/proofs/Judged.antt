@@ -1,8 +1,8 @@
 -- What the descriptor at an index is judged by and yields, told by the bytes there.
-use Prim.Native.Nat.{ℕ, suc, _+_, _-_, _*_, _/_, _%_, _≤_, _<_}
-use mathlib.Core.Path.{_≡_, refl, sym, ap, _∙_}
+use Prim.Native.Nat.{ℕ, _+_, _-_, _*_, _/_, _%_, _≤_, _<_}
+use mathlib.Core.Path.{_≡_, refl, _∙_}
 use mathlib.Core.Logic.{_≢_}
-use mathlib.Core.Bool.{Bool, true, false, cond, not, _&&_}
+use mathlib.Core.Bool.{Bool, true, false, not, _&&_}
 use mathlib.Core.List.{List, [], _∷_}
 use native.Mathlib.Omega.{arith}
 use borrow.Author.Tests.{eq-eqb, ne-eqb}
@@ -13,7 +13,7 @@ use Rattle.descriptor_raw.specs.Claims.{bytesAfter, interfacesAfter, endpointsA
 use Rattle.descriptor_raw.specs.Words.{configurationWord, alternateWord, endpointWord}
 use Rattle.descriptor_raw.specs.Read.{borneOut, allBorneOut, wordsOf}
 use Rattle.descriptor_reader.specs.Walk.{descriptorsFrom, descriptorAt, WholeFrom}
-use Rattle.descriptor_reader.proofs.Turn.{piece, cut-end, Whole, whole-at}
+use Rattle.descriptor_reader.proofs.Turn.{cut-end, Whole, whole-at}
 
 -- Two bytes of bytes.
 abbrev pub two : List ℕ → ℕ → ℕ

@@ -1,16 +1,14 @@
 -- What a descriptor adds to the total length and the counts of those before it.
 use Prim.Native.Nat.{ℕ, suc, _+_, _≤_, _<_}
-use mathlib.Core.Path.{_≡_, refl, sym, ap, _∙_}
+use mathlib.Core.Path.{_≡_, refl}
 use mathlib.Core.Logic.{_⊎_, inl, inr, _≢_}
-use mathlib.Core.Bool.{Bool, true, false, cond, not, _&&_, _||_}
+use mathlib.Core.Bool.{not}
 use mathlib.Core.List.{List, [], _∷_}
 use native.Mathlib.Omega.{arith}
-use borrow.Author.Tests.{eqb-true, eq-eqb, ne-eqb}
-use lib.Dec.{eqb}
-use lib.ListN.{length, getD, drop}
-use Rattle.descriptor_raw.specs.Descriptor.{CONFIGURATION-TYPE, INTERFACE-TYPE, ENDPOINT-TYPE, INTERFACE-NUMBER, TYPE, sizeOf, byteAt, isConfiguration}
-use Rattle.descriptor_raw.specs.Claims.{upTo, bytesOf, interfaceNumbers, endpoints, bytesAfter, interfacesAfter, endpointsAfter}
-use Rattle.descriptor_raw.specs.Read.{allWhole}
+use borrow.Author.Tests.{ne-eqb}
+use lib.ListN.{length, getD}
+use Rattle.descriptor_raw.specs.Descriptor.{CONFIGURATION-TYPE, INTERFACE-TYPE, ENDPOINT-TYPE, INTERFACE-NUMBER, TYPE, sizeOf, byteAt}
+use Rattle.descriptor_raw.specs.Claims.{upTo, bytesOf, interfaceNumbers, endpoints, bytesAfter, endpointsAfter}
 use Rattle.descriptor_raw.proofs.Made.{numbersAfter}
 use Rattle.descriptor_reader.specs.Walk.{descriptorsFrom, WholeFrom}
 use Rattle.descriptor_reader.proofs.Turn.{piece, cut-end, Whole, whole-at}

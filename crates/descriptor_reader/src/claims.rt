@@ -1,15 +1,7 @@
 // What descriptors say of those after them: total lengths and counts.
 use super::cut::byte_at;
 use super::cut::two_bytes_at;
-use descriptor_raw::CONFIGURATION;
-use descriptor_raw::ENDPOINT;
-use descriptor_raw::INTERFACE;
-use descriptor_raw::INTERFACE_NUMBER;
-use descriptor_raw::MAX_PACKET_SIZE;
-use descriptor_raw::NUM_ENDPOINTS;
-use descriptor_raw::NUM_INTERFACES;
-use descriptor_raw::TOTAL_LENGTH;
-use descriptor_raw::TYPE;
+use descriptor_raw::place;
 ghost use Prim.Native.Nat.{_+_, _<_};
 ghost use mathlib.Core.Path.{_≡_};
 ghost use mathlib.Core.Bool.{true};
@@ -25,7 +17,7 @@ fn next_configuration(bytes: &[u8], from: usize) -> usize
 {
     let mut i = from;
     while i < bytes.len() {
-        if bytes[i + TYPE] == CONFIGURATION {
+        if bytes[i + place::TYPE] == descriptor_raw::CONFIGURATION {
             return i;
         }
         i += byte_at(bytes, i);
@@ -43,13 +35,13 @@ fn count_interfaces(bytes: &[u8], from: usize) -> usize
     let mut i = from;
     while i < bytes.len() {
         let at = i;
-        let kind = bytes[at + TYPE];
-        if kind == CONFIGURATION {
+        let kind = bytes[at + place::TYPE];
+        if kind == descriptor_raw::CONFIGURATION {
             return count;
         }
         i += byte_at(bytes, at);
-        if kind == INTERFACE {
-            let number = byte_at(bytes, at + INTERFACE_NUMBER);
+        if kind == descriptor_raw::INTERFACE {
+            let number = byte_at(bytes, at + place::INTERFACE_NUMBER);
             if !marks[number] {
                 marks[number] = true;
                 count += 1;
@@ -67,12 +59,12 @@ fn count_endpoints(bytes: &[u8], from: usize) -> usize
     let mut count = 0usize;
     let mut i = from;
     while i < bytes.len() {
-        let kind = bytes[i + TYPE];
-        if kind == CONFIGURATION || kind == INTERFACE {
+        let kind = bytes[i + place::TYPE];
+        if kind == descriptor_raw::CONFIGURATION || kind == descriptor_raw::INTERFACE {
             return count;
         }
         i += byte_at(bytes, i);
-        if kind == ENDPOINT {
+        if kind == descriptor_raw::ENDPOINT {
             count += 1;
         }
     }
@@ -85,15 +77,19 @@ fn borne_out(bytes: &[u8], i: usize) -> bool
     ensures { λ r. ⌜ r ≡ borneOut (descriptorAt (now (bytes .entry)) i) (descriptorsFrom (now (bytes .entry)) (i + getD (now (bytes .entry)) i 0)) ⌝ }
 {
     let next = i + byte_at(bytes, i);
-    match bytes[i + TYPE] {
-        CONFIGURATION => {
-            if two_bytes_at(bytes, i + TOTAL_LENGTH) != next_configuration(bytes, next) - i {
+    match bytes[i + place::TYPE] {
+        descriptor_raw::CONFIGURATION => {
+            if two_bytes_at(bytes, i + place::TOTAL_LENGTH) != next_configuration(bytes, next) - i {
                 return false;
             }
-            byte_at(bytes, i + NUM_INTERFACES) == count_interfaces(bytes, next)
+            byte_at(bytes, i + place::NUM_INTERFACES) == count_interfaces(bytes, next)
         }
-        INTERFACE => byte_at(bytes, i + NUM_ENDPOINTS) == count_endpoints(bytes, next),
-        ENDPOINT => two_bytes_at(bytes, i + MAX_PACKET_SIZE) / 2048 % 4 != 3,
+        descriptor_raw::INTERFACE => byte_at(bytes, i + place::NUM_ENDPOINTS)
+            == count_endpoints(bytes, next),
+        descriptor_raw::ENDPOINT => two_bytes_at(bytes, i + place::MAX_PACKET_SIZE)
+            / place::PACKETS_LSB
+            % 4
+            != 3,
         _ => true,
     }
 }

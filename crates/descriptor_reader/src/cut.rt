@@ -1,12 +1,6 @@
 // Bytes cut into descriptors by their lengths.
-use descriptor_raw::CONFIGURATION;
-use descriptor_raw::CONFIGURATION_SIZE;
-use descriptor_raw::ENDPOINT;
-use descriptor_raw::ENDPOINT_SIZE;
-use descriptor_raw::INTERFACE;
-use descriptor_raw::INTERFACE_SIZE;
-use descriptor_raw::LEAST_SIZE;
-use descriptor_raw::TYPE;
+use descriptor_raw::place;
+use descriptor_raw::size;
 ghost use Prim.Native.Nat.{_+_, _*_, _<_};
 ghost use mathlib.Core.Path.{_≡_};
 ghost use lib.ListN.{length, getD};
@@ -32,10 +26,10 @@ fn size_of(kind: u8) -> usize
     ensures { λ r. ⌜ r ≡ sizeOf kind ⌝ }
 {
     match kind {
-        CONFIGURATION => CONFIGURATION_SIZE,
-        INTERFACE => INTERFACE_SIZE,
-        ENDPOINT => ENDPOINT_SIZE,
-        _ => LEAST_SIZE,
+        descriptor_raw::CONFIGURATION => size::CONFIGURATION,
+        descriptor_raw::INTERFACE => size::INTERFACE,
+        descriptor_raw::ENDPOINT => size::ENDPOINT,
+        _ => size::LEAST,
     }
 }
 
@@ -45,14 +39,15 @@ pub fn lengths_fit(bytes: &[u8]) -> bool
 {
     let mut i = 0;
     while i < bytes.len() {
+        let rest = bytes.len() - i;
         let n = byte_at(bytes, i);
-        if n < LEAST_SIZE {
+        if n < size::LEAST {
             return false;
         }
-        if bytes.len() - i < n {
+        if rest < n {
             return false;
         }
-        if n < size_of(bytes[i + TYPE]) {
+        if n < size_of(bytes[i + place::TYPE]) {
             return false;
         }
         i += n;

@@ -3,6 +3,7 @@ mod claims;
 mod cut;
 mod words;
 
+use descriptor_raw::READ_WORDS;
 use descriptor_raw::RawAnswer;
 ghost use mathlib.Core.Path.{_≡_};
 ghost use Rattle.descriptor_raw.specs.Answer.{leaves};
@@ -12,7 +13,7 @@ ghost use Rattle.descriptor_raw.specs.Read.{readDescriptors};
 pub fn read_descriptors(bytes: &[u8], words: &mut [u32]) -> RawAnswer
     ensures { λ r. ⌜ leaves r (now (words .exit)) ≡ readDescriptors (now (bytes .entry)) (now (words .entry)) ⌝ }
 {
-    if words.len() < 256 {
+    if words.len() < READ_WORDS {
         return RawAnswer::TooShort;
     }
     if !cut::lengths_fit(bytes) {
@@ -21,14 +22,10 @@ pub fn read_descriptors(bytes: &[u8], words: &mut [u32]) -> RawAnswer
     if !claims::all_borne_out(bytes) {
         return RawAnswer::Malformed;
     }
-    let mut list = [0u32; 256];
+    let mut list = [0u32; READ_WORDS];
     let count = words::gather(bytes, &mut list);
-    if 256 < count {
+    if READ_WORDS < count {
         return RawAnswer::DescriptorList;
     }
-    if !descriptor_list::valid_list(&list[..count]) {
-        return RawAnswer::DescriptorList;
-    }
-    words::copy(&list[..count], words);
-    RawAnswer::Accepted(count)
+    words::take_list(&list[..count], words)
 }

@@ -1,19 +1,18 @@
 -- One turn of the walk that finds what a configuration says.
-use Prim.Native.Nat.{ℕ, suc, _+_, _-_, _*_, _≤_, _<_}
-use mathlib.Core.Path.{_≡_, refl, sym, _∙_}
+use Prim.Native.Nat.{ℕ, _+_, _-_, _*_, _≤_, _<_}
+use mathlib.Core.Path.{_≡_, sym, _∙_}
 use mathlib.Core.Logic.{_≢_}
 use mathlib.Core.Bool.{Bool, true, false}
 use mathlib.Core.List.{List, [], _∷_}
 use native.Mathlib.Nat.{zero-add}
 use native.Mathlib.Omega.{arith}
-use lib.ListN.{length, getD, set, drop, replicate, length-set, length-replicate, drop-of-length-le}
+use lib.ListN.{length, getD, set, replicate, length-set, length-replicate, drop-of-length-le}
 use Rattle.descriptor.specs.Word.{CONFIGURATION, ALTERNATE, kind, interfaceNumber}
 use Rattle.descriptor_list.proofs.Next.{drop-next}
 use Rattle.descriptor_raw.specs.Claims.{upTo, bytesOf, interfaceNumbers, bytesAfter, interfacesAfter}
 use Rattle.descriptor_raw.specs.Write.{allDescriptors}
 use Rattle.descriptor_raw.proofs.Made.{numbersAfter, configuration-bytes, configuration-numbers, interface-bytes, interface-numbers, endpoint-bytes, endpoint-numbers}
 use Rattle.descriptor_raw.proofs.Marks.{unmarked, unmarked-all, none-left, met-other, met-again, met-new}
-use Rattle.descriptor_writer.specs.declared.claims.Claims.{Claims}
 use Rattle.descriptor_writer.specs.Written.{descriptorsFrom, descriptorAt, ClaimedAs}
 
 -- the descriptors from an index on

@@ -1,25 +1,18 @@
 -- The exits of the writer.
 use Prim.Native.Nat.{ℕ, _≤_, _<_}
-use mathlib.Core.Path.{_≡_, sym}
-use mathlib.Core.Bool.{true, false, _&&_}
+use mathlib.Core.Path.{_≡_}
+use mathlib.Core.Bool.{true, false}
 use mathlib.Core.List.{List}
 use borrow.Author.Tests.{le-leb, lt-leb}
-use lib.Dec.{leb}
 use lib.ListN.{length}
 use lib.Seq.{sets}
-use Rattle.laws.proofs.Tests.{and-left, and-right}
-use Rattle.descriptor_list.specs.Valid.{beginsWithConfiguration, wordsOk, validList}
+use Rattle.descriptor_list.specs.Valid.{validList}
 use Rattle.descriptor_list.proofs.Laws.{valid-length}
 use Rattle.descriptor_raw.specs.declared.RawAnswer.the-variants.{Accepted, TooShort, DescriptorList, Malformed}
 use Rattle.descriptor_raw.specs.Answer.{leaves}
 use Rattle.descriptor_raw.specs.Write.{packetsGiven, writtenBytes, writeDescriptors}
+use Rattle.descriptor_raw.proofs.Valid.{valid-words}
 use Rattle.descriptor_writer.specs.Written.{Listed}
-
--- a valid list has valid words
-valid-words : (list : List ℕ) → validList list ≡ true → wordsOk list ≡ true
-unfolding validList
-valid-words list v =
-    and-left (wordsOk list) _ (and-right (beginsWithConfiguration list) _ (and-right (leb (length list) 256) _ v))
 
 module _ (list lent : List ℕ) where
   pub too-short : length lent < 2304 → leaves TooShort lent ≡ writeDescriptors list lent

@@ -1,18 +1,17 @@
 -- One turn of the walk that looks for packets 0.
 use Prim.Native.Nat.{ℕ, zero, suc, _+_, _≤_, _<_}
-use mathlib.Core.Path.{_≡_, refl, sym, _∙_}
+use mathlib.Core.Path.{_≡_}
 use mathlib.Core.Logic.{_≢_}
-use mathlib.Core.Bool.{Bool, true, false, not, _&&_}
+use mathlib.Core.Bool.{true, false}
 use mathlib.Core.List.{List, [], _∷_}
 use native.Mathlib.Omega.{arith}
-use borrow.Author.Tests.{eqb-false, eq-eqb, ne-eqb, not-true}
-use lib.Dec.{eqb}
+use borrow.Author.Tests.{ne-eqb}
 use lib.ListN.{length, getD, drop, drop-of-length-le}
-use Rattle.laws.proofs.Tests.{and-left, and-right}
 use Rattle.descriptor.specs.Word.{ENDPOINT, kind, endpointDescriptor}
 use Rattle.descriptor.specs.declared.EndpointDescriptor.{EndpointDescriptor}
 use Rattle.descriptor_list.proofs.Next.{drop-next}
 use Rattle.descriptor_raw.specs.Write.{packetsGiven}
+use Rattle.descriptor_raw.proofs.Valid.{packets-first, packets-rest}
 
 module _ (list : List ℕ) (i : ℕ) where
   pub given-end : length list ≤ i → packetsGiven (drop i list) ≡ true
@@ -36,11 +35,6 @@ module _ (list : List ℕ) (i : ℕ) where
 -- an endpoint word of a list that gives packets has some
 pub packets-at : (list : List ℕ) (i : ℕ) → i < length list → packetsGiven list ≡ true → kind (getD list i 0) ≡ ENDPOINT →
     1 ≤ (endpointDescriptor (getD list i 0)) .«packets_per_microframe»
-unfolding packetsGiven
 packets-at [] i h p k = absurd (omega arith)
-packets-at (w ∷ l) zero h p k =
-    let q : not (eqb ((endpointDescriptor w) .«packets_per_microframe») 0) ≡ true = rw k at (and-left (not (eqb (kind w) ENDPOINT && eqb ((endpointDescriptor w) .«packets_per_microframe») 0)) (packetsGiven l) p) in
-    let z : (endpointDescriptor w) .«packets_per_microframe» ≢ 0 = eqb-false _ 0 (not-true _ q) in
-    omega arith
-packets-at (w ∷ l) (suc i) h p k =
-    packets-at l i (omega arith) (and-right (not (eqb (kind w) ENDPOINT && eqb ((endpointDescriptor w) .«packets_per_microframe») 0)) _ p) k
+packets-at (w ∷ l) zero h p k = packets-first w l p k
+packets-at (w ∷ l) (suc i) h p k = packets-at l i (omega arith) (packets-rest w l p) k

@@ -2,15 +2,15 @@
 use Prim.Native.Nat.{ℕ, zero, suc, _+_, _-_, _*_, _/_, _%_, _≤_, _<_}
 use mathlib.Core.Path.{_≡_, refl, sym, ap, _∙_}
 use mathlib.Core.Logic.{_≢_, inl, inr}
-use mathlib.Core.Bool.{Bool, true, false, cond, _&&_}
+use mathlib.Core.Bool.{true}
 use mathlib.Core.List.{List, [], _∷_, _++_}
-use native.Mathlib.Nat.{add-assoc, add-zero, zero-add}
+use native.Mathlib.Nat.{add-zero, zero-add}
 use native.Mathlib.Omega.{arith}
-use borrow.Author.Tests.{eqb-true, ne-eqb, eqb-false}
+use borrow.Author.Tests.{eqb-true, eqb-false}
 use lib.Dec.{eqb}
 use lib.ListN.{length, getD, drop, set, length-append, length-drop}
 use lib.Seq.{sets, length-sets}
-use Rattle.laws.proofs.Tests.{and-left, and-right, not-both}
+use Rattle.laws.proofs.Tests.{and-left, and-right}
 use Rattle.laws.proofs.Cases.{Decided, decided}
 use Rattle.descriptor.specs.Word.{CONFIGURATION, ALTERNATE, ENDPOINT, kind, configurationValue, interfaceNumber, alternateSetting, typeNumber, endpointDescriptor, wordOk}
 use Rattle.descriptor.specs.declared.EndpointDescriptor.{EndpointDescriptor}
@@ -18,23 +18,15 @@ use Rattle.descriptor.proofs.Laws.{fields-fit}
 use Rattle.descriptor_list.specs.Lookup.{endpointRun}
 use Rattle.descriptor_list.specs.Valid.{wordsOk}
 use Rattle.descriptor_list.proofs.Laws.{run-inside}
-use Rattle.descriptor_raw.specs.Descriptor.{CONFIGURATION-TYPE, sizeOf}
+use Rattle.descriptor_raw.specs.Descriptor.{sizeOf}
 use Rattle.descriptor_raw.specs.Claims.{upTo, endpoints, endpointsAfter}
-use Rattle.descriptor_raw.specs.Write.{configurationDescriptor, interfaceDescriptor, endpointBytes, packetField, allDescriptors, joined, writtenBytes}
+use Rattle.descriptor_raw.specs.Write.{configurationDescriptor, interfaceDescriptor, endpointBytes, wordPackets, allDescriptors, joined, writtenBytes}
+use Rattle.descriptor_raw.proofs.Valid.{endpoint-kind}
 use Rattle.descriptor_raw.proofs.Made.{made-configuration, made-interface, made-endpoint, configuration-endpoints, interface-endpoints, endpoint-endpoints, made-length}
 use Rattle.descriptor_writer.specs.declared.claims.Claims.{Claims}
 use Rattle.descriptor_writer.specs.Written.{descriptorsFrom, descriptorAt, ClaimedAs, Listed, Room}
 use Rattle.descriptor_writer.proofs.Claiming.{from-next, from-end}
 use Rattle.descriptor_writer.proofs.Packets.{packets-at}
-
--- a word of a valid list that is neither a configuration's nor an alternate's is an endpoint's
-pub endpoint-kind : (w : ℕ) → wordOk w ≡ true → kind w ≢ CONFIGURATION → kind w ≢ ALTERNATE → kind w ≡ ENDPOINT
-unfolding wordOk
-endpoint-kind w ok c a = go (decided (eqb (kind w) ENDPOINT))
-  where
-    go : Decided (eqb (kind w) ENDPOINT) → kind w ≡ ENDPOINT
-    go (inl p) = eqb-true (kind w) ENDPOINT p
-    go (inr p) = not-both false (rw (ne-eqb _ _ c, ne-eqb _ _ a, p) at ok) refl
 
 -- The endpoint words of a list's front are the endpoints of its descriptors.
 pub endpoints-run : (l : List ℕ) → wordsOk l ≡ true → endpointsAfter (allDescriptors l) ≡ endpointRun l
@@ -106,7 +98,7 @@ module _ (list : List ℕ) (i room at : ℕ) (r : Room list i room at) (k : ℕ)
       e ≡ endpointDescriptor (getD list i 0) →
       d ≡ endpointBytes (e .address) (getD list i 0 / 0x80_0000 % 4) (e .«max_packet_size» + 2048 * (e .«packets_per_microframe» - 1)) (e .interval) →
       Put list i bytes at out 7
-  unfolding endpointBytes packetField typeNumber sizeOf
+  unfolding endpointBytes wordPackets typeNumber sizeOf
   put-endpoint c a e m s =
       let t : descriptorAt list i ≡ d = made-endpoint _ _ (λ x. c (q ∙ x)) (λ x. a (q ∙ x)) ∙ rw (← m) (sym s) in
       (rw (t, s), o ∙ rw t)

@@ -1,6 +1,5 @@
 // What a configuration says of the words after it.
-use descriptor_raw::ENDPOINT_SIZE;
-use descriptor_raw::INTERFACE_SIZE;
+use descriptor_raw::size;
 ghost use Prim.Native.Nat.{_≤_};
 ghost use lib.ListN.{length};
 ghost use Rattle.descriptor_writer.specs.Written.{ClaimedAs};
@@ -27,7 +26,7 @@ pub fn claims_after(list: &[u32], from: usize) -> Claims
                 return Claims { bytes, interfaces };
             }
             descriptor::ALTERNATE => {
-                bytes += INTERFACE_SIZE;
+                bytes += size::INTERFACE;
                 let number = descriptor::interface_number(w) as usize;
                 if !marks[number] {
                     marks[number] = true;
@@ -35,7 +34,7 @@ pub fn claims_after(list: &[u32], from: usize) -> Claims
                 }
             }
             _ => {
-                bytes += ENDPOINT_SIZE;
+                bytes += size::ENDPOINT;
             }
         }
     }

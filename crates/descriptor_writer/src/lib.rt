@@ -4,6 +4,7 @@ mod made;
 mod put;
 
 use descriptor_raw::RawAnswer;
+use descriptor_raw::WRITE_BYTES;
 ghost use mathlib.Core.Path.{_≡_};
 ghost use Rattle.descriptor_raw.specs.Answer.{leaves};
 ghost use Rattle.descriptor_raw.specs.Write.{packetsGiven, writeDescriptors};
@@ -30,7 +31,7 @@ fn packets_given(list: &[u32]) -> bool
 pub fn write_descriptors(list: &[u32], bytes: &mut [u8]) -> RawAnswer
     ensures { λ r. ⌜ leaves r (now (bytes .exit)) ≡ writeDescriptors (now (list .entry)) (now (bytes .entry)) ⌝ }
 {
-    if bytes.len() < 2304 {
+    if bytes.len() < WRITE_BYTES {
         return RawAnswer::TooShort;
     }
     if !descriptor_list::valid_list(list) {

@@ -3,16 +3,17 @@ use super::claims::claims_after;
 use super::made::configuration_descriptor;
 use super::made::endpoint_bytes;
 use super::made::interface_descriptor;
-use descriptor::TYPE_LSB;
-use descriptor_raw::CONFIGURATION_SIZE;
-use descriptor_raw::ENDPOINT_SIZE;
-use descriptor_raw::INTERFACE_SIZE;
+use descriptor_raw::place;
+use descriptor_raw::size;
 ghost use Prim.Native.Nat.{_+_, _≤_};
 ghost use mathlib.Core.Path.{_≡_};
 ghost use lib.ListN.{length};
 ghost use lib.Seq.{sets};
 ghost use Rattle.descriptor_raw.specs.Write.{writtenBytes};
 ghost use Rattle.descriptor_writer.specs.Written.{descriptorAt, Listed, Room};
+
+// The packets per microframe in the packet size field.
+const PACKETS_LSB: u16 = place::PACKETS_LSB as u16;
 
 // Copies bytes to a place among others.
 fn copy(d: &[u8], bytes: &mut [u8], at: usize)
@@ -35,30 +36,27 @@ fn put_descriptor(list: &[u32], i: usize, bytes: &mut [u8], at: usize) -> usize
     match descriptor::word_kind(w) {
         descriptor::CONFIGURATION => {
             let c = claims_after(list, i + 1);
-            let d = configuration_descriptor(
-                CONFIGURATION_SIZE + c.bytes,
-                c.interfaces,
-                descriptor::configuration_value(w),
-            );
+            let value = descriptor::configuration_value(w);
+            let d = configuration_descriptor(size::CONFIGURATION + c.bytes, c.interfaces, value);
             copy(&d, bytes, at);
-            CONFIGURATION_SIZE
+            size::CONFIGURATION
         }
         descriptor::ALTERNATE => {
             let endpoints = descriptor_list::endpoint_run(list, i + 1);
-            let d = interface_descriptor(
-                descriptor::interface_number(w),
-                descriptor::alternate_setting(w),
-                endpoints,
-            );
+            let interface = descriptor::interface_number(w);
+            let alternate = descriptor::alternate_setting(w);
+            let d = interface_descriptor(interface, alternate, endpoints);
             copy(&d, bytes, at);
-            INTERFACE_SIZE
+            size::INTERFACE
         }
         _ => {
             let e = descriptor::endpoint_descriptor(w);
-            let packet = e.max_packet_size + 2048 * (e.packets_per_microframe as u16 - 1);
-            let d = endpoint_bytes(e.address, (w / TYPE_LSB % 4) as u8, packet, e.interval);
+            let kind = (w / descriptor::TYPE_LSB % 4) as u8;
+            let packets = e.packets_per_microframe as u16;
+            let packet = e.max_packet_size + PACKETS_LSB * (packets - 1);
+            let d = endpoint_bytes(e.address, kind, packet, e.interval);
             copy(&d, bytes, at);
-            ENDPOINT_SIZE
+            size::ENDPOINT
         }
     }
 }

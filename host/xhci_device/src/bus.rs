@@ -26,6 +26,12 @@ pub enum Read<'a> {
 /// A controller with the device on it.
 pub trait Bus {
     /// Carries out a command and says how it went.
+    ///
+    /// - Before Address and Configure the rings of [`Due::added`] are cleared and begun anew.
+    /// - Resume sets the dequeue pointer to where the ring is next written, and rings the doorbell. An endpoint that the
+    ///   output context calls running was added by the Configure before it: there the doorbell is all.
+    /// - A control endpoint that a request has halted is reset before the outcome is told: the next command may need it.
+    /// - Completions that come meanwhile go to the rings that [`Due::routes`] name now; the next step may move them.
     fn send(&mut self, due: &Due<'_>) -> Outcome<'_>;
 }
 

@@ -3,7 +3,7 @@ use native.Mathlib.Omega.{arith}
 use borrow.Author.Tests.{not-true, not-false}
 use lib.ListN.{length-take}
 use lib.Seq.{length-take-le}
-use Rattle.descriptor_reader.proofs.Exits.{too-short, not-whole, not-borne-out, too-many, not-valid, all-read}
+use Rattle.descriptor_reader.proofs.Exits.{too-short, not-whole, not-borne-out, too-many, taken}
 use borrow.Author.Needs.{needs}
 use Rattle.descriptor_reader.proofs.read_descriptors.Statement.{statement}
 use Rattle.descriptor_reader.proofs.read_descriptors.Tie as tie
@@ -18,7 +18,7 @@ returns-2 : tie.Need-returns-2
 returns-2 c = not-whole _ _ (c .before .before .if1 .left) (sym (c .before .lengths-fit .ensures) ∙ not-true (c .before .lengths-fit .result) (c .if2 .taken))
 
 all-borne-out-requires : tie.Need-all-borne-out-requires
-all-borne-out-requires c κs = sym (c .before .lengths-fit .ensures) ∙ not-false (c .before .lengths-fit .result) (c .if2 .left)
+all-borne-out-requires c κs = (sym (c .before .lengths-fit .ensures) ∙ not-false (c .before .lengths-fit .result) (c .if2 .left))
 
 returns-3 : tie.Need-returns-3
 returns-3 c = not-borne-out _ _ (c .before .before .before .before .if1 .left) (sym (c .before .all-borne-out .ensures) ∙ not-true (c .before .all-borne-out .result) (c .if3 .taken))
@@ -27,7 +27,7 @@ slice-aggregate-gather : tie.Need-slice-aggregate-gather
 slice-aggregate-gather c = search needs
 
 gather-requires : tie.Need-gather-requires
-gather-requires c κs = (search needs, sym (c .before .before .before .before .lengths-fit .ensures) ∙ not-false (c .before .before .before .before .lengths-fit .result) (c .before .before .before .if2 .left))
+gather-requires c κs = (search needs, (sym (c .before .before .before .before .lengths-fit .ensures) ∙ not-false (c .before .before .before .before .lengths-fit .result) (c .before .before .before .if2 .left)))
 
 returns-4 : tie.Need-returns-4
 returns-4 c = too-many _ _ (c .before .before .before .before .before .before .before .before .if1 .left) (sym (c .before .before .before .before .before .before .before .lengths-fit .ensures) ∙ not-false (c .before .before .before .before .before .before .before .lengths-fit .result) (c .before .before .before .before .before .before .if2 .left)) (sym (c .before .before .before .before .before .all-borne-out .ensures) ∙ not-false (c .before .before .before .before .before .all-borne-out .result) (c .before .before .before .before .if3 .left)) _ _ (c .before .before .gather .ensures) (c .if4 .taken)
@@ -35,29 +35,17 @@ returns-4 c = too-many _ _ (c .before .before .before .before .before .before .b
 array-share-prefix-list : tie.Need-array-share-prefix-list
 array-share-prefix-list c = search needs
 
-slice-aggregate-valid-list : tie.Need-slice-aggregate-valid-list
-slice-aggregate-valid-list c = sym (length-take-le _ _ (omega (arith, c .before .before .before .gather .kept .1 .0, c .before .if4 .left)))
+slice-aggregate-take-list : tie.Need-slice-aggregate-take-list
+slice-aggregate-take-list c = sym (length-take-le _ _ (omega (arith, c .before .before .before .gather .kept .1 .0, c .before .if4 .left)))
 
-valid-list-requires : tie.Need-valid-list-requires
-valid-list-requires c κs = search needs
-
-returns-5 : tie.Need-returns-5
-returns-5 c = not-valid _ _ (c .before .before .before .before .before .before .before .before .before .before .before .if1 .left) (sym (c .before .before .before .before .before .before .before .before .before .before .lengths-fit .ensures) ∙ not-false (c .before .before .before .before .before .before .before .before .before .before .lengths-fit .result) (c .before .before .before .before .before .before .before .before .before .if2 .left)) (sym (c .before .before .before .before .before .before .before .before .all-borne-out .ensures) ∙ not-false (c .before .before .before .before .before .before .before .before .all-borne-out .result) (c .before .before .before .before .before .before .before .if3 .left)) _ _ (c .before .before .before .before .before .gather .ensures) (c .before .before .before .if4 .left) (sym (c .before .valid-list .ensures) ∙ not-true (c .before .valid-list .result) (c .if5 .taken))
-
-array-share-prefix-list-2 : tie.Need-array-share-prefix-list-2
-array-share-prefix-list-2 c = search needs
-
-slice-aggregate-copy : tie.Need-slice-aggregate-copy
-slice-aggregate-copy c = sym (length-take-le _ _ (omega (arith, c .before .before .before .before .before .before .gather .kept .1 .0, c .before .before .before .before .if4 .left)))
-
-copy-requires : tie.Need-copy-requires
-copy-requires c κs = omega (arith, length-take (c .before .before .before .before .before .before .before .gather .result) (c .before .before .before .before .before .before .before .gather .last .1 .0), c .before .before .before .before .before .if4 .left, c .before .before .before .before .before .before .before .before .before .before .before .before .before .if1 .left)
+take-list-requires : tie.Need-take-list-requires
+take-list-requires c κs = omega (arith, length-take (c .before .before .before .before .gather .result) (c .before .before .before .before .gather .last .1 .0), c .before .before .if4 .left, c .before .before .before .before .before .before .before .before .before .before .if1 .left)
 
 same-length : tie.Need-same-length
 same-length c = search needs
 
-returns-6 : tie.Need-returns-6
-returns-6 c = rw (c .before .before .copy .ensures) (all-read _ _ (c .before .before .before .before .before .before .before .before .before .before .before .before .before .before .before .before .if1 .left) (sym (c .before .before .before .before .before .before .before .before .before .before .before .before .before .before .before .lengths-fit .ensures) ∙ not-false (c .before .before .before .before .before .before .before .before .before .before .before .before .before .before .before .lengths-fit .result) (c .before .before .before .before .before .before .before .before .before .before .before .before .before .before .if2 .left)) (sym (c .before .before .before .before .before .before .before .before .before .before .before .before .before .all-borne-out .ensures) ∙ not-false (c .before .before .before .before .before .before .before .before .before .before .before .before .before .all-borne-out .result) (c .before .before .before .before .before .before .before .before .before .before .before .before .if3 .left)) _ _ (c .before .before .before .before .before .before .before .before .before .before .gather .ensures) (c .before .before .before .before .before .before .before .before .if4 .left) (sym (c .before .before .before .before .before .before .valid-list .ensures) ∙ not-false (c .before .before .before .before .before .before .valid-list .result) (c .before .before .before .before .before .if5 .left)) (sym (length-take-le _ _ (omega (arith, c .before .before .before .before .before .before .before .before .before .before .gather .kept .1 .0, c .before .before .before .before .before .before .before .before .if4 .left)))))
+returns-5 : tie.Need-returns-5
+returns-5 c = c .before .before .take-list .ensures ∙ taken _ _ (c .before .before .before .before .before .before .before .before .before .before .before .before .before .if1 .left) (sym (c .before .before .before .before .before .before .before .before .before .before .before .before .lengths-fit .ensures) ∙ not-false (c .before .before .before .before .before .before .before .before .before .before .before .before .lengths-fit .result) (c .before .before .before .before .before .before .before .before .before .before .before .if2 .left)) (sym (c .before .before .before .before .before .before .before .before .before .before .all-borne-out .ensures) ∙ not-false (c .before .before .before .before .before .before .before .before .before .before .all-borne-out .result) (c .before .before .before .before .before .before .before .before .before .if3 .left)) _ _ (c .before .before .before .before .before .before .before .gather .ensures) (c .before .before .before .before .before .if4 .left)
 
 pub read-descriptors-spec : {M : Type 1} → statement M
 read-descriptors-spec =
@@ -72,11 +60,7 @@ read-descriptors-spec =
     gather-requires
     returns-4
     array-share-prefix-list
-    slice-aggregate-valid-list
-    valid-list-requires
-    returns-5
-    array-share-prefix-list-2
-    slice-aggregate-copy
-    copy-requires
+    slice-aggregate-take-list
+    take-list-requires
     same-length
-    returns-6)
+    returns-5)

@@ -19,14 +19,14 @@ loop-holds : tie.Need-loop-holds Inv-loop μ-loop
 unfolding descriptors
 loop-holds c = (search needs, refl)
 
+sub-rest : tie.Need-sub-rest Inv-loop μ-loop
+sub-rest c = search needs
+
 byte-at-requires : tie.Need-byte-at-requires Inv-loop μ-loop
 byte-at-requires c κs = search needs
 
 returns : tie.Need-returns Inv-loop μ-loop
 returns c = sym (c .before .before .before .loop .inv .1 ∙ no-type-refused _ _ _ (c .before .before .loop-test .taken) (c .before .byte-at .ensures .0) (c .if1 .taken))
-
-sub-if2 : tie.Need-sub-if2 Inv-loop μ-loop
-sub-if2 c = search needs
 
 returns-2 : tie.Need-returns-2 Inv-loop μ-loop
 returns-2 c = sym (c .before .before .before .before .loop .inv .1 ∙ past-end-refused _ _ _ (c .before .before .before .loop-test .taken) (c .before .before .byte-at .ensures .0) (c .if2 .taken))
@@ -63,9 +63,9 @@ lengths-fit-spec =
     Inv-loop
     μ-loop
     loop-holds
+    sub-rest
     byte-at-requires
     returns
-    sub-if2
     returns-2
     add-size-of
     shared-slice-read-size-of

@@ -19,11 +19,11 @@ add-claims-after c = search needs
 claims-after-requires : tie.Need-claims-after-requires
 claims-after-requires c κs = search needs
 
-add-configuration-descriptor : tie.Need-add-configuration-descriptor
-add-configuration-descriptor c = search needs
-
 configuration-value-requires : tie.Need-configuration-value-requires
 configuration-value-requires c κs = search needs
+
+add-configuration-descriptor : tie.Need-add-configuration-descriptor
+add-configuration-descriptor c = search needs
 
 configuration-descriptor-requires : tie.Need-configuration-descriptor-requires
 configuration-descriptor-requires c κs = search needs
@@ -58,8 +58,11 @@ copy-requires-2 c κs = search needs
 endpoint-descriptor-requires : tie.Need-endpoint-descriptor-requires
 endpoint-descriptor-requires c κs = search needs
 
-cast-packet : tie.Need-cast-packet
-cast-packet c = search needs
+cast-kind : tie.Need-cast-kind
+cast-kind c = search needs
+
+cast-packets : tie.Need-cast-packets
+cast-packets c = search needs
 
 sub-packet : tie.Need-sub-packet
 sub-packet c = packets-some _ _ _ _ (c .before .before .before .before .before .before .before .pre) _ (c .before .before .before .word-kind .ensures) (c .before .before .match .rest .0 .1) (c .before .before .match .rest .1) _ (c .before .endpoint-descriptor .ensures)
@@ -69,9 +72,6 @@ mul-packet c = omega (arith, packet-small _ _ (c .before .endpoint-descriptor .e
 
 add-packet : tie.Need-add-packet
 add-packet c = omega (arith, packet-small _ _ (c .before .before .endpoint-descriptor .ensures) .0, packet-small _ _ (c .before .before .endpoint-descriptor .ensures) .1)
-
-cast-endpoint-bytes : tie.Need-cast-endpoint-bytes
-cast-endpoint-bytes c = search needs
 
 endpoint-bytes-requires : tie.Need-endpoint-bytes-requires
 endpoint-bytes-requires c κs = search needs
@@ -86,7 +86,7 @@ same-length : tie.Need-same-length
 same-length c = search needs
 
 returns : tie.Need-returns
-returns c = put-configuration _ _ _ _ (c .before .before .before .before .before .before .before .before .before .before .before .before .before .before .pre) _ (c .before .before .before .before .before .before .before .before .before .before .word-kind .ensures) _ _ _ (c .before .before .copy .ensures) (c .before .before .before .before .before .before .before .before .before .match .keys1) _ (c .before .before .before .before .before .before .before .before .claims-after .ensures) _ (c .before .before .before .before .before .before .configuration-value .ensures) (c .before .before .before .before .before .configuration-descriptor .ensures)
+returns c = put-configuration _ _ _ _ (c .before .before .before .before .before .before .before .before .before .before .before .before .before .before .pre) _ (c .before .before .before .before .before .before .before .before .before .before .word-kind .ensures) _ _ _ (c .before .before .copy .ensures) (c .before .before .before .before .before .before .before .before .before .match .keys1) _ (c .before .before .before .before .before .before .before .before .claims-after .ensures) _ (c .before .before .before .before .before .before .before .configuration-value .ensures) (c .before .before .before .before .before .configuration-descriptor .ensures)
 
 same-length-2 : tie.Need-same-length-2
 same-length-2 c = search needs
@@ -109,8 +109,8 @@ put-descriptor-spec =
     word-kind-requires
     add-claims-after
     claims-after-requires
-    add-configuration-descriptor
     configuration-value-requires
+    add-configuration-descriptor
     configuration-descriptor-requires
     slice-aggregate-copy
     copy-requires
@@ -122,11 +122,11 @@ put-descriptor-spec =
     slice-aggregate-copy-2
     copy-requires-2
     endpoint-descriptor-requires
-    cast-packet
+    cast-kind
+    cast-packets
     sub-packet
     mul-packet
     add-packet
-    cast-endpoint-bytes
     endpoint-bytes-requires
     slice-aggregate-copy-3
     copy-requires-3
