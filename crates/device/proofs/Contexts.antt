@@ -76,20 +76,12 @@ module _ (d : Device) (f : SoundFacts d) (ctx : List ℕ) (sp : Spaced (d .spaci
         offered-reads (d .spacing) (d .«port_speed») i a old new rings dcis ctx _ (placed-setting (listOf d) (f .list) i a)
         (claim-configure-reads (claimIn d i a rings) claim-fits ctx sp)
 
-    -- the alternate that it holds, or 0
-    old-alternate : cond (isHeld i (heldOf d)) (alternateOf i (heldOf d)) 0 ≡ alternateOf i (heldOf d)
-    old-alternate = go (decided (isHeld i (heldOf d)))
-      where
-        go : Decided (isHeld i (heldOf d)) → cond (isHeld i (heldOf d)) (alternateOf i (heldOf d)) 0 ≡ alternateOf i (heldOf d)
-        go (inl e) = rw e
-        go (inr e) = rw e (sym (alternate-none i (heldOf d) e))
-
     -- The one that undoes it.
     pub undo-reads :
         ConfigureReads (d .spacing) (d .«port_speed») i (alternateOf i (heldOf d)) new old (queuesOf (ownedRings (Interface i) (endpointMapIn d))) dcis
         ctx (undoContext (claimIn d i a rings) ctx)
     unfolding claimIn
-    undo-reads = rw old-alternate at (claim-undo-reads (claimIn d i a rings) claim-fits ctx sp)
+    undo-reads = claim-undo-reads (claimIn d i a rings) claim-fits ctx sp
 
   -- A release.
   pub release-reads : (i : ℕ) → i < 2 ^ 8 →
