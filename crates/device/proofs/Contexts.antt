@@ -1,13 +1,11 @@
 -- What the controller reads along the calls on a record: fields by the record and the call's arguments.
 use Prim.Native.Nat.{ℕ, _^_, _<_}
-use mathlib.Core.Path.{_≡_, refl, sym}
+use mathlib.Core.Path.{_≡_, refl}
 use mathlib.Core.Bool.{Bool, cond}
 use mathlib.Core.List.{List, []}
-use mathlib.Core.Logic.{inl, inr}
 use native.Mathlib.Omega.{arith}
 use lib.Dec.{lit<}
 use lib.ListN.{length, getD}
-use Rattle.laws.proofs.Cases.{Decided, decided}
 use Rattle.hub.specs.declared.think.ThinkTime.{ThinkTime}
 use Rattle.hub.specs.declared.think.ThinkTime.the-variants as think
 use Rattle.hub.specs.ThinkTime.{thinkTime}
@@ -20,7 +18,6 @@ use Rattle.context.proofs.Promises.{hub-promise}
 use Rattle.record_endpoint.specs.declared.endpoint_map.Owner.the-variants.{Interface}
 use Rattle.record_endpoint.specs.EndpointMap.{ownedRings, queuesOf, queueDcis}
 use Rattle.record_settings.specs.Held.{isHeld, alternateOf, settingWords, heldWords}
-use Rattle.record_settings.proofs.Laws.{alternate-none}
 use Rattle.record_checks.specs.Think.{thinkValue}
 use Rattle.course_release.specs.Release.{releaseContext}
 use Rattle.course_release.proofs.Contexts.{release-configure-reads}
