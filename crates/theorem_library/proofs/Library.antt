@@ -16,7 +16,7 @@ use Rattle.xhci_device.specs.Crossed.{Crossed, answeredOf, crossed, CrossedAs}
 use Rattle.theorem_slot.specs.Call.{Buffers, Asked, bringsUp, claims, releases, configures, updatesHub, left}
 use Rattle.theorem_slot.specs.Theorem.{State, recordAfter, called, after, Turns, start}
 use Rattle.theorem_slot.proofs.Demand3.{kept-by-number}
-use Rattle.theorem_library.specs.Library.{Exchange, reads, Lent, imageAfter, imageThen, Exchanges, imageEnd, tableEnd, turnsOf, LibraryDemand3}
+use Rattle.theorem_library.specs.Library.{Exchange, reads, GivenImage, imageAfter, imageThen, Exchanges, imageEnd, tableEnd, turnsOf, LibraryDemand3}
 
 -- What a call that reads its image leaves.
 record Leaves (x : Crossed) (l : Left) : Type 0 where
@@ -46,13 +46,13 @@ record Has (image routes : List ℕ) (s : State) : Type 0 where
 module _ (image routes : List ℕ) (s : State) (h : Has image routes s) where
   -- a call on the record is lent what the caller has
   on-record :
-      (asked : Asked) (buffers : Buffers) (lent table : List ℕ) (x : Crossed) (plain : State) → lent ≡ image →
-      (isImage lent ≡ true → Leaves x (left asked buffers (decode lent) table)) →
+      (asked : Asked) (buffers : Buffers) (given table : List ℕ) (x : Crossed) (plain : State) → given ≡ image →
+      (isImage given ≡ true → Leaves x (left asked buffers (decode given) table)) →
       plain .device ≡ (left asked buffers (s .device) table) .device → plain .routes ≡ (left asked buffers (s .device) table) .routes →
       Has (x .image) (x .routes) plain
-  on-record asked buffers lent table x plain same v d r =
+  on-record asked buffers given table x plain same v d r =
       let w = v (ap isImage same ∙ h .there) in
-      let e : left asked buffers (decode lent) table ≡ left asked buffers (s .device) table =
+      let e : left asked buffers (decode given) table ≡ left asked buffers (s .device) table =
       ap (λ y. left asked buffers y table) (ap decode same ∙ h .device) in
       record {
         there = w .image;
@@ -74,21 +74,21 @@ module _ (image routes : List ℕ) (s : State) (h : Has image routes s) where
       go false e = record { there = v .image; device = v .device ∙ sym e; table = v .routes ∙ sym r }
 
   one :
-      (asked : Asked) (buffers : Buffers) (lent table : List ℕ) (x : Crossed) (keeps : Bool) → Lent asked image lent →
-      CrossedAs x (reads asked lent) (left asked buffers (decode lent) table) lent (buffers .ctx) table (buffers .log) →
+      (asked : Asked) (buffers : Buffers) (given table : List ℕ) (x : Crossed) (keeps : Bool) → GivenImage asked image given →
+      CrossedAs x (reads asked given) (left asked buffers (decode given) table) given (buffers .ctx) table (buffers .log) →
       Has (imageAfter asked keeps (x .answered .answer) image (x .image)) (x .routes)
       (called s (record { call = record { asked = asked; buffers = buffers }; table = table; keeps = keeps }))
-  unfolding Lent reads imageAfter called recordAfter left
-  one (bringsUp a) buffers lent table x keeps n c =
-      kept-or-new (left (bringsUp a) buffers (s .device) table) x keeps (leaves x _ _ lent _ table _ (eq-eqb (length lent) WORDS n) c) _ refl refl
-  one (claims i a rings) buffers lent table x keeps n c =
-      on-record (claims i a rings) buffers lent table x _ n (λ t. leaves x _ _ lent _ table _ t c) refl refl
-  one (releases i) buffers lent table x keeps n c =
-      on-record (releases i) buffers lent table x _ n (λ t. leaves x _ _ lent _ table _ t c) refl refl
-  one (configures value) buffers lent table x keeps n c =
-      on-record (configures value) buffers lent table x _ n (λ t. leaves x _ _ lent _ table _ t c) refl refl
-  one (updatesHub ports multi ns) buffers lent table x keeps n c =
-      on-record (updatesHub ports multi ns) buffers lent table x _ n (λ t. leaves x _ _ lent _ table _ t c) refl refl
+  unfolding GivenImage reads imageAfter called recordAfter left
+  one (bringsUp a) buffers given table x keeps n c =
+      kept-or-new (left (bringsUp a) buffers (s .device) table) x keeps (leaves x _ _ given _ table _ (eq-eqb (length given) WORDS n) c) _ refl refl
+  one (claims i a rings) buffers given table x keeps n c =
+      on-record (claims i a rings) buffers given table x _ n (λ t. leaves x _ _ given _ table _ t c) refl refl
+  one (releases i) buffers given table x keeps n c =
+      on-record (releases i) buffers given table x _ n (λ t. leaves x _ _ given _ table _ t c) refl refl
+  one (configures value) buffers given table x keeps n c =
+      on-record (configures value) buffers given table x _ n (λ t. leaves x _ _ given _ table _ t c) refl refl
+  one (updatesHub ports multi ns) buffers given table x keeps n c =
+      on-record (updatesHub ports multi ns) buffers given table x _ n (λ t. leaves x _ _ given _ table _ t c) refl refl
 
 -- A list of calls: its turns are those of the theorem, and the caller has the record and the table that they leave.
 record Went (slot : ℕ) (still : ℕ → Bool) (image routes : List ℕ) (s : State) (es : List Exchange) : Type 0 where
@@ -101,7 +101,7 @@ went :
 unfolding Exchanges Turns turnsOf imageEnd tableEnd after
 went slot still image routes s [] h o = record { turns = tt; has = h }
 went slot still image routes s (e ∷ es) h o =
-    let n = one image routes s h (e .call .asked) (e .call .buffers) (e .image) (e .table) (e .crossed) (e .keeps) (o .0 .lent) (o .0 .meets) in
+    let n = one image routes s h (e .call .asked) (e .call .buffers) (e .image) (e .table) (e .crossed) (e .keeps) (o .0 .given) (o .0 .meets) in
     let rest = went slot still (imageThen image e) (e .crossed .routes) _ es n (o .1) in
     record { turns = (o .0 .of-slot, (rw (← h .table) (o .0 .between), rest .turns)); has = rest .has }
 

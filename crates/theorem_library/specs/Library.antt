@@ -38,12 +38,12 @@ Meets e =
     (e .image) (c .buffers .ctx) (e .table) (c .buffers .log)
 
 -- A bring-up may be lent another buffer; every other call is lent the image that the caller has.
-unfoldable pub Lent : Asked → List ℕ → List ℕ → Type 0
-Lent (bringsUp a) had lent = length lent ≡ WORDS
-Lent (claims interface alternate rings) had lent = lent ≡ had
-Lent (releases interface) had lent = lent ≡ had
-Lent (configures value) had lent = lent ≡ had
-Lent (updatesHub ports multi ns) had lent = lent ≡ had
+unfoldable pub GivenImage : Asked → List ℕ → List ℕ → Type 0
+GivenImage (bringsUp a) had given = length given ≡ WORDS
+GivenImage (claims interface alternate rings) had given = given ≡ had
+GivenImage (releases interface) had given = given ≡ had
+GivenImage (configures value) had given = given ≡ had
+GivenImage (updatesHub ports multi ns) had given = given ≡ had
 
 -- The image that the caller has after a call.
 unfoldable pub imageAfter : Asked → Bool → ℕ → List ℕ → List ℕ → List ℕ
@@ -59,7 +59,7 @@ imageThen had e = imageAfter (e .call .asked) (e .keeps) (e .crossed .answered .
 -- One call, by a caller who has this image and for whose slot the last call left this table.
 pub record Proper (slot : ℕ) (still : ℕ → Bool) (image routes : List ℕ) (e : Exchange) : Type 0 where
   pub of-slot : OfSlot slot (e .call .asked)
-  pub lent : Lent (e .call .asked) image (e .image)
+  pub given : GivenImage (e .call .asked) image (e .image)
   pub between : Between slot still routes (e .table)
   pub meets : Meets e
 

@@ -37,9 +37,9 @@ use Rattle.theorem_slot.proofs.Ends.{claim-tells, release-tells, set-te
 use Rattle.theorem_slot.proofs.Few.{few-words}
 
 -- The first words of a course, where it is cut.
-first-words : (o : List ℕ) (i : ℕ) (ws short log : List ℕ) → short ≡ take (i + 1) ws → i < length ws → length ws ≤ length log →
+first-words : (i : ℕ) (ws short log : List ℕ) → short ≡ take (i + 1) ws → i < length ws → length ws ≤ length log →
     (0 + length short ≡ i + 1) × (take (i + 1) (sets log 0 short) ≡ take (i + 1) (sets log 0 ws))
-first-words o i ws short log e h room =
+first-words i ws short log e h room =
     let n : length short ≡ i + 1 = ap length e ∙ length-take (i + 1) ws ∙ omega arith in
     let m : i + 1 ≤ length ws = omega arith in
     (omega arith, ((rw n at (stored short log (omega arith))) ∙ e) ∙ sym (stored-first (i + 1) ws log m room))
@@ -53,7 +53,7 @@ module _ {A : Type 0} (answerIn : A → Answer) (leaves : Played A → Left) (c 
   cut-there i room h =
       let z : 0 + i ≡ i = omega arith in
       let s = rw z at (cut-short (λ ctx a. answerIn a ≡ answer.Cut) o 0 i c cuts h) in
-      let f = first-words o i (words o 0 c) (words (take i o) 0 c) log (s .1) h room in
+      let f = first-words i (words o 0 c) (words (take i o) 0 c) log (s .1) h room in
       record {
         answer = answers (played (take i o) 0 c log) ∙ s .0;
         count = counts (played (take i o) 0 c log) ∙ f .0;

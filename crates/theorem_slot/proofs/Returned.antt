@@ -43,7 +43,7 @@ use Rattle.transfer.specs.Routes.{withRoute}
 use Rattle.context.specs.Place.{spacingOf}
 use Rattle.device_bring_up.specs.BringUp.{bringUpCourse, broughtRecord, broughtLeft, bringUp}
 use Rattle.theorem_slot.specs.Call.{Buffers, Asked, bringsUp, claims, releases, configures, updatesHub, Call, left}
-use Rattle.theorem_slot.specs.Answers.{isRefused, refusedRecord, CodeOfOutcome, Answered, AnswersTell, Returned, SoundReturned, usableAfter}
+use Rattle.theorem_slot.specs.Answers.{isRefused, refusedRecord, CodeOfOutcome, Accounted, AnswersTell, GivenBack, SoundReturned, usableAfter}
 use Rattle.theorem_slot.specs.Theorem.{NoneQuarantined}
 use Rattle.theorem_slot.proofs.Told.{Told, told-whole, told-cut}
 use Rattle.theorem_slot.proofs.Ends.{Fair, hub-sends, claim-tells, release-tells, set-tells, hub-tells, bring-up-tells, claim-sends, release-sends, set-sends, bring-up-sends}
@@ -66,7 +66,7 @@ code-there o count k code h e =
 
 -- What holds of a call that ran a course.
 pub record Ran (o : List ℕ) (l : Left) : Type 0 where
-  pub answered : Answered o l
+  pub answered : Accounted o l
   pub late : isRefused (l .answer) ≡ false
 
 cut-late : (a : Answer) → a ≡ answer.Cut → isRefused a ≡ false
@@ -129,7 +129,7 @@ module _ {A : Type 0} (answerIn : A → Answer) (o : List ℕ) (c : Course A) (l
 
 -- A refused call.
 refused-answered :
-    (o : List ℕ) (d : Device) (a : Answer) (ctx routes log : List ℕ) → isRefused a ≡ true → Answered o (refused d a ctx routes log)
+    (o : List ℕ) (d : Device) (a : Answer) (ctx routes log : List ℕ) → isRefused a ≡ true → Accounted o (refused d a ctx routes log)
 unfolding refused isRefused number
 refused-answered o d a ctx routes log r =
     record {
@@ -144,8 +144,8 @@ refused-answered o d a ctx routes log r =
 
 -- What every call leaves.
 record Tells (c : Call) (d : Device) (routes : List ℕ) (l : Left) : Type 0 where
-  pub answered : Answered (c .buffers .outcomes) l
-  pub returned : Returned c d routes l
+  pub answered : Accounted (c .buffers .outcomes) l
+  pub returned : GivenBack c d routes l
 
 -- By what its check answers.
 checked-tells :

@@ -37,7 +37,7 @@ pub record CodeOfOutcome (outcomes : List ℕ) (count code : ℕ) : Type 0 where
   pub same : getD outcomes place 0 ≡ code
   pub failure : code ≡ 0 → ⊥
 
-pub record Answered (outcomes : List ℕ) (l : Left) : Type 0 where
+pub record Accounted (outcomes : List ℕ) (l : Left) : Type 0 where
   -- cut: one command more than there are outcomes
   pub cut : l .answer ≡ answer.Cut → l .count ≡ length outcomes + 1
   -- any other answer: each logged command has its outcome
@@ -47,7 +47,7 @@ pub record Answered (outcomes : List ℕ) (l : Left) : Type 0 where
   pub sent : isRefused (l .answer) ≡ false → 1 ≤ l .count
 
 abbrev pub AnswersTell : Type 0
-AnswersTell = (c : Call) (d : Device) (routes : List ℕ) → Answered (c .buffers .outcomes) (left (c .asked) (c .buffers) d routes)
+AnswersTell = (c : Call) (d : Device) (routes : List ℕ) → Accounted (c .buffers .outcomes) (left (c .asked) (c .buffers) d routes)
 
 -- Surplus outcomes are not read: the same call, given only as many as it logged commands, leaves the same.
 abbrev pub SurplusUnread : Type 0
@@ -103,7 +103,7 @@ usableAfter (releases interface) x = not (isLost x)
 usableAfter (configures value) x = not (isLost x)
 usableAfter (updatesHub ports multi ns) x = not (isLost x)
 
-pub record Returned (c : Call) (d : Device) (routes : List ℕ) (l : Left) : Type 0 where
+pub record GivenBack (c : Call) (d : Device) (routes : List ℕ) (l : Left) : Type 0 where
   -- refused: nothing that was lent is changed, and the count is 0
   pub refusal :
       isRefused (l .answer) ≡ true →
@@ -113,4 +113,4 @@ pub record Returned (c : Call) (d : Device) (routes : List ℕ) (l : Left) : Typ
   pub is-sound : isRefused (l .answer) ≡ false → (l .device .usable ≡ false) ⊎ (sound (l .device) ≡ true)
 
 abbrev pub SoundReturned : Type 0
-SoundReturned = (c : Call) (d : Device) (routes : List ℕ) → Returned c d routes (left (c .asked) (c .buffers) d routes)
+SoundReturned = (c : Call) (d : Device) (routes : List ℕ) → GivenBack c d routes (left (c .asked) (c .buffers) d routes)
