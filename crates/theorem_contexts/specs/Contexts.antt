@@ -93,7 +93,7 @@ pub record ClaimReads (d : Device) (i a : ℕ) (rings ctx : List ℕ) (call : Li
 abbrev pub ClaimContexts : Type 0
 ClaimContexts =
     (d : Device) (ctx routes log : List ℕ) (i a : ℕ) (rings : List ℕ) →
-    recordCheck d (length ctx) (length routes) (length log) (claimCheck d i a rings) ≡ Pass →
+    recordCheck d (length ctx) (length routes) (length log) (claimCheck d i a rings Pass) ≡ Pass →
     Byte i →
     Byte a →
     BusAddresses rings →
