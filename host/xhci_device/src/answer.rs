@@ -158,6 +158,6 @@ mod tests {
             assert_eq!(answer.number(), number);
             assert_eq!(answer.code(), if number == 13 { 7 } else { 0 });
         }
-        assert_eq!(Answer::of(19, 0), None);
+        assert_eq!(Answer::of(20, 0), None);
     }
 }
