@@ -245,7 +245,7 @@ static void begin_anew(struct world *w) {
 int main(void) {
     static struct world now, whole;
     static struct xhci_device_pending call;
-    size_t i, sent = 0, answers[19] = {0};
+    size_t i, sent = 0, answers[20] = {0};
     begin_anew(&now);
     for (i = 0; i < CALLS; i++) {
         uint32_t log[XHCI_DEVICE_LOG_WORDS];
@@ -272,7 +272,7 @@ int main(void) {
     }
     printf("%d calls, %zu commands: each driven call leaves what the one-shot call leaves\n", (int)CALLS, sent);
     printf("answers:");
-    for (i = 0; i < 19; i++) {
+    for (i = 0; i < 20; i++) {
         printf(" %zu: %zu", i, answers[i]);
     }
     printf("\n");

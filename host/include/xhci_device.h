@@ -74,6 +74,7 @@ enum {
     XHCI_DEVICE_SHORT_HEADER = 16,
     XHCI_DEVICE_QUEUE_FULL = 17,        /* bring-up: the slot has a route for control */
     XHCI_DEVICE_INVALID_ENDPOINT = 18,  /* an old endpoint's route is not its ring */
+    XHCI_DEVICE_PACKET_EXPONENT = 19,   /* bring-up at speeds 4 and 5: the packet byte is not 9 */
     XHCI_DEVICE_MALFORMED = 20          /* raw descriptors: malformed bytes, or an endpoint word with packets 0 */
 };
 
@@ -99,6 +100,7 @@ static inline const char *xhci_device_answer_name(uint32_t answer) {
     case XHCI_DEVICE_SHORT_HEADER: return "the header read has not 8 bytes";
     case XHCI_DEVICE_QUEUE_FULL: return "the control endpoint's route is taken";
     case XHCI_DEVICE_INVALID_ENDPOINT: return "an endpoint's route is not its ring";
+    case XHCI_DEVICE_PACKET_EXPONENT: return "the packet byte is no exponent of a SuperSpeed size";
     case XHCI_DEVICE_MALFORMED: return "the descriptors are malformed";
     default: return "an answer without a name";
     }

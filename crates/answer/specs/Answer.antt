@@ -1,11 +1,11 @@
--- The answers of the calls: 01, "Who can cause an answer".
+-- The answers of the calls: 01, "Who can cause an answer", and 02.
 use Prim.Native.Nat.{ℕ}
 use mathlib.Core.Bool.{Bool, _||_}
 use lib.Dec.{eqb}
 use Rattle.answer.specs.declared.Answer.{Answer}
-use Rattle.answer.specs.declared.Answer.the-variants.{Accepted, ContextLength, RoutesLength, LogTooShort, DescriptorList, HubChain, Speed, ThinkTime, NotFound, InvalidParameter, Rings, SlotLimitReached, Unusable, Failed, InterfaceBroken, Cut, ShortHeader, QueueFull, InvalidEndpoint}
+use Rattle.answer.specs.declared.Answer.the-variants.{Accepted, ContextLength, RoutesLength, LogTooShort, DescriptorList, HubChain, Speed, ThinkTime, NotFound, InvalidParameter, Rings, SlotLimitReached, Unusable, Failed, InterfaceBroken, Cut, ShortHeader, QueueFull, InvalidEndpoint, PacketExponent}
 
--- 01's number of an answer.
+-- The papers' number of an answer.
 unfoldable pub number : Answer → ℕ
 number Accepted = 0
 number ContextLength = 1
@@ -26,6 +26,7 @@ number Cut = 15
 number ShortHeader = 16
 number QueueFull = 17
 number InvalidEndpoint = 18
+number PacketExponent = 19
 
 -- The code of 13, and 0 of the others.
 unfoldable pub codeOf : Answer → ℕ
@@ -48,6 +49,7 @@ codeOf Cut = 0
 codeOf ShortHeader = 0
 codeOf QueueFull = 0
 codeOf InvalidEndpoint = 0
+codeOf PacketExponent = 0
 
 abbrev pub isAccepted : Answer → Bool
 isAccepted a = eqb (number a) 0

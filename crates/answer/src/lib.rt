@@ -1,4 +1,4 @@
-// What a call answers: document 01, "Who can cause an answer".
+// What a call answers: document 01, "Who can cause an answer", and from 19 on the numbers of document 02.
 ghost use mathlib.Core.Path.{_≡_};
 ghost use Rattle.answer.specs.Answer.{number, codeOf};
 
@@ -22,6 +22,7 @@ pub enum Answer {
     ShortHeader,
     QueueFull,
     InvalidEndpoint,
+    PacketExponent,
 }
 
 // Whether a call may go on, or its refusal.
@@ -30,7 +31,7 @@ pub enum Check {
     Refuse(Answer),
 }
 
-// Document 01's number of an answer.
+// The documents' number of an answer.
 pub fn answer_number(a: Answer) -> u8
     ensures { λ r. ⌜ r ≡ number a ⌝ }
 {
@@ -54,6 +55,7 @@ pub fn answer_number(a: Answer) -> u8
         Answer::ShortHeader => 16,
         Answer::QueueFull => 17,
         Answer::InvalidEndpoint => 18,
+        Answer::PacketExponent => 19,
     }
 }
 

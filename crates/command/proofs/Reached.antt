@@ -1,22 +1,22 @@
 -- The commands that a course comes to along outcomes that are known.
-use Prim.Native.Nat.{ℕ, zero, suc, _+_, _<_, _≤_}
+use Prim.Native.Nat.{ℕ, _+_, _<_}
 use mathlib.Core.Path.{_≡_, refl, sym, ap, _∙_}
 use mathlib.Core.Bool.{Bool, true, false, cond}
-use mathlib.Core.List.{List, [], _∷_, _++_, append-nil, append-assoc}
+use mathlib.Core.List.{List, [], _∷_, _++_, append-assoc}
 use native.Mathlib.Nat.{add-zero}
 use native.Mathlib.Omega.{arith}
 use borrow.Author.Tests.{lt-ltb, ne-eqb}
 use lib.ListN.{length, getD, length-append, replicate, length-replicate, getD-replicate, List·getD-append}
-use lib.Seq.{sets, getD-append-seam}
+use lib.Seq.{getD-append-seam}
 use Rattle.command.specs.declared.Command.{Command}
 use Rattle.command.specs.declared.Sent.{Sent}
 use Rattle.command.specs.declared.Sent.the-variants as sent
 use Rattle.command.specs.Command.{commandWord, outcomeAt}
-use Rattle.command.specs.Course.{Course, ends, sends, onSent, then, words, result, played}
+use Rattle.command.specs.Course.{Course, ends, sends, onSent, then, words, result}
 use Rattle.command.specs.Sweep.{Sweep, stopEndpoints}
 use Rattle.command.proofs.Cuts.{outcome-none}
 use Rattle.command.proofs.Done.{outcome-done, AllDone, stop-all-done}
-use Rattle.command.proofs.Laws.{words-then, result-then, log-word}
+use Rattle.command.proofs.Laws.{words-then, result-then}
 use Rattle.command.proofs.Sweeps.{stop-done}
 
 -- A course goes on as another one that begins at command n, after words that it logged.

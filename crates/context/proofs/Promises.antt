@@ -2,6 +2,7 @@
 use Prim.Native.Nat.{ℕ, _+_, _*_, _^_, _<_, _≤_}
 use mathlib.Core.Path.{_≡_, refl, _∙_}
 use mathlib.Core.Bool.{Bool, true, false, cond}
+use mathlib.Core.Logic.{_⊎_, inl, inr}
 use mathlib.Core.List.{List, [], _∷_, _++_, append-nil}
 use native.Mathlib.Decide.{decLt}
 use native.Mathlib.Nat.{zero-div, zero-mod}
@@ -9,7 +10,8 @@ use native.Mathlib.Omega.{arith}
 use lib.Dec.{eqb, lit<}
 use lib.ListN.{length, take, drop, getD, replicate, length-replicate, getD-replicate, List·getD-eq-default}
 use lib.Seq.{getD-take, getD-drop}
-use Rattle.def.specs.Speed.{headerPacketSize}
+use Rattle.def.specs.Speed.{SUPER, SUPER-PLUS, isSuper, exponentOk, headerPacketSize}
+use Rattle.def.proofs.Laws.{super-true, exponent-nine}
 use Rattle.descriptor.specs.Word.{endpointDescriptor}
 use Rattle.transfer.specs.Routes.{ringFor}
 use Rattle.context_field.specs.declared.Field.{Field}
@@ -21,7 +23,7 @@ use Rattle.context_block.specs.Promises.{Holds, fieldsOf, Leaves, someDci, endp
 use Rattle.context_block.proofs.Promises as block
 use Rattle.context.specs.Place.{Write, CONTROL, SLOT, inBlock, ofBlock, written, blockAt, readAt, OutsideBlock}
 use Rattle.context.specs.Steps.{addressWrites, addressContext, maxPacketWrites, addAll, contextEntries, configureWrites, configurationWrites, hubWrites}
-use Rattle.context.specs.Promises.{Reads, ControlReads, zeroField, AddressPromise, MaxPacketPromise, ConfigurationPromise, HubPromise, Endpoints, ConfigurePromise}
+use Rattle.context.specs.Promises.{Reads, ControlReads, zeroField, AddressPromise, MaxPacketPromise, SuperPacketPromise, ConfigurationPromise, HubPromise, Endpoints, ConfigurePromise}
 use Rattle.context.proofs.Laws.{written-length, of-block-skip, of-block-append, of-block-same, of-block-other, block-length, block-written, other-block, Untouched, untouched-append, untouched-block, other-byte}
 use Rattle.context.proofs.Added.{some-in, endpointOf, added-none, configure-slot, configure-endpoint, control-after, last-after, configure-untouched}
 use Rattle.context.proofs.Control.{word-dci-small, flags, cleared-reads, end-else, flagged-reads, packet-reads}
@@ -138,25 +140,38 @@ control-of :
     ControlReads (blockAt s (written s ws ctx) CONTROL) (blockAt s ctx CONTROL) drop add listed
 control-of s ctx ws ss drop add listed wide e r = rw (block-written s wide ws ctx CONTROL, e) r
 
-header-small : (byte : ℕ) → byte < 2 ^ 8 → headerPacketSize byte < 2 ^ 16
+header-small : (speed byte : ℕ) → byte < 2 ^ 8 → exponentOk speed byte ≡ true → headerPacketSize speed byte < 2 ^ 16
 unfolding headerPacketSize
-header-small byte h = go (eqb byte 0)
+header-small speed byte h o = go (isSuper speed) refl
   where
-    go : (t : Bool) → cond t 8 byte < 2 ^ 16
-    go true = lit< tt
-    go false = omega arith
+    plain : (t : Bool) → cond t 8 byte < 2 ^ 16
+    plain true = lit< tt
+    plain false = omega arith
+
+    go : (t : Bool) → isSuper speed ≡ t → cond t (2 ^ byte) (cond (eqb byte 0) 8 byte) < 2 ^ 16
+    go true e = rw (exponent-nine speed byte e o) (lit< tt)
+    go false e = plain (eqb byte 0)
+
+super-nine : (speed byte : ℕ) → (speed ≡ SUPER) ⊎ (speed ≡ SUPER-PLUS) → exponentOk speed byte ≡ true → byte ≡ 9
+super-nine speed byte (inl p) o = exponent-nine speed byte (rw p (super-true 4 (omega arith) (omega arith))) o
+super-nine speed byte (inr p) o = exponent-nine speed byte (rw p (super-true 5 (omega arith) (omega arith))) o
+
+header-super : (speed byte : ℕ) → (speed ≡ SUPER) ⊎ (speed ≡ SUPER-PLUS) → exponentOk speed byte ≡ true → headerPacketSize speed byte ≡ 512
+unfolding headerPacketSize isSuper
+header-super speed byte (inl p) o = rw (super-nine speed byte (inl p) o, p)
+header-super speed byte (inr p) o = rw (super-nine speed byte (inr p) o, p)
 
 pub max-packet-promise : MaxPacketPromise
 unfolding maxPacketWrites
-max-packet-promise s byte ctx spaced h =
+max-packet-promise s speed byte ctx spaced h o =
     record {
       control =
           control-of s ctx ws flag _ _ [] (spaced .wide) (first-of CONTROL 2 flag size refl)
           (packet-reads (blockAt s ctx CONTROL) (long CONTROL (omega arith)));
       endpoint =
           reads-of s ctx ws 2 size size (spaced .wide) (second-of CONTROL 2 flag size refl)
-          (block.single-promise _ MAX-PACKET-SIZE (headerPacketSize byte) (long 2 (omega arith)) (lit< tt, omega arith)
-          (header-small byte h));
+          (block.single-promise _ MAX-PACKET-SIZE (headerPacketSize speed byte) (long 2 (omega arith)) (lit< tt, omega arith)
+          (header-small speed byte h o));
       rest = λ k p q. other-byte s k ws ctx (two-untouched s k CONTROL 2 flag size p q);
     }
   where
@@ -164,13 +179,18 @@ max-packet-promise s byte ctx spaced h =
     flag = changed ++ ((ADD-FLAG 1 := 1) ∷ [])
 
     size : List FieldWrite
-    size = (MAX-PACKET-SIZE := headerPacketSize byte) ∷ []
+    size = (MAX-PACKET-SIZE := headerPacketSize speed byte) ∷ []
 
     ws : List Write
     ws = inBlock CONTROL flag ++ inBlock 2 size
 
     long : (b : ℕ) → b ≤ 32 → length (blockAt s ctx b) ≡ 32
     long b = block-length s b ctx spaced
+
+pub super-packet-promise : SuperPacketPromise
+super-packet-promise s speed byte ctx spaced f o =
+    let small : byte < 2 ^ 8 = let e = super-nine speed byte f o in omega (arith, e) in
+    rw (header-super speed byte f o) at (max-packet-promise s speed byte ctx spaced small o)
 
 pub configuration-promise : ConfigurationPromise
 unfolding configurationWrites Holds apart apartFromAll fieldsOf allInside inside

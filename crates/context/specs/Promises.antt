@@ -1,11 +1,12 @@
 -- What a context reads after each step, at either spacing and whatever it held before: proofs/Promises.antt proves each `..Promise`.
 use Prim.Native.Nat.{ℕ, _+_, _^_, _≤_, _<_}
 use mathlib.Core.Bool.{Bool, true, false, cond, _||_}
+use mathlib.Core.Logic.{_⊎_}
 use mathlib.Core.List.{List, [], _∷_, _++_}
 use mathlib.Core.Path.{_≡_}
 use lib.Dec.{eqb, ltb}
 use lib.ListN.{length, getD}
-use Rattle.def.specs.Speed.{FULL, HIGH, firstPacketSize, headerPacketSize}
+use Rattle.def.specs.Speed.{FULL, HIGH, SUPER, SUPER-PLUS, firstPacketSize, exponentOk, headerPacketSize}
 use Rattle.descriptor.specs.Word.{endpointDescriptor}
 use Rattle.hub.specs.declared.translator.Translator.{Translator}
 use Rattle.transfer.specs.Routes.{Queue, ringFor}
@@ -61,17 +62,27 @@ AddressPromise =
     AddressReads s speed route translator rootPort ring (addressContext s speed route translator rootPort ring ctx)
 
 -- `setup_max_packet`.
-pub record MaxPacketReads (s byte : ℕ) (was ctx : List ℕ) : Type 0 where
+pub record MaxPacketReads (s size : ℕ) (was ctx : List ℕ) : Type 0 where
   pub control : ControlReads (blockAt s ctx CONTROL) (blockAt s was CONTROL) (λ d. false) (λ d. ltb d 2) []
-  pub endpoint : Reads (blockAt s ctx 2) ((MAX-PACKET-SIZE := headerPacketSize byte) ∷ []) (readAt s was 2)
+  pub endpoint : Reads (blockAt s ctx 2) ((MAX-PACKET-SIZE := size) ∷ []) (readAt s was 2)
   pub rest : (k : ℕ) → OutsideBlock s CONTROL k → OutsideBlock s 2 k → getD ctx k 0 ≡ getD was k 0
 
 abbrev pub MaxPacketPromise : Type 0
 MaxPacketPromise =
-    (s byte : ℕ) (ctx : List ℕ) →
+    (s speed byte : ℕ) (ctx : List ℕ) →
     Spaced s (length ctx) →
     byte < 2 ^ 8 →
-    MaxPacketReads s byte ctx (written s (maxPacketWrites byte) ctx)
+    exponentOk speed byte ≡ true →
+    MaxPacketReads s (headerPacketSize speed byte) ctx (written s (maxPacketWrites speed byte) ctx)
+
+-- At SuperSpeed and SuperSpeedPlus the size is 512.
+abbrev pub SuperPacketPromise : Type 0
+SuperPacketPromise =
+    (s speed byte : ℕ) (ctx : List ℕ) →
+    Spaced s (length ctx) →
+    (speed ≡ SUPER) ⊎ (speed ≡ SUPER-PLUS) →
+    exponentOk speed byte ≡ true →
+    MaxPacketReads s 512 ctx (written s (maxPacketWrites speed byte) ctx)
 
 -- `configuration_context`.
 pub record ConfigurationReads (s value : ℕ) (was ctx : List ℕ) : Type 0 where

@@ -24,9 +24,9 @@ addressContext spacing speed route translator rootPort ring ctx =
     written spacing (addressWrites speed route translator rootPort ring) (replicate (length ctx) 0)
 
 -- `setup_max_packet`: the control endpoint's packet size, from the byte of the device descriptor's header.
-unfoldable pub maxPacketWrites : ℕ → List Write
-maxPacketWrites byte =
-    inBlock CONTROL (changed ++ ((ADD-FLAG 1 := 1) ∷ [])) ++ inBlock 2 ((MAX-PACKET-SIZE := headerPacketSize byte) ∷ [])
+unfoldable pub maxPacketWrites : ℕ → ℕ → List Write
+maxPacketWrites speed byte =
+    inBlock CONTROL (changed ++ ((ADD-FLAG 1 := 1) ∷ [])) ++ inBlock 2 ((MAX-PACKET-SIZE := headerPacketSize speed byte) ∷ [])
 
 -- An endpoint word added: its flag, and its block with the ring that the queues have for its Dci.
 unfoldable pub addWrites : ℕ → List Queue → ℕ → List Write

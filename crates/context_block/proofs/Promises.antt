@@ -87,7 +87,7 @@ first-size-small : (speed : ℕ) → firstPacketSize speed < 2 ^ 16
 unfolding firstPacketSize
 first-size-small speed = go (eqb speed 1) (eqb speed 2) (eqb speed 3) (eqb speed 4) (eqb speed 5)
   where
-    go : (a b c d e : Bool) → cond a 64 (cond b 8 (cond c 64 (cond d 512 (cond e 1024 0)))) < 2 ^ 16
+    go : (a b c d e : Bool) → cond a 64 (cond b 8 (cond c 64 (cond d 512 (cond e 512 0)))) < 2 ^ 16
     go true b c d e = lit< tt
     go false true c d e = lit< tt
     go false false true d e = lit< tt

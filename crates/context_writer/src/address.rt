@@ -5,7 +5,9 @@ use context_block_writer::slot;
 use context_field::Field;
 use hub::Translator;
 ghost use mathlib.Core.Path.{_≡_};
+ghost use mathlib.Core.Bool.{true};
 ghost use lib.ListN.{length};
+ghost use Rattle.def.specs.Speed.{exponentOk};
 ghost use Rattle.context.specs.Place.{written, Spaced};
 ghost use Rattle.context.specs.Steps.{addressContext, maxPacketWrites};
 
@@ -49,13 +51,14 @@ pub fn address_context(
 }
 
 // What the Evaluate of the control endpoint's packet size is given, from the header's byte.
-pub fn setup_max_packet(ctx: &mut [u8], spacing: usize, byte: u8)
+pub fn setup_max_packet(ctx: &mut [u8], spacing: usize, speed: u8, byte: u8)
     requires { ⌜ Spaced spacing (length (now ctx)) ⌝ }
-    ensures { λ r. ⌜ now (ctx .exit) ≡ written spacing (maxPacketWrites byte) (now (ctx .entry)) ⌝ }
+    requires { ⌜ exponentOk speed byte ≡ true ⌝ }
+    ensures { λ r. ⌜ now (ctx .exit) ≡ written spacing (maxPacketWrites speed byte) (now (ctx .entry)) ⌝ }
 {
     control::perper_change(ctx);
     context_field::put_field(ctx, CONTROL_ADD_FLAG, 1);
-    let size = def::header_packet_size(byte);
+    let size = def::header_packet_size(speed, byte);
     let start = spacing * 2;
     let end = start + 32;
     context_field::put_field(&mut ctx[start..end], endpoint::MAX_PACKET_SIZE, size as u64);

@@ -1,7 +1,6 @@
 -- The contexts that the controller reads along a claim.
 use Prim.Native.Nat.{ℕ, _+_, _^_, _<_}
 use mathlib.Core.Path.{_≡_, refl}
-use mathlib.Core.Bool.{Bool, true, false, cond}
 use mathlib.Core.List.{List}
 use native.Mathlib.Omega.{arith}
 use lib.ListN.{length}
@@ -25,9 +24,9 @@ use Rattle.course_claim.specs.Claim.{Claim, claimContext, undoContext, c
 
 -- What it works on fits the fields of a context.
 pub record ClaimFits (a : Claim) : Type 0 where
-  pub interface : a .interface < 2 ^ 8
-  pub alternate : a .alternate < 2 ^ 8
-  pub oldAlternate : a .oldAlternate < 2 ^ 8
+  pub interface : a .args .interface < 2 ^ 8
+  pub alternate : a .args .alternate < 2 ^ 8
+  pub oldAlternate : a .args .«old_alternate» < 2 ^ 8
   pub oldWords : Endpoints (a .oldWords)
   pub newWords : Endpoints (a .newWords)
   pub old : (d : ℕ) → ringFor d (a .old) 0 < 2 ^ 64
@@ -35,28 +34,24 @@ pub record ClaimFits (a : Claim) : Type 0 where
   pub oldEntries : contextEntries (a .dcis) (a .oldWords) < 2 ^ 5
   pub newEntries : contextEntries (a .dcis) (a .newWords) < 2 ^ 5
 
-module _ (a : Claim) (f : ClaimFits a) (ctx : List ℕ) (sp : Spaced (a .spacing) (length ctx)) where
+module _ (a : Claim) (f : ClaimFits a) (ctx : List ℕ) (sp : Spaced (a .args .spacing) (length ctx)) where
   -- its Configure
   pub claim-configure-reads :
-      ConfigureReads (a .spacing) (a .speed) (a .interface) (a .alternate) (a .oldWords) (a .newWords) (a .pending) (a .dcis) ctx
+      ConfigureReads (a .args .spacing) (a .args .speed) (a .args .interface) (a .args .alternate) (a .oldWords) (a .newWords) (a .pending) (a .dcis) ctx
       (claimContext a ctx)
   unfolding claimContext
   claim-configure-reads =
-      configure-promise (a .spacing) (a .speed) (a .interface) (a .alternate) (a .oldWords) (a .newWords) (a .pending) (a .dcis) ctx sp
+      configure-promise (a .args .spacing) (a .args .speed) (a .args .interface) (a .args .alternate) (a .oldWords) (a .newWords) (a .pending) (a .dcis) ctx sp
       (f .interface) (f .alternate) (f .oldWords) (f .newWords) (f .pending) (f .newEntries)
 
-  back-byte : (b : Bool) → cond b (a .oldAlternate) 0 < 2 ^ 8
-  back-byte true = f .oldAlternate
-  back-byte false = omega arith
-
-  -- the one that undoes it: the old alternate, or 0 where none was held
+  -- the one that undoes it
   pub claim-undo-reads :
-      ConfigureReads (a .spacing) (a .speed) (a .interface) (cond (a .held) (a .oldAlternate) 0) (a .newWords) (a .oldWords) (a .old) (a .dcis)
+      ConfigureReads (a .args .spacing) (a .args .speed) (a .args .interface) (a .args .«old_alternate») (a .newWords) (a .oldWords) (a .old) (a .dcis)
       ctx (undoContext a ctx)
   unfolding undoContext
   claim-undo-reads =
-      configure-promise (a .spacing) (a .speed) (a .interface) (cond (a .held) (a .oldAlternate) 0) (a .newWords) (a .oldWords) (a .old)
-      (a .dcis) ctx sp (f .interface) (back-byte (a .held)) (f .newWords) (f .oldWords) (f .old) (f .oldEntries)
+      configure-promise (a .args .spacing) (a .args .speed) (a .args .interface) (a .args .«old_alternate») (a .newWords) (a .oldWords) (a .old)
+      (a .dcis) ctx sp (f .interface) (f .oldAlternate) (f .newWords) (f .oldWords) (f .old) (f .oldEntries)
 
 pub claim-context-length : (a : Claim) (ctx : List ℕ) → length (claimContext a ctx) ≡ length ctx
 unfolding claimContext

@@ -9,7 +9,7 @@ use borrow.Author.Tests.{leb-true, eq-eqb, ne-eqb}
 use lib.Dec.{eqb, leb}
 use lib.ListN.{length, getD, length-replicate}
 use Rattle.laws.proofs.Tests.{and-right}
-use Rattle.def.specs.Speed.{speedKnown}
+use Rattle.def.specs.Speed.{speedKnown, exponentOk, headerPacketSize}
 use Rattle.descriptor.specs.Word.{configurationValue}
 use Rattle.descriptor_list.specs.Valid.{configurations}
 use Rattle.hub.specs.Chain.{chainOk}
@@ -38,7 +38,7 @@ use Rattle.course_steps.proofs.Empty.{no-endpoints, no-ring}
 use Rattle.course_set_configuration.specs.SetConfiguration.{Settings, dropContext, restoreContext, valueContext, setEvaluate, setRestore, setConfigure, setCourse}
 use Rattle.course_set_configuration.proofs.Contexts.{set-stopped, set-to-restore, set-to-evaluate, set-configure-reads, set-restore-reads, set-evaluate-reads, drop-context-length}
 use Rattle.course_init.specs.Reading.{BringUp, Reading, nothingRead, Brought, brought}
-use Rattle.course_init.specs.Init.{step, bringUpSettings, bringUpSet, bringUpConfigs, bringUpDevice, bringUpConfiguration, bringUpPacket, bringUpHeader, bringUpAddress}
+use Rattle.course_init.specs.Init.{HeaderRead, step, bringUpSettings, bringUpSet, bringUpConfigs, bringUpDevice, bringUpConfiguration, bringUpPacket, bringUpHeader, bringUpAddress}
 
 -- The commands that its course comes to.
 comes-step : (o : List ℕ) (n : ℕ) (c : Command) (read : Reading) (ctx routes : List ℕ) (next : Course Brought) →
@@ -59,7 +59,7 @@ module _ (a : BringUp) (spacing : ℕ) (ctx routes : List ℕ) where
       (translatorOf (a .speed) (a .hubs) (a .hasParent) (a .parent) (a .port)) (a .rootPort) (a .ring) ctx
 
   unfoldable pub sized : List ℕ
-  sized = written spacing (maxPacketWrites (a .packet)) addressed
+  sized = written spacing (maxPacketWrites (a .speed) (a .packet)) addressed
 
   unfoldable pub settings : Settings
   settings = bringUpSettings a spacing
@@ -70,14 +70,15 @@ module _ (a : BringUp) (spacing : ℕ) (ctx routes : List ℕ) where
     unfolding addressed bringUpAddress
     bring-up-at-address z = cut-step o _ 0 _ _ _ routes _ (comes-self o 0 (bringUpAddress a spacing ctx routes)) z
 
-    to-packet : AllDone o 0 2 → a .header ≡ 8 → Comes o 0 (bringUpAddress a spacing ctx routes) 2 (bringUpPacket a spacing addressed routes)
+    to-packet : AllDone o 0 2 → HeaderRead a → Comes o 0 (bringUpAddress a spacing ctx routes) 2 (bringUpPacket a spacing addressed routes)
     unfolding addressed bringUpAddress bringUpHeader
     to-packet h e =
         comes-then o (comes-step o 0 _ _ _ routes _ (h 0 (omega arith) (omega arith)))
         (comes-then o (comes-step o 1 _ _ _ routes _ (h 1 (omega arith) (omega arith)))
-        (comes-true o 2 (eqb (a .header) 8) _ _ (eq-eqb (a .header) 8 e)))
+        (comes-then o (comes-true o 2 (eqb (a .header) 8) _ _ (eq-eqb (a .header) 8 (e .0)))
+        (comes-true o 2 (exponentOk (a .speed) (a .packet)) _ _ (e .1))))
 
-    pub bring-up-at-packet : AllDone o 0 2 → a .header ≡ 8 → outcomeAt o 2 ≡ sent.Cut →
+    pub bring-up-at-packet : AllDone o 0 2 → HeaderRead a → outcomeAt o 2 ≡ sent.Cut →
         CutHere o (bringUpAddress a spacing ctx routes) 2 command.Evaluate (brought answer.Cut nothingRead sized routes)
     unfolding sized bringUpPacket
     bring-up-at-packet h e z = cut-step o _ 2 _ _ _ routes _ (to-packet h e) z
@@ -90,7 +91,7 @@ module _ (a : BringUp) (spacing : ℕ) (ctx routes : List ℕ) where
         (comes-then o (comes-step o n _ _ _ routes _ (h n (omega arith) (omega arith)))
         (configs k (i + 1) (n + 1) (λ j l m. h j (omega arith) (omega arith))))
 
-    to-set : AllDone o 0 (5 + configurations (a .list)) → a .header ≡ 8 → 0 < length (a .list) →
+    to-set : AllDone o 0 (5 + configurations (a .list)) → HeaderRead a → 0 < length (a .list) →
         Comes o 0 (bringUpAddress a spacing ctx routes) (5 + configurations (a .list)) (bringUpSet a spacing sized routes)
     unfolding sized bringUpPacket bringUpConfiguration bringUpDevice
     to-set h e some =
@@ -121,7 +122,7 @@ module _ (a : BringUp) (spacing : ℕ) (ctx routes : List ℕ) where
   unfolding withReplaced moved replaced oldMatch newFree cleared published
   none-moved = refl
 
-  module _ (o : List ℕ) (e : a .header ≡ 8) (some : 0 < length (a .list)) where
+  module _ (o : List ℕ) (e : HeaderRead a) (some : 0 < length (a .list)) where
     set-part : {n : ℕ} {d : Course End} → AllDone o 0 (5 + configurations (a .list)) →
         Comes o (5 + configurations (a .list)) (setCourse settings sized routes) n d →
         Comes o 0 (bringUpAddress a spacing ctx routes) n (then d ending)
@@ -196,9 +197,11 @@ module _ (a : BringUp) (spacing : ℕ) (ctx routes : List ℕ) (sp : Spaced spac
   addressed-length = written-length _ _ _ ∙ length-replicate (length ctx) 0
 
   -- the packet size
-  pub bring-up-packet-reads : a .packet < 2 ^ 8 → MaxPacketReads spacing (a .packet) (addressed a spacing ctx routes) (sized a spacing ctx routes)
+  pub bring-up-packet-reads : a .packet < 2 ^ 8 → HeaderRead a →
+      MaxPacketReads spacing (headerPacketSize (a .speed) (a .packet)) (addressed a spacing ctx routes) (sized a spacing ctx routes)
   unfolding sized
-  bring-up-packet-reads byte = max-packet-promise spacing (a .packet) (addressed a spacing ctx routes) (rw addressed-length sp) byte
+  bring-up-packet-reads byte e =
+      max-packet-promise spacing (a .speed) (a .packet) (addressed a spacing ctx routes) (rw addressed-length sp) byte (e .1)
 
   sized-length : length (sized a spacing ctx routes) ≡ length ctx
   unfolding sized

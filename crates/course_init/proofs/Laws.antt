@@ -8,6 +8,7 @@ use borrow.Author.Tests.{eqb-true, eq-eqb}
 use lib.Dec.{eqb}
 use lib.ListN.{length, length-append}
 use Rattle.laws.proofs.Tests.{not-both}
+use Rattle.def.specs.Speed.{exponentOk}
 use Rattle.descriptor_list.specs.Valid.{configurations}
 use Rattle.transfer.specs.declared.Replaced.the-variants as replace
 use Rattle.transfer.specs.Routes.{oldMatch, newFree, cleared, published, replaced, moved, withReplaced}
@@ -54,6 +55,10 @@ module _ (a : BringUp) (routes : List ℕ) where
   short-facts : (read : Reading) (ctx : List ℕ) → EndFacts a routes (brought answer.ShortHeader read ctx routes)
   unfolding number
   short-facts read ctx = record { table = refl; whole = λ e. absurd (omega (arith, e)) }
+
+  exponent-facts : (read : Reading) (ctx : List ℕ) → EndFacts a routes (brought answer.PacketExponent read ctx routes)
+  unfolding number
+  exponent-facts read ctx = record { table = refl; whole = λ e. absurd (omega (arith, e)) }
 
   step-facts : (o : List ℕ) (n : ℕ) (c : Command) (read : Reading) (ctx : List ℕ) (next : Course Brought) →
       EndFacts a routes (result o (n + 1) next) → EndFacts a routes (result o n (step c read ctx routes next))
@@ -108,18 +113,19 @@ module _ (a : BringUp) (routes : List ℕ) where
         step-facts o n _ _ _ _
         (step-facts o (n + 1) _ _ _ _ (step-facts o (n + 1 + 1) _ _ _ _ (read-facts _ (n + 1 + 1 + 1) _ refl)))
 
-    header-facts : (ctx : List ℕ) (n : ℕ) (b : Bool) →
+    header-facts : (ctx : List ℕ) (n : ℕ) (b t : Bool) →
         EndFacts a routes
         (result o n
-        (cond b (bringUpPacket a spacing ctx routes) (ends (brought answer.ShortHeader nothingRead ctx routes))))
+        (cond b (cond t (bringUpPacket a spacing ctx routes) (ends (brought answer.PacketExponent nothingRead ctx routes))) (ends (brought answer.ShortHeader nothingRead ctx routes))))
     unfolding result
-    header-facts ctx n true = packet-facts ctx n
-    header-facts ctx n false = short-facts nothingRead ctx
+    header-facts ctx n true true = packet-facts ctx n
+    header-facts ctx n true false = exponent-facts nothingRead ctx
+    header-facts ctx n false t = short-facts nothingRead ctx
 
     -- of every end of the course
     pub address-facts : (ctx : List ℕ) (n : ℕ) → EndFacts a routes (result o n (bringUpAddress a spacing ctx routes))
     unfolding bringUpAddress bringUpHeader
-    address-facts ctx n = step-facts o n _ _ _ _ (step-facts o (n + 1) _ _ _ _ (header-facts _ (n + 1 + 1) (eqb (a .header) 8)))
+    address-facts ctx n = step-facts o n _ _ _ _ (step-facts o (n + 1) _ _ _ _ (header-facts _ (n + 1 + 1) (eqb (a .header) 8) (exponentOk (a .speed) (a .packet))))
 
 -- Where every command is done.
 
@@ -167,20 +173,21 @@ module _ (a : BringUp) (spacing : ℕ) (routes o : List ℕ) where
         ∙ step-done o 4 _ _ _ routes _ (h 4 (omega arith) (omega arith)))
         ∙ read-done _ 5 (eqb (length (a .list)) 0) (λ j l m. h j (omega arith) (omega arith))
 
-    header-done : (ctx : List ℕ) (b : Bool) → b ≡ true →
-        (result o 2 (cond b (bringUpPacket a spacing ctx routes) (ends (brought answer.ShortHeader nothingRead ctx routes)))) .answer
+    header-done : (ctx : List ℕ) (b t : Bool) → b ≡ true → t ≡ true →
+        (result o 2 (cond b (cond t (bringUpPacket a spacing ctx routes) (ends (brought answer.PacketExponent nothingRead ctx routes))) (ends (brought answer.ShortHeader nothingRead ctx routes)))) .answer
         ≡ answer.Accepted
-    header-done ctx true e = packet-done ctx
-    header-done ctx false e = not-both false e refl
+    header-done ctx true true e f = packet-done ctx
+    header-done ctx true false e f = not-both false f refl
+    header-done ctx false t e f = not-both false e refl
 
-    -- with a header of eight bytes it is accepted
-    pub address-done : (ctx : List ℕ) → a .header ≡ 8 → (result o 0 (bringUpAddress a spacing ctx routes)) .answer ≡ answer.Accepted
+    -- with a header of eight bytes, whose packet size is one of the speed, it is accepted
+    pub address-done : (ctx : List ℕ) → a .header ≡ 8 → exponentOk (a .speed) (a .packet) ≡ true → (result o 0 (bringUpAddress a spacing ctx routes)) .answer ≡ answer.Accepted
     unfolding bringUpAddress bringUpHeader
-    address-done ctx e =
+    address-done ctx e f =
         ap (λ (e : Brought). e .answer)
         (step-done o 0 _ _ _ routes _ (h 0 (omega arith) (omega arith))
         ∙ step-done o 1 _ _ _ routes _ (h 1 (omega arith) (omega arith)))
-        ∙ header-done _ (eqb (a .header) 8) (eq-eqb (a .header) 8 e)
+        ∙ header-done _ (eqb (a .header) 8) _ (eq-eqb (a .header) 8 e) f
 
 -- How many words are logged.
 
@@ -225,19 +232,20 @@ module _ (a : BringUp) (spacing : ℕ) (routes o : List ℕ) where
       (step-words o (n + 1) _ _ _ _ routes _
       (step-words o (n + 1 + 1) _ _ _ _ routes _ (read-few _ (n + 1 + 1 + 1) (eqb (length (a .list)) 0))))
 
-  header-few : (ctx : List ℕ) (n : ℕ) (b : Bool) →
-      length (words o n (cond b (bringUpPacket a spacing ctx routes) (ends (brought answer.ShortHeader nothingRead ctx routes))))
+  header-few : (ctx : List ℕ) (n : ℕ) (b t : Bool) →
+      length (words o n (cond b (cond t (bringUpPacket a spacing ctx routes) (ends (brought answer.PacketExponent nothingRead ctx routes))) (ends (brought answer.ShortHeader nothingRead ctx routes))))
       ≤ suc (suc (suc (configurations (a .list) + 3)))
   unfolding words
-  header-few ctx n true = packet-few ctx n
-  header-few ctx n false = omega arith
+  header-few ctx n true true = packet-few ctx n
+  header-few ctx n true false = omega arith
+  header-few ctx n false t = omega arith
 
   address-few :
       (ctx : List ℕ) (n : ℕ) →
       length (words o n (bringUpAddress a spacing ctx routes)) ≤ suc (suc (suc (suc (suc (configurations (a .list) + 3)))))
   unfolding bringUpAddress bringUpHeader
   address-few ctx n =
-      step-words o n _ _ _ _ routes _ (step-words o (n + 1) _ _ _ _ routes _ (header-few _ (n + 1 + 1) (eqb (a .header) 8)))
+      step-words o n _ _ _ _ routes _ (step-words o (n + 1) _ _ _ _ routes _ (header-few _ (n + 1 + 1) (eqb (a .header) 8) (exponentOk (a .speed) (a .packet))))
 
   -- at most eight, and one for each configuration
   pub address-words : (ctx : List ℕ) → length (words o 0 (bringUpAddress a spacing ctx routes)) ≤ 8 + configurations (a .list)

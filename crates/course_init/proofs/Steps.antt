@@ -126,13 +126,19 @@ module _
     unfolding orEnded readUpTo
     stopped-after a k e = stopped (readUpTo a k) ctx routes next h ∙ rw (e, not-done s h)
 
--- a header that is too short
-pub short-header : (o list ctx routes log : List ℕ) (some : Course Brought) (b : Bool) (rest : Played Brought) → validList list ≡ true →
-    b ≡ false →
-    played o 2 (cond b some (ends (brought answer.ShortHeader nothingRead ctx routes))) log
-    ≡ orEnded (record { answer = answer.ShortHeader; count = 2; configured = false; value = 0; configurations = 0 }) list ctx routes log rest
+-- a header that is refused
+pub header-refused : (o list ctx routes log : List ℕ) (x : Answer) (r : InitEnd) (rest : Played Brought) (course : Course Brought) →
+    validList list ≡ true → isAccepted x ≡ false →
+    r ≡ record { answer = x; count = 2; configured = false; value = 0; configurations = 0 } →
+    course ≡ ends (brought x nothingRead ctx routes) →
+    played o 2 course log ≡ orEnded r list ctx routes log rest
 unfolding orEnded nothingRead number
-short-header o list ctx routes log some b rest v e = rw (e, played-ends, valid-none list v)
+header-refused o list ctx routes log x r rest course v n e f = rw (f, e, n, played-ends, valid-none list v)
+
+-- it is no acceptance
+pub none-refused : {A : Type 0} (x : Answer) (r : InitEnd) → isAccepted x ≡ false →
+    r ≡ record { answer = x; count = 2; configured = false; value = 0; configurations = 0 } → isAccepted (r .answer) ≡ true → A
+none-refused x r n e t = not-both (isAccepted x) (ap (λ (q : InitEnd). isAccepted (q .answer)) (sym e) ∙ t) n
 
 -- Configuration descriptors, of which i are read.
 module _ (a : BringUp) (spacing : ℕ) (ctx routes o log : List ℕ) where
@@ -268,7 +274,7 @@ module _
 
   module _
       (ok : r .answer ≡ answer.Accepted) (ctx₂ log₂ : List ℕ) (t : InitEnd)
-      (packet : ctx₂ ≡ written spacing (maxPacketWrites (a .packet)) ctx₁)
+      (packet : ctx₂ ≡ written spacing (maxPacketWrites (a .speed) (a .packet)) ctx₁)
       (descriptors :
       played o 2 (step command.Evaluate nothingRead ctx₂ routes (bringUpConfiguration a spacing ctx₂ routes)) log₁
       ≡ orEnded t (a .list) ctx₂ routes log₂ (afterRead t o a spacing ctx₂ routes log₂)) where

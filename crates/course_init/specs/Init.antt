@@ -1,9 +1,11 @@
 -- The course of a bring-up after its checks, with control's route registered: `Device::init` of the original; 01, "Course of each call".
 use Prim.Native.Nat.{ℕ, zero, suc, _+_}
+use mathlib.Core.Path.{_≡_}
 use mathlib.Core.Bool.{true, cond}
 use mathlib.Core.List.{List, []}
 use lib.Dec.{eqb}
 use lib.ListN.{length, getD}
+use Rattle.def.specs.Speed.{exponentOk}
 use Rattle.descriptor.specs.Word.{configurationValue}
 use Rattle.descriptor_list.specs.Valid.{configurations}
 use Rattle.hub.specs.Route.{routeString}
@@ -71,14 +73,20 @@ bringUpConfiguration a spacing ctx routes =
 -- The control endpoint's packet size is told to the controller.
 unfoldable pub bringUpPacket : BringUp → ℕ → List ℕ → List ℕ → Course Brought
 bringUpPacket a spacing ctx routes =
-    let next = written spacing (maxPacketWrites (a .packet)) ctx in
+    let next = written spacing (maxPacketWrites (a .speed) (a .packet)) ctx in
     step command.Evaluate nothingRead next routes (bringUpConfiguration a spacing next routes)
 
--- It is read in a header of eight bytes.
+-- A header in order: eight bytes, and a packet byte that a device of this speed may have.
+abbrev pub HeaderRead : BringUp → Type 0
+HeaderRead a = (a .header ≡ 8) × (exponentOk (a .speed) (a .packet) ≡ true)
+
+-- It is read in a header of eight bytes, which says one that a device of this speed may have.
 unfoldable pub bringUpHeader : BringUp → ℕ → List ℕ → List ℕ → Course Brought
 bringUpHeader a spacing ctx routes =
     step command.ReadHeader nothingRead ctx routes
-    (cond (eqb (a .header) 8) (bringUpPacket a spacing ctx routes)
+    (cond (eqb (a .header) 8)
+    (cond (exponentOk (a .speed) (a .packet)) (bringUpPacket a spacing ctx routes)
+    (ends (brought answer.PacketExponent nothingRead ctx routes)))
     (ends (brought answer.ShortHeader nothingRead ctx routes)))
 
 -- The device is addressed, over a context of all zero.

@@ -12,6 +12,7 @@ ghost use mathlib.Core.Bool.{true, false};
 ghost use mathlib.Core.List.{List};
 ghost use Prim.Native.Nat.{ℕ, _<_, _≤_};
 ghost use lib.ListN.{length};
+ghost use Rattle.def.specs.Speed.{exponentOk};
 ghost use Rattle.command.specs.Command.{LOG-ROOM};
 ghost use Rattle.descriptor_list.specs.Valid.{validList};
 ghost use Rattle.answer.specs.Answer.{isAccepted};
@@ -60,6 +61,19 @@ fn before_reading(s: Sent, count: usize) -> InitEnd
     }
 }
 
+// How it stands after a header that is refused.
+fn header_refused(answer: Answer) -> InitEnd
+    ensures { λ r. ⌜ r ≡ record { answer = answer; count = 2; configured = false; value = 0; configurations = 0 } ⌝ }
+{
+    InitEnd {
+        answer,
+        count: 2,
+        configured: false,
+        value: 0,
+        configurations: 0,
+    }
+}
+
 // How it stands after a command once the value was read.
 fn after_reading(s: Sent, count: usize, value: u8, configurations: usize) -> InitEnd
     ensures { λ r. ⌜ r ≡ record { answer = answerOf s; count = count; configured = true; value = value; configurations = configurations } ⌝ }
@@ -97,7 +111,7 @@ pub fn address(
     let Answer::Accepted = answer else {
         return addressed;
     };
-    context_writer::setup_max_packet(ctx, spacing, a.packet);
+    context_writer::setup_max_packet(ctx, spacing, a.speed, a.packet);
     let read = read_descriptors(log, outcomes, a, list);
     let answer = read.answer;
     let Answer::Accepted = answer else {
@@ -112,6 +126,7 @@ pub fn address(
 // Sends Address, and reads eight bytes of the device descriptor, the packet size among them.
 fn read_header(log: &mut [u32], outcomes: &[u8], a: BringUpArgs) -> InitEnd
     requires { ⌜ LOG-ROOM ≤ length (now log) ⌝ }
+    ensures { λ r. ⌜ (isAccepted (r .answer) ≡ true → exponentOk (a .speed) (a .packet) ≡ true) ⌝ }
     ensures { λ r. ⌜ ((hubs list ctx routes : List ℕ) (spacing : ℕ) → validList list ≡ true → played (now (outcomes .entry)) 0 (step commands.Address nothingRead ctx routes (bringUpHeader (bringUpOf a hubs list) spacing ctx routes)) (now (log .entry)) ≡ orEnded r list ctx routes (now (log .exit)) (played (now (outcomes .entry)) 2 (bringUpPacket (bringUpOf a hubs list) spacing ctx routes) (now (log .exit)))) ⌝ }
 {
     let address = command::send(log, outcomes, 0, Command::Address);
@@ -129,13 +144,10 @@ fn read_header(log: &mut [u32], outcomes: &[u8], a: BringUpArgs) -> InitEnd
         }
     }
     if a.header != 8 {
-        return InitEnd {
-            answer: Answer::ShortHeader,
-            count: 2,
-            configured: false,
-            value: 0,
-            configurations: 0,
-        };
+        return header_refused(Answer::ShortHeader);
+    }
+    if !def::exponent_ok(a.speed, a.packet) {
+        return header_refused(Answer::PacketExponent);
     }
     before_reading(header, 2)
 }

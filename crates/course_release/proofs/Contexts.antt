@@ -3,7 +3,6 @@ use Prim.Native.Nat.{ℕ, _+_, _^_, _<_}
 use mathlib.Core.Path.{_≡_, refl}
 use mathlib.Core.List.{List, []}
 use native.Mathlib.Omega.{arith}
-use lib.Dec.{lit<}
 use lib.ListN.{length}
 use Rattle.answer.specs.declared.Answer.the-variants as answer
 use Rattle.command.specs.declared.Command.the-variants as command
@@ -17,7 +16,6 @@ use Rattle.context.specs.Steps.{contextEntries}
 use Rattle.context.specs.Promises.{Endpoints, ConfigureReads}
 use Rattle.context.proofs.Promises.{configure-promise}
 use Rattle.record_endpoint.specs.EndpointMap.{queueDcis}
-use Rattle.transfer.specs.Routes.{ringFor}
 use Rattle.course_steps.specs.End.{settingsKept}
 use Rattle.course_steps.proofs.Empty.{no-endpoints, no-ring}
 use Rattle.course_steps.proofs.Laws.{length-dcis}

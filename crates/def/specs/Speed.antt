@@ -1,5 +1,5 @@
-use Prim.Native.Nat.{ℕ}
-use mathlib.Core.Bool.{Bool, cond, _&&_}
+use Prim.Native.Nat.{ℕ, _^_}
+use mathlib.Core.Bool.{Bool, not, cond, _&&_, _||_}
 use lib.Dec.{eqb, leb}
 
 -- The xHCI default speed ids.
@@ -21,6 +21,9 @@ SUPER-PLUS = 5
 unfoldable pub speedKnown : ℕ → Bool
 speedKnown s = leb FULL s && leb s SUPER-PLUS
 
+unfoldable pub isSuper : ℕ → Bool
+isSuper s = leb SUPER s && leb s SUPER-PLUS
+
 -- First control packet size, by speed; 0 at an unknown one.
 unfoldable pub firstPacketSize : ℕ → ℕ
 firstPacketSize s =
@@ -28,8 +31,12 @@ firstPacketSize s =
     (cond (eqb s LOW) 8
     (cond (eqb s HIGH) 64
     (cond (eqb s SUPER) 512
-    (cond (eqb s SUPER-PLUS) 1024 0))))
+    (cond (eqb s SUPER-PLUS) 512 0))))
 
--- `setup_max_packet`: byte 0 means 8; every other byte is the size itself.
-unfoldable pub headerPacketSize : ℕ → ℕ
-headerPacketSize b = cond (eqb b 0) 8 b
+-- The packet byte of the device descriptor's header, at speeds 4 and 5 an exponent: USB 3.2, section 9.6.1, knows 9 alone.
+unfoldable pub exponentOk : ℕ → ℕ → Bool
+exponentOk s b = not (isSuper s) || eqb b 9
+
+-- `setup_max_packet`: the size that the byte says. At speeds 1 to 3, 0 means 8 and every other byte is the size itself.
+unfoldable pub headerPacketSize : ℕ → ℕ → ℕ
+headerPacketSize s b = cond (isSuper s) (2 ^ b) (cond (eqb b 0) 8 b)

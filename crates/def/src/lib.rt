@@ -1,6 +1,7 @@
 // Slot and endpoint numbers, speeds, and the packet sizes of the control endpoint (def.rs, mod.rs and `setup_max_packet` of the original).
 ghost use mathlib.Core.Path.{_≡_};
-ghost use Rattle.def.specs.Speed.{speedKnown, firstPacketSize, headerPacketSize};
+ghost use mathlib.Core.Bool.{true};
+ghost use Rattle.def.specs.Speed.{speedKnown, firstPacketSize, exponentOk, headerPacketSize};
 
 // A device slot of the controller: 1 to N.
 pub struct SlotId(pub u8);
@@ -32,7 +33,7 @@ pub fn speed_known(speed: u8) -> bool
     speed <= SUPER_PLUS
 }
 
-const FIRST_PACKET_SIZES: [u16; 6] = [0, 64, 8, 64, 512, 1024];
+const FIRST_PACKET_SIZES: [u16; 6] = [0, 64, 8, 64, 512, 512];
 
 // The control endpoint's packet size before the device's own is read; 0 at an unknown speed.
 pub fn parse_default_max_packet_size_from_port_speed(speed: u8) -> u16
@@ -45,12 +46,28 @@ pub fn parse_default_max_packet_size_from_port_speed(speed: u8) -> u16
     FIRST_PACKET_SIZES[i]
 }
 
-// The control endpoint's packet size from bMaxPacketSize0 of the device descriptor.
-pub fn header_packet_size(byte: u8) -> u16
-    ensures { λ r. ⌜ r ≡ headerPacketSize byte ⌝ }
+// The only exponent of a packet size that a SuperSpeed device may have: 2 to the ninth.
+const SUPER_EXPONENT: u8 = 9;
+
+const SUPER_PACKET_SIZE: u16 = 512;
+
+// Whether bMaxPacketSize0 of the device descriptor is one that a device of this speed may have.
+pub fn exponent_ok(speed: u8, byte: u8) -> bool
+    ensures { λ r. ⌜ r ≡ exponentOk speed byte ⌝ }
 {
-    if byte == 0 {
-        return 8;
+    match speed {
+        SUPER..=SUPER_PLUS => byte == SUPER_EXPONENT,
+        _ => true,
     }
-    byte as u16
+}
+
+// The control endpoint's packet size from bMaxPacketSize0 of the device descriptor.
+pub fn header_packet_size(speed: u8, byte: u8) -> u16
+    requires { ⌜ exponentOk speed byte ≡ true ⌝ }
+    ensures { λ r. ⌜ r ≡ headerPacketSize speed byte ⌝ }
+{
+    match speed {
+        SUPER..=SUPER_PLUS => SUPER_PACKET_SIZE,
+        _ => if byte == 0 { 8 } else { byte as u16 },
+    }
 }

@@ -11,8 +11,8 @@ use lib.Count.{leadingZeros}
 use lib.Dec.{eqb, leb}
 use Rattle.laws.proofs.Computed.{all, all-below}
 use Rattle.laws.proofs.Tests.{and-left, and-right, not-both}
-use Rattle.def.specs.Speed.{HIGH, SUPER-PLUS}
-use Rattle.descriptor.specs.Endpoint.{dciOf, endpointType, halvings, periodicInterval, xhciInterval, isPeriodic, periodicBurst, esitPayload}
+use Rattle.def.specs.Speed.{FULL, HIGH, SUPER-PLUS}
+use Rattle.descriptor.specs.Endpoint.{dciOf, endpointType, halvings, heldExponent, periodicInterval, isochronousInterval, xhciInterval, isPeriodic, periodicBurst, esitPayload}
 use Rattle.descriptor.specs.Word.{ENDPOINT, kind, directionIn, endpointNumber, typeNumber, transferType, endpointDescriptor, endpointOk, wordOk}
 use Rattle.descriptor.specs.declared.TransferType.{TransferType}
 use Rattle.descriptor.specs.declared.TransferType.the-variants.{Control, Isochronous, Bulk, Interrupt}
@@ -137,7 +137,7 @@ endpoint-type-small Interrupt address h = omega arith
 -- The interval at speeds 3 to 5.
 pub interval-exponent :
     (byte speed : ℕ) → HIGH ≤ speed → speed ≤ SUPER-PLUS → periodicInterval byte speed ≡ min (max byte 1) 16 - 1
-unfolding periodicInterval
+unfolding periodicInterval heldExponent
 interval-exponent byte speed low high = rw (le-leb 3 speed low, le-leb speed 5 high)
 
 halved : ℕ → Bool
@@ -172,11 +172,19 @@ periodic-small byte speed h = go (decLt speed 3) (decLt 5 speed)
     go (no l) (yes g) = zeros (inr g)
     go (no l) (no g) = rw (interval-exponent byte speed (omega arith) (omega arith)) (omega arith)
 
+isochronous-small : (byte speed : ℕ) → byte < 256 → isochronousInterval byte speed < 256
+unfolding isochronousInterval heldExponent
+isochronous-small byte speed h = go (eqb speed FULL)
+  where
+    go : (full : Bool) → cond full (min (max byte 1) 16 + 2) (periodicInterval byte speed) < 256
+    go true = omega arith
+    go false = periodic-small byte speed h
+
 -- Interval is a field of eight bits.
 pub interval-small : (byte : ℕ) (t : TransferType) (speed : ℕ) → byte < 256 → xhciInterval byte t speed < 256
 unfolding xhciInterval
 interval-small byte Control speed h = h
-interval-small byte Isochronous speed h = periodic-small byte speed h
+interval-small byte Isochronous speed h = isochronous-small byte speed h
 interval-small byte Bulk speed h = h
 interval-small byte Interrupt speed h = periodic-small byte speed h
 

@@ -2,7 +2,7 @@
 use Prim.Native.Nat.{ℕ, zero, suc, _+_, _-_, _*_, _/_, _%_, min, max}
 use mathlib.Core.Bool.{Bool, true, false, cond, _&&_}
 use lib.Dec.{eqb, leb}
-use Rattle.def.specs.Speed.{HIGH, SUPER-PLUS}
+use Rattle.def.specs.Speed.{FULL, HIGH, SUPER-PLUS}
 use Rattle.descriptor.specs.declared.TransferType.{TransferType}
 use Rattle.descriptor.specs.declared.TransferType.the-variants.{Control, Isochronous, Bulk, Interrupt}
 
@@ -22,15 +22,23 @@ unfoldable pub halvings : ℕ → ℕ → ℕ
 halvings zero b = 0
 halvings (suc k) b = cond (leb b 1) 0 (suc (halvings k (b / 2)))
 
--- At speeds 3 to 5 the byte is an exponent, held to 1 through 16, less one; otherwise it is milliseconds, in eighths as a power of two.
+-- A byte that is an exponent, held to 1 through 16.
+unfoldable pub heldExponent : ℕ → ℕ
+heldExponent byte = min (max byte 1) 16
+
+-- At speeds 3 to 5 the byte is an exponent, less one; otherwise it is milliseconds, in eighths as a power of two.
 unfoldable pub periodicInterval : ℕ → ℕ → ℕ
 periodicInterval byte speed =
-    cond (leb HIGH speed && leb speed SUPER-PLUS) (min (max byte 1) 16 - 1) (3 + halvings 8 byte)
+    cond (leb HIGH speed && leb speed SUPER-PLUS) (heldExponent byte - 1) (3 + halvings 8 byte)
+
+-- Of an isochronous endpoint it is an exponent at Full speed too, there of milliseconds: xHCI 1.2, section 6.2.3.6.
+unfoldable pub isochronousInterval : ℕ → ℕ → ℕ
+isochronousInterval byte speed = cond (eqb speed FULL) (heldExponent byte + 2) (periodicInterval byte speed)
 
 -- `calculate_xhci_interval`: the byte itself where the endpoint is not periodic.
 unfoldable pub xhciInterval : ℕ → TransferType → ℕ → ℕ
 xhciInterval byte Control speed = byte
-xhciInterval byte Isochronous speed = periodicInterval byte speed
+xhciInterval byte Isochronous speed = isochronousInterval byte speed
 xhciInterval byte Bulk speed = byte
 xhciInterval byte Interrupt speed = periodicInterval byte speed
 

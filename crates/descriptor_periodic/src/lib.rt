@@ -1,7 +1,7 @@
 // What an endpoint's descriptor says of its type, interval, burst and payload (device.rs and endpoint.rs of the original).
 use descriptor::TransferType;
 ghost use mathlib.Core.Path.{_≡_};
-ghost use Rattle.descriptor.specs.Endpoint.{endpointType, xhciInterval, isPeriodic, periodicBurst, esitPayload};
+ghost use Rattle.descriptor.specs.Endpoint.{endpointType, periodicInterval, isochronousInterval, xhciInterval, isPeriodic, periodicBurst, esitPayload};
 
 // EP Type of an endpoint's context.
 pub fn endpoint_type(t: TransferType, address: u8) -> u8
@@ -25,18 +25,36 @@ pub fn is_periodic(t: TransferType) -> bool
     }
 }
 
-// Interval of an endpoint's context, from bInterval. Of a periodic endpoint the byte is an exponent at speeds 3 to 5;
-// at the others its `ilog2` comes from the count of leading zeros.
-pub fn calculate_xhci_interval(byte: u8, t: TransferType, port_speed: u8) -> u8
-    ensures { λ r. ⌜ r ≡ xhciInterval byte t «port_speed» ⌝ }
+// From bInterval: at speeds 3 to 5 an exponent; at the others its `ilog2` comes from the count of leading zeros.
+fn periodic_interval(byte: u8, port_speed: u8) -> u8
+    ensures { λ r. ⌜ r ≡ periodicInterval byte «port_speed» ⌝ }
 {
-    if !is_periodic(t) {
-        return byte;
-    }
     let held = if byte < 1 { 1 } else { byte };
     match port_speed {
         def::HIGH..=def::SUPER_PLUS => if 16 < held { 15 } else { held - 1 },
         _ => (10 - u8::leading_zeros(held)) as u8,
+    }
+}
+
+// Of an isochronous endpoint bInterval is an exponent at Full speed too, there of milliseconds.
+fn isochronous_interval(byte: u8, port_speed: u8) -> u8
+    ensures { λ r. ⌜ r ≡ isochronousInterval byte «port_speed» ⌝ }
+{
+    if port_speed != def::FULL {
+        return periodic_interval(byte, port_speed);
+    }
+    let held = if byte < 1 { 1 } else { byte };
+    if 16 < held { 18 } else { held + 2 }
+}
+
+// Interval of an endpoint's context.
+pub fn calculate_xhci_interval(byte: u8, t: TransferType, port_speed: u8) -> u8
+    ensures { λ r. ⌜ r ≡ xhciInterval byte t «port_speed» ⌝ }
+{
+    match t {
+        TransferType::Isochronous => isochronous_interval(byte, port_speed),
+        TransferType::Interrupt => periodic_interval(byte, port_speed),
+        _ => byte,
     }
 }
 

@@ -1,13 +1,11 @@
 -- What the controller reads along the calls on a record: fields by the record and the call's arguments.
 use Prim.Native.Nat.{ℕ, _^_, _<_}
-use mathlib.Core.Path.{_≡_, refl, sym}
+use mathlib.Core.Path.{_≡_, refl}
 use mathlib.Core.Bool.{Bool, cond}
 use mathlib.Core.List.{List, []}
-use mathlib.Core.Logic.{inl, inr}
 use native.Mathlib.Omega.{arith}
 use lib.Dec.{lit<}
 use lib.ListN.{length, getD}
-use Rattle.laws.proofs.Cases.{Decided, decided}
 use Rattle.hub.specs.declared.think.ThinkTime.{ThinkTime}
 use Rattle.hub.specs.declared.think.ThinkTime.the-variants as think
 use Rattle.hub.specs.ThinkTime.{thinkTime}
@@ -20,7 +18,6 @@ use Rattle.context.proofs.Promises.{hub-promise}
 use Rattle.record_endpoint.specs.declared.endpoint_map.Owner.the-variants.{Interface}
 use Rattle.record_endpoint.specs.EndpointMap.{ownedRings, queuesOf, queueDcis}
 use Rattle.record_settings.specs.Held.{isHeld, alternateOf, settingWords, heldWords}
-use Rattle.record_settings.proofs.Laws.{alternate-none}
 use Rattle.record_checks.specs.Think.{thinkValue}
 use Rattle.course_release.specs.Release.{releaseContext}
 use Rattle.course_release.proofs.Contexts.{release-configure-reads}
@@ -76,20 +73,12 @@ module _ (d : Device) (f : SoundFacts d) (ctx : List ℕ) (sp : Spaced (d .spaci
         offered-reads (d .spacing) (d .«port_speed») i a old new rings dcis ctx _ (placed-setting (listOf d) (f .list) i a)
         (claim-configure-reads (claimIn d i a rings) claim-fits ctx sp)
 
-    -- the alternate that it holds, or 0
-    old-alternate : cond (isHeld i (heldOf d)) (alternateOf i (heldOf d)) 0 ≡ alternateOf i (heldOf d)
-    old-alternate = go (decided (isHeld i (heldOf d)))
-      where
-        go : Decided (isHeld i (heldOf d)) → cond (isHeld i (heldOf d)) (alternateOf i (heldOf d)) 0 ≡ alternateOf i (heldOf d)
-        go (inl e) = rw e
-        go (inr e) = rw e (sym (alternate-none i (heldOf d) e))
-
     -- The one that undoes it.
     pub undo-reads :
         ConfigureReads (d .spacing) (d .«port_speed») i (alternateOf i (heldOf d)) new old (queuesOf (ownedRings (Interface i) (endpointMapIn d))) dcis
         ctx (undoContext (claimIn d i a rings) ctx)
     unfolding claimIn
-    undo-reads = rw old-alternate at (claim-undo-reads (claimIn d i a rings) claim-fits ctx sp)
+    undo-reads = claim-undo-reads (claimIn d i a rings) claim-fits ctx sp
 
   -- A release.
   pub release-reads : (i : ℕ) → i < 2 ^ 8 →

@@ -1,7 +1,7 @@
 -- What a sound record gives to the promises on contexts: Dcis from 2 to 30, entries that fit their field, alternates that are bytes.
-use Prim.Native.Nat.{ℕ, zero, suc, _+_, _^_, _<_, _≤_, max}
-use mathlib.Core.Path.{_≡_, refl, sym, ap, _∙_}
-use mathlib.Core.Bool.{Bool, true, false, not, cond, _||_, _&&_}
+use Prim.Native.Nat.{ℕ, zero, suc, _+_, _^_, _<_, _≤_}
+use mathlib.Core.Path.{_≡_, refl, sym, _∙_}
+use mathlib.Core.Bool.{Bool, true, false, cond}
 use mathlib.Core.List.{List, [], _∷_, _++_}
 use mathlib.Core.Logic.{_⊎_, inl, inr, ⊎-elim}
 use native.Mathlib.Nat.{mod-lt}
@@ -10,9 +10,9 @@ use native.Mathlib.Omega.{arith}
 use borrow.Author.Tests.{eqb-true, eqb-false, eq-eqb, ne-eqb}
 use lib.Dec.{eqb}
 use lib.ListN.{length, getD, drop, List·getD-eq-default}
-use Rattle.laws.proofs.Tests.{and-left, and-right, not-both}
+use Rattle.laws.proofs.Tests.{and-right, not-both}
 use Rattle.laws.proofs.Cases.{Decided, decided, or-cases}
-use Rattle.descriptor.specs.Word.{kind, wordOk, endpointDescriptor, alternateSetting, ENDPOINT}
+use Rattle.descriptor.specs.Word.{endpointDescriptor, alternateSetting}
 use Rattle.descriptor.specs.Endpoint.{dciOf}
 use Rattle.descriptor.proofs.Laws.{endpoint-word, dci-word}
 use Rattle.descriptor_list.specs.Lookup.{findEndpoints, isAlternate, ofInterface}
@@ -21,17 +21,16 @@ use Rattle.descriptor_list.proofs.Laws.{found-alternate}
 use Rattle.transfer.specs.Routes.{Queue, queues, ringFor}
 use Rattle.context_block.specs.Blocks.{wordDci}
 use Rattle.context_block.specs.Promises.{someDci}
-use Rattle.context.specs.Place.{Write}
 use Rattle.context.specs.Steps.{addWrites, addAll, highestDci, wordDcis, contextEntries}
 use Rattle.context.specs.Promises.{Endpoints, ConfigureReads}
 use Rattle.record_endpoint.specs.declared.endpoint_map.EndpointMap.{EndpointMap}
 use Rattle.record_endpoint.specs.declared.endpoint_map.Owner.{Owner}
 use Rattle.record_endpoint.specs.declared.endpoint_map.Owner.the-variants.{Interface}
-use Rattle.record_endpoint.specs.Order.{PLACES, dciAt, placeOf}
-use Rattle.record_endpoint.specs.EndpointMap.{gathered, isOwned, owns, tabulated, ownedRings, queuesOf, queueDcis, pendingRings}
+use Rattle.record_endpoint.specs.Order.{dciAt, placeOf}
+use Rattle.record_endpoint.specs.EndpointMap.{gathered, isOwned, owns, ownedRings, queuesOf, queueDcis, pendingRings}
 use Rattle.record_endpoint.proofs.Laws.{place-dci, queues-ring, owned-at, owned-length, pending-length}
-use Rattle.record_settings.specs.Held.{Held, isHeld, alternateOf, isFound, settingWords, heldWords, settingsSound}
-use Rattle.record_settings.specs.Match.{hasPlace, endpointsMatch}
+use Rattle.record_settings.specs.Held.{Held, isHeld, alternateOf, settingWords, heldWords, settingsSound}
+use Rattle.record_settings.specs.Match.{endpointsMatch}
 use Rattle.record_settings.proofs.Laws.{setting-word, setting-place, place-word, match-facts, held-found, sound-found, found-at, alternate-none}
 use Rattle.theorem_routing.proofs.Laws.{EndpointWords, each-dci, words-ring}
 

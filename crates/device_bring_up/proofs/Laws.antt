@@ -10,7 +10,7 @@ use lib.Dec.{eqb, leb}
 use lib.ListN.{length, getD, length-set}
 use lib.Seq.{getD-set-same, getD-set-other}
 use Rattle.laws.proofs.Tests.{not-both, and-left}
-use Rattle.def.specs.Speed.{speedKnown}
+use Rattle.def.specs.Speed.{speedKnown, exponentOk}
 use Rattle.descriptor_list.specs.Valid.{configurations, validList}
 use Rattle.hub.specs.Chain.{chainOk}
 use Rattle.record_ring.specs.Rings.{ringOk}
@@ -248,11 +248,11 @@ module _ (a : BringUp) (ctx routes log outcomes : List ℕ) where
       ((bringUp a ctx routes log outcomes) .device .usable ≡ false) ⊎ (sound ((bringUp a ctx routes log outcomes) .device) ≡ true)
   bring-up-sound = sound-of (bringUp a ctx routes log outcomes) (bring-up-cases a ctx routes log outcomes)
 
-  -- with the checks passed, a header of eight bytes and every outcome done it is accepted
-  pub bring-up-done : bringUpCheck a (length ctx) routes (length log) ≡ Pass → a .header ≡ 8 →
+  -- with the checks passed, a header of eight bytes, a packet size of the speed and every outcome done it is accepted
+  pub bring-up-done : bringUpCheck a (length ctx) routes (length log) ≡ Pass → a .header ≡ 8 → exponentOk (a .speed) (a .packet) ≡ true →
       AllDone outcomes 0 (8 + configurations (a .list)) → (bringUp a ctx routes log outcomes) .answer ≡ answer.Accepted
   unfolding bringUp onCheck broughtLeft played bringUpCourse
-  bring-up-done p e h = rw p (address-done a (spacingOf (length ctx)) (withRoute routes (a .slot) 1 (a .ring)) outcomes h ctx e)
+  bring-up-done p e f h = rw p (address-done a (spacingOf (length ctx)) (withRoute routes (a .slot) 1 (a .ring)) outcomes h ctx e f)
 
 -- the slot's own words after an accepted bring-up
 module _ (a : BringUp) (ctx routes log : List ℕ) (l : Left) (b : BroughtUp a ctx routes log l) where

@@ -4,6 +4,7 @@ use mathlib.Core.Path.{_≡_, sym, _∙_}
 use mathlib.Core.List.{List}
 use native.Mathlib.Omega.{arith}
 use lib.ListN.{length, length-set, getD-replicate}
+use Rattle.def.proofs.Laws.{exponent-fits}
 use Rattle.answer.specs.declared.Answer.the-variants as answer
 use Rattle.transfer.specs.Routes.{routeOf, routeIndex, withRoute}
 use Rattle.descriptor_list.proofs.Laws.{valid-configurations}
@@ -58,9 +59,9 @@ module _ (a : BringUp) (ctx routes log : List ℕ) (l : Left) (b : Brought a ctx
 
 pub bring-up-accepts : BringUpAccepted
 unfolding bringUpCheck
-bring-up-accepts a ctx routes log outcomes p header none done =
+bring-up-accepts a ctx routes log outcomes p header nine none done =
     let valid = passed a (length ctx) (length routes) (length log) (queueCheck a routes) p .0 .list in
     let e =
-    bring-up-done a ctx routes log outcomes p header
+    bring-up-done a ctx routes log outcomes p header (exponent-fits (a .speed) (a .packet) nine)
     (λ i low high. done-at outcomes _ i done (omega (arith, valid-configurations (a .list) valid))) in
     brought-up a ctx routes log _ (bring-up-accepted a ctx routes log outcomes e) e none (bring-up-values a ctx routes log outcomes e)

@@ -7,6 +7,7 @@ use mathlib.Core.Logic.{_⊎_, inl, inr}
 use borrow.Author.Tests.{eq-eqb}
 use lib.Dec.{eqb}
 use lib.ListN.{length}
+use Rattle.def.specs.Speed.{exponentOk}
 use Rattle.laws.proofs.Tests.{not-both}
 use Rattle.descriptor_list.specs.Valid.{configurations}
 use Rattle.answer.specs.declared.Answer.the-variants as answer
@@ -83,16 +84,19 @@ module _ (a : BringUp) (spacing : ℕ) (routes : List ℕ) where
   read-valued ctx false e = configs-valued e (configurations (a .list)) 0 ctx
 
   header-valued :
-      (ctx : List ℕ) (b : Bool) →
-      EachEnd (Valued a) (cond b (bringUpPacket a spacing ctx routes) (ends (brought answer.ShortHeader nothingRead ctx routes)))
+      (ctx : List ℕ) (b t : Bool) →
+      EachEnd (Valued a)
+      (cond b (cond t (bringUpPacket a spacing ctx routes) (ends (brought answer.PacketExponent nothingRead ctx routes)))
+      (ends (brought answer.ShortHeader nothingRead ctx routes)))
   unfolding EachEnd bringUpPacket bringUpConfiguration bringUpDevice number
-  header-valued ctx true =
+  header-valued ctx true true =
       step-valued _ _ _ _ (step-valued _ _ _ _ (step-valued _ _ _ _ (read-valued _ (eqb (length (a .list)) 0) refl)))
-  header-valued ctx false = other (brought answer.ShortHeader nothingRead ctx routes) refl
+  header-valued ctx true false = other (brought answer.PacketExponent nothingRead ctx routes) refl
+  header-valued ctx false t = other (brought answer.ShortHeader nothingRead ctx routes) refl
 
   pub valued : (o : List ℕ) (n : ℕ) (ctx : List ℕ) → Valued a (result o n (bringUpAddress a spacing ctx routes))
   unfolding bringUpAddress bringUpHeader
-  valued o n ctx = end-of (Valued a) o n _ (step-valued _ _ _ _ (step-valued _ _ _ _ (header-valued _ (eqb (a .header) 8))))
+  valued o n ctx = end-of (Valued a) o n _ (step-valued _ _ _ _ (step-valued _ _ _ _ (header-valued _ (eqb (a .header) 8) (exponentOk (a .speed) (a .packet)))))
 
 -- The record of an accepted bring-up.
 pub record Values (a : BringUp) (l : Left) : Type 0 where

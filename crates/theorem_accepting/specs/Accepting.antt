@@ -5,6 +5,8 @@ use mathlib.Core.Bool.{Bool, true, false, cond}
 use mathlib.Core.List.{List, [], _∷_, _++_}
 use lib.Dec.{eqb}
 use lib.ListN.{length, getD}
+use mathlib.Core.Logic.{_⊎_}
+use Rattle.def.specs.Speed.{SUPER, SUPER-PLUS}
 use Rattle.descriptor.specs.Word.{configurationValue}
 use Rattle.answer.specs.declared.Answer.the-variants as answer
 use Rattle.answer.specs.declared.Check.{Check}
@@ -82,12 +84,13 @@ pub record BroughtUp (a : BringUp) (ctx : List ℕ) (l : Left) : Type 0 where
   pub quarantined : quarantinedOf (l .device) ≡ []
   pub route : routeOf (l .routes) (a .slot) 1 ≡ a .ring
 
--- Its checks pass, the header has its eight bytes, and the slot has no routes yet.
+-- Its checks pass, the header has its eight bytes with, at SuperSpeed, the exponent 9, and the slot has no routes yet.
 abbrev pub BringUpAccepted : Type 0
 BringUpAccepted =
     (a : BringUp) (ctx routes log outcomes : List ℕ) →
     bringUpCheck a (length ctx) routes (length log) ≡ Pass →
     a .header ≡ 8 →
+    ((a .speed ≡ SUPER) ⊎ (a .speed ≡ SUPER-PLUS) → a .packet ≡ 9) →
     ((d : ℕ) → 2 ≤ d → d < 32 → routeOf routes (a .slot) d ≡ 0) →
     AllDone outcomes LOG-ROOM →
     BroughtUp a ctx (bringUp a ctx routes log outcomes)

@@ -5,7 +5,7 @@ use mathlib.Core.Bool.{Bool, true, false, cond, _&&_}
 use mathlib.Core.List.{List, [], _∷_}
 use lib.Dec.{eqb}
 use lib.ListN.{take, replicate}
-use Rattle.def.specs.Speed.{HIGH, SUPER, speedKnown, firstPacketSize, headerPacketSize}
+use Rattle.def.specs.Speed.{HIGH, SUPER, speedKnown, firstPacketSize, isSuper, exponentOk, headerPacketSize}
 use Rattle.laws.proofs.Distinct.{elem, distinct}
 use Rattle.hub.specs.declared.hub_word.HubInfo.{HubInfo}
 use Rattle.hub.specs.declared.think.ThinkTime.{ThinkTime}
@@ -16,7 +16,7 @@ use Rattle.hub.specs.Route.{ports, clamp, routeString}
 use Rattle.hub.specs.Route as hub-route
 use Rattle.hub.specs.ThinkTime.{thinkTime}
 use Rattle.descriptor.specs.Word.{directionIn, endpointNumber, typeNumber, transferType, endpointDescriptor, kind, configurationValue, interfaceNumber, alternateSetting, endpointOk, wordOk}
-use Rattle.descriptor.specs.Endpoint.{dciOf, endpointType, periodicInterval, xhciInterval, isPeriodic, periodicBurst, esitPayload}
+use Rattle.descriptor.specs.Endpoint.{dciOf, endpointType, heldExponent, periodicInterval, isochronousInterval, xhciInterval, isPeriodic, periodicBurst, esitPayload}
 use Rattle.descriptor_list.specs.Lookup.{endpointRun, ofInterface, isAlternate, findFrom, findEndpoints}
 use Rattle.descriptor_list.specs.Valid.{beginsWithConfiguration, wordsOk, runFits, runsFit, configurations, hasInterface, lastAlternate, interfaces, validList}
 use Rattle.context_field.specs.Field.{wordAt, putWord, readField, withBits, writeField}
@@ -192,6 +192,7 @@ cases ring =
     ∷ answered (bringUp (asked 1 HIGH 4 false list) ctx free log done) 16 0
     ∷ answered (bringUp usual ctx (first .routes) log done) 17 0
     ∷ answered (release (second .device) ctx free log done 0) 18 0
+    ∷ answered (bringUp (asked 1 SUPER 8 false list) ctx free log done) 19 0
     ∷ []
 
 abbrev pub isValue : ℕ → ThinkTime → Bool
@@ -225,5 +226,5 @@ allHold [] = true
 allHold (c ∷ cs) = caseHolds c && allHold cs
 
 pub all-hold : (ring : ℕ) → (allHold (cases ring) && allListed lists) ≡ true
-unfolding hub-route.routeOfPorts speedKnown hubInfo hubAt hubFits chainFrom chainOk ports clamp routeOf routeString thinkTime directionIn endpointNumber typeNumber transferType endpointDescriptor dciOf endpointType periodicInterval xhciInterval isPeriodic periodicBurst esitPayload wordAt putWord readField withBits writeField queues ringFor changed ringFields errorCount periodicFields burstOf basicFields endpointFields wordDci dropFlags inBlock onPart writeAt written blockAt readAt addWrites addAll highestDci wordDcis contextEntries configureWrites firstPacketSize headerPacketSize kind configurationValue interfaceNumber alternateSetting endpointOk wordOk endpointRun ofInterface isAlternate findFrom findEndpoints beginsWithConfiguration wordsOk runFits runsFit configurations hasInterface lastAlternate interfaces validList routeIndex withRoute registered withRegistered names oldMatch isFree newFree replaced cleared published moved withReplaced commandWord outcomeAt onSent then words result played resumeFrom resumeStoppedEndpoints orCode undoStops stopFrom stopEndpoints number codeOf ringOk ringsOk disjoint offerOk noEndpoints withEndpoint isActive handleOf endpointMapFrom endpointMapOf gathered endpointAt endpointsOf ownersOf owns isOwned tabulated ownedRings queuesOf pendingFrom pendingRings claimedRing claimedOwner claimedActive claimedEndpoints activeFrom withActive queueDcis queueRings addresses addressesFit padded addressAt dciAt placeOf heldIn interfacesOf alternatesOf isHeld alternateOf withoutSetting withSetting foundWords settingWords heldWords isFound eachSetting allFound settingsSound hasPlace placesOf agree eachFrom eachPlace ownsPlaces allOwn ownersHeld endpointsMatch addressesFree answerOf configureFailed releaseContext releasePublished releasePublish releaseResume releaseConfigure releaseCourse claimContext undoContext claimPublished claimPublish claimSwitchBack claimUndone claimUndo claimSwitch claimResume claimConfigure claimCourse dropContext restoreContext valueContext setEvaluate setPublished setPublish setRestored setRestore setSwitch setResume setConfigure setCourse onCheck thinkValue hubContext hubCourse hubLeft hubUpdate recordCheck isThought hubCheck claimCheck pendingOf claimIn quarantines claimRecord claim listOf endpointMapIn heldOf quarantinedOf withEndpoints withHeld withConfiguration withQuarantined unusable refused marked ended releaseCheck releaseIn releaseRecord release settingsIn bare setRecord setConfiguration slotSound countsFit listsSound ringsOf allRings ringsSound sound spacingOf bringUpCheck step firstConfigurations nothingRead readUpTo bringUpSettings bringUpSet bringUpConfigs bringUpDevice bringUpHeader bringUpCourse broughtRecord noDevice broughtLeft bringUp elem distinct left controller.configured isDone controlled enabledAfter doneWord heldQueues plainRoute isHeldDci without hasSetting settingOf effectOf heldAfter isUnheldRelease begun anew observed cutAt contextCut called start slotCheck deviceCheck queueCheck bringUpConfiguration bringUpPacket bringUpAddress seen addressFree recordAfter
+unfolding hub-route.routeOfPorts speedKnown hubInfo hubAt hubFits chainFrom chainOk ports clamp routeOf routeString thinkTime directionIn endpointNumber typeNumber transferType endpointDescriptor dciOf endpointType periodicInterval xhciInterval isPeriodic periodicBurst esitPayload wordAt putWord readField withBits writeField queues ringFor changed ringFields errorCount periodicFields burstOf basicFields endpointFields wordDci dropFlags inBlock onPart writeAt written blockAt readAt addWrites addAll highestDci wordDcis contextEntries configureWrites firstPacketSize headerPacketSize kind configurationValue interfaceNumber alternateSetting endpointOk wordOk endpointRun ofInterface isAlternate findFrom findEndpoints beginsWithConfiguration wordsOk runFits runsFit configurations hasInterface lastAlternate interfaces validList routeIndex withRoute registered withRegistered names oldMatch isFree newFree replaced cleared published moved withReplaced commandWord outcomeAt onSent then words result played resumeFrom resumeStoppedEndpoints orCode undoStops stopFrom stopEndpoints number codeOf ringOk ringsOk disjoint offerOk noEndpoints withEndpoint isActive handleOf endpointMapFrom endpointMapOf gathered endpointAt endpointsOf ownersOf owns isOwned tabulated ownedRings queuesOf pendingFrom pendingRings claimedRing claimedOwner claimedActive claimedEndpoints activeFrom withActive queueDcis queueRings addresses addressesFit padded addressAt dciAt placeOf heldIn interfacesOf alternatesOf isHeld alternateOf withoutSetting withSetting foundWords settingWords heldWords isFound eachSetting allFound settingsSound hasPlace placesOf agree eachFrom eachPlace ownsPlaces allOwn ownersHeld endpointsMatch addressesFree answerOf configureFailed releaseContext releasePublished releasePublish releaseResume releaseConfigure releaseCourse claimContext undoContext claimPublished claimPublish claimSwitchBack claimUndone claimUndo claimSwitch claimResume claimConfigure claimCourse dropContext restoreContext valueContext setEvaluate setPublished setPublish setRestored setRestore setSwitch setResume setConfigure setCourse onCheck thinkValue hubContext hubCourse hubLeft hubUpdate recordCheck isThought hubCheck claimCheck pendingOf claimIn quarantines claimRecord claim listOf endpointMapIn heldOf quarantinedOf withEndpoints withHeld withConfiguration withQuarantined unusable refused marked ended releaseCheck releaseIn releaseRecord release settingsIn bare setRecord setConfiguration slotSound countsFit listsSound ringsOf allRings ringsSound sound spacingOf bringUpCheck step firstConfigurations nothingRead readUpTo bringUpSettings bringUpSet bringUpConfigs bringUpDevice bringUpHeader bringUpCourse broughtRecord noDevice broughtLeft bringUp elem distinct left controller.configured isDone controlled enabledAfter doneWord heldQueues plainRoute isHeldDci without hasSetting settingOf effectOf heldAfter isUnheldRelease begun anew observed cutAt contextCut called start slotCheck deviceCheck queueCheck bringUpConfiguration bringUpPacket bringUpAddress seen addressFree recordAfter heldExponent isochronousInterval isSuper exponentOk
 all-hold ring = refl

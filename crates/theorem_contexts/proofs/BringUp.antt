@@ -1,9 +1,13 @@
 -- The contexts of a bring-up.
 use Prim.Native.Nat.{ℕ, _+_, _^_, _<_}
-use mathlib.Core.Path.{_≡_}
+use mathlib.Core.Path.{_≡_, refl}
+use mathlib.Core.Bool.{Bool, true, false, cond}
 use mathlib.Core.List.{List, []}
 use native.Mathlib.Omega.{arith}
+use lib.Dec.{eqb}
 use lib.ListN.{length, getD}
+use Rattle.def.specs.Speed.{isSuper, headerPacketSize}
+use Rattle.def.proofs.Laws.{exponent-nine}
 use Rattle.descriptor.specs.Word.{configurationValue}
 use Rattle.descriptor_list.specs.Valid.{configurations}
 use Rattle.descriptor_list.proofs.Laws.{valid-configurations}
@@ -16,14 +20,23 @@ use Rattle.command.proofs.Reached.{CutHere, dones-before, dones-past, fails-bef
 use Rattle.context.specs.Promises.{ConfigurationReads, ConfigureReads}
 use Rattle.course_set_configuration.specs.SetConfiguration.{dropContext, restoreContext, valueContext}
 use Rattle.course_init.specs.Reading.{BringUp, nothingRead, Brought, brought}
-use Rattle.course_init.specs.Init.{bringUpAddress}
+use Rattle.course_init.specs.Init.{HeaderRead, bringUpAddress}
 use Rattle.course_init.proofs.Contexts.{addressed, sized, settings, cutHere, bring-up-at-address, bring-up-at-packet, bring-up-at-configure, bring-up-at-restore, bring-up-at-evaluate, bring-up-address-reads, bring-up-packet-reads, bring-up-configure-reads, bring-up-restore-reads, bring-up-evaluate-reads}
 use Rattle.device.specs.Calls.{onCheck}
 use Rattle.context.specs.Place.{spacingOf}
 use Rattle.device_bring_up.specs.BringUp.{queueCheck, bringUpCheck, bringUpCourse, broughtLeft, bringUp}
 use Rattle.device_bring_up.proofs.Checks.{Passed, passed}
-use Rattle.theorem_contexts.specs.Contexts.{Byte, done, failed, At, BringUpReads, BringUpContexts}
+use Rattle.theorem_contexts.specs.Contexts.{Byte, done, failed, At, sizeSaid, BringUpReads, BringUpContexts}
 use Rattle.theorem_contexts.proofs.Ended.{cut-count, cut-word, cut-end}
+
+size-said : (a : BringUp) → HeaderRead a → sizeSaid a ≡ headerPacketSize (a .speed) (a .packet)
+unfolding sizeSaid headerPacketSize
+size-said a e = go (isSuper (a .speed)) refl
+  where
+    go : (t : Bool) → isSuper (a .speed) ≡ t →
+        cond t 512 (cond (eqb (a .packet) 0) 8 (a .packet)) ≡ cond t (2 ^ a .packet) (cond (eqb (a .packet) 0) 8 (a .packet))
+    go true s = rw (exponent-nine (a .speed) (a .packet) s (e .1))
+    go false s = refl
 
 -- What it leaves.
 module _ (a : BringUp) (ctx routes log o : List ℕ) (pass : bringUpCheck a (length ctx) routes (length log) ≡ Pass) (n : ℕ) (c : Command) (e : Brought)
@@ -63,7 +76,7 @@ module _ (a : BringUp) (ctx routes log : List ℕ) (pass : bringUpCheck a (lengt
   one-cut : CutHere [] (bringUpAddress a s ctx table) 0 command.Address (brought answer.Cut nothingRead (addressed a s ctx table) table)
   one-cut = bring-up-at-address a s ctx table [] (dones-past 0)
 
-  module _ (e : a .header ≡ 8) where
+  module _ (e : HeaderRead a) where
     two-cut : CutHere (done 2) (bringUpAddress a s ctx table) 2 command.Evaluate (brought answer.Cut nothingRead (sized a s ctx table) table)
     two-cut = bring-up-at-packet a s ctx table (done 2) (λ k l m. dones-before 2 k (omega arith)) e (dones-past 2)
 
@@ -135,7 +148,7 @@ module _ (a : BringUp) (ctx routes log : List ℕ) (pass : bringUpCheck a (lengt
             left-at a ctx routes log [] pass 0 _ _ one-cut _ (omega (arith, few))
             (bring-up-address-reads a s ctx table (facts .spaced) (facts .speed) (facts .chain) byte-port byte-root ring);
         packet = λ e.
-            left-at a ctx routes log (done 2) pass 2 _ _ (two-cut e) _ (omega (arith, few)) (rw one-context (bring-up-packet-reads a s ctx table (facts .spaced) byte-packet));
+            left-at a ctx routes log (done 2) pass 2 _ _ (two-cut e) _ (omega (arith, few)) (rw (one-context, size-said a e) (bring-up-packet-reads a s ctx table (facts .spaced) byte-packet e));
         configure = configure;
         restore = λ code z e some. restore e some code z;
         evaluate = evaluate;

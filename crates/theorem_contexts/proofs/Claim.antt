@@ -25,10 +25,10 @@ use Rattle.theorem_contexts.specs.Contexts.{Byte, BusAddresses, done, fa
 use Rattle.theorem_contexts.proofs.Ended.{ended-context, ended-at}
 
 module _ (d : Device) (ctx routes log : List ℕ) (i a : ℕ) (rings : List ℕ)
-    (pass : recordCheck d (length ctx) (length routes) (length log) (claimCheck d i a rings) ≡ Pass)
+    (pass : recordCheck d (length ctx) (length routes) (length log) (claimCheck d i a rings Pass) ≡ Pass)
     (byte-i : Byte i) (byte-a : Byte a) (offered : BusAddresses rings) (own : BusAddresses ((endpointMapIn d) .rings)) where
   facts : Passed d (length ctx) (length routes) (length log)
-  facts = passed d (length ctx) (length routes) (length log) (claimCheck d i a rings) pass .0
+  facts = passed d (length ctx) (length routes) (length log) (claimCheck d i a rings Pass) pass .0
 
   given : Claim
   given = claimIn d i a rings

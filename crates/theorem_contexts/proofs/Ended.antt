@@ -1,6 +1,6 @@
 -- What a call leaves whose course is cut at a command.
 use Prim.Native.Nat.{ℕ, _+_, _<_}
-use mathlib.Core.Path.{_≡_, refl, ap, _∙_}
+use mathlib.Core.Path.{_≡_, _∙_}
 use mathlib.Core.List.{List}
 use native.Mathlib.Omega.{arith}
 use lib.ListN.{length, getD}
@@ -9,7 +9,7 @@ use Rattle.answer.specs.declared.Check.{Check}
 use Rattle.answer.specs.declared.Check.the-variants.{Pass}
 use Rattle.command.specs.declared.Command.{Command}
 use Rattle.command.specs.Command.{commandWord}
-use Rattle.command.specs.Course.{Course, words, played}
+use Rattle.command.specs.Course.{Course, played}
 use Rattle.command.proofs.Laws.{log-word}
 use Rattle.command.proofs.Reached.{CutHere}
 use Rattle.course_steps.specs.End.{End}

@@ -5,7 +5,9 @@ use Prim.Native.Nat.{ℕ, _+_, _^_, _<_}
 use mathlib.Core.Path.{_≡_}
 use mathlib.Core.Bool.{Bool, cond}
 use mathlib.Core.List.{List, [], _∷_, _++_}
+use lib.Dec.{eqb}
 use lib.ListN.{length, getD, replicate}
+use Rattle.def.specs.Speed.{isSuper}
 use Rattle.descriptor.specs.Word.{configurationValue}
 use Rattle.descriptor_list.specs.Valid.{configurations}
 use Rattle.hub.specs.Route.{routeString}
@@ -23,6 +25,7 @@ use Rattle.record_endpoint.specs.declared.endpoint_map.Owner.the-variants.{Inte
 use Rattle.record_endpoint.specs.EndpointMap.{ownedRings, queuesOf, queueDcis}
 use Rattle.record_settings.specs.Held.{isHeld, alternateOf, settingWords, heldWords}
 use Rattle.record_checks.specs.Think.{thinkValue}
+use Rattle.course_init.specs.Init.{HeaderRead}
 use Rattle.course_init.specs.Reading.{BringUp}
 use Rattle.device.specs.declared.record.Device.{Device}
 use Rattle.device.specs.Device.{listOf, endpointMapIn, heldOf}
@@ -90,7 +93,7 @@ pub record ClaimReads (d : Device) (i a : ℕ) (rings ctx : List ℕ) (call : Li
 abbrev pub ClaimContexts : Type 0
 ClaimContexts =
     (d : Device) (ctx routes log : List ℕ) (i a : ℕ) (rings : List ℕ) →
-    recordCheck d (length ctx) (length routes) (length log) (claimCheck d i a rings) ≡ Pass →
+    recordCheck d (length ctx) (length routes) (length log) (claimCheck d i a rings Pass) ≡ Pass →
     Byte i →
     Byte a →
     BusAddresses rings →
@@ -151,7 +154,11 @@ HubUpdateContexts =
     Byte ports →
     HubUpdateReads d ports multi ns ctx (λ outcomes. hubUpdate d ctx routes log outcomes ports multi ns)
 
--- A bring-up: Address, over zeros; after ReadHeader, where that has its eight bytes, the packet size; and, where the device has
+-- The size that a packet byte says: at SuperSpeed 512; at the other speeds the byte, where 0 says 8.
+unfoldable pub sizeSaid : BringUp → ℕ
+sizeSaid a = cond (isSuper (a .speed)) 512 (cond (eqb (a .packet) 0) 8 (a .packet))
+
+-- A bring-up: Address, over zeros; after ReadHeader, where that is in order, the packet size; and, where the device has
 -- configurations and they are read, the set configuration of the first, with no endpoint.
 pub record BringUpReads (a : BringUp) (s : ℕ) (call : List ℕ → Left) : Type 0 where
   pub address :
@@ -159,23 +166,23 @@ pub record BringUpReads (a : BringUp) (s : ℕ) (call : List ℕ → Left) : Typ
       let translator = translatorOf (a .speed) (a .hubs) (a .hasParent) (a .parent) (a .port) in
       At 0 command.Address (AddressReads s (a .speed) route translator (a .rootPort) (a .ring)) (call [])
   pub packet :
-      a .header ≡ 8 → At 2 command.Evaluate (MaxPacketReads s (a .packet) ((call []) .ctx)) (call (done 2))
+      HeaderRead a → At 2 command.Evaluate (MaxPacketReads s (sizeSaid a) ((call []) .ctx)) (call (done 2))
   pub configure :
       let reads = 5 + configurations (a .list) in
-      a .header ≡ 8 →
+      HeaderRead a →
       0 < length (a .list) →
       At reads command.Configure (ConfigureReads s (a .speed) 0 0 [] [] [] [] ((call (done 2)) .ctx)) (call (done reads))
   pub restore :
       let reads = 5 + configurations (a .list) in
       (code : ℕ) →
       (code ≡ 0 → ⊥) →
-      a .header ≡ 8 →
+      HeaderRead a →
       0 < length (a .list) →
       At (reads + 2) command.Configure (ConfigureReads s (a .speed) 0 0 [] [] [] [] ((call (done reads)) .ctx))
       (call (failed (reads + 1) code))
   pub evaluate :
       let reads = 5 + configurations (a .list) in
-      a .header ≡ 8 →
+      HeaderRead a →
       0 < length (a .list) →
       At (reads + 2) command.Evaluate (ConfigurationReads s (configurationValue (getD (a .list) 0 0)) ((call (done reads)) .ctx))
       (call (done (reads + 2)))

@@ -9,7 +9,8 @@ use lib.ListN.{length}
 use Rattle.answer.specs.Answer.{number, isAccepted}
 use Rattle.device.specs.Left.{Left}
 use Rattle.device_bring_up.specs.BringUp.{bringUp}
-use Rattle.device_image.specs.Image.{WORDS, decode, isImage}
+use Rattle.device_image.specs.Image.{decode, isImage}
+use Rattle.device_image.specs.Layout.{WORDS}
 use Rattle.device_image.specs.Fits.{Fits}
 use Rattle.device_image.proofs.Laws.{image-encode, decode-encode}
 use Rattle.xhci_device.specs.Crossed.{Crossed, answeredOf, crossed, CrossedAs}

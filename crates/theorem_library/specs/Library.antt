@@ -8,7 +8,8 @@ use lib.ListN.{length}
 use Rattle.transfer.specs.Routes.{routeOf}
 use Rattle.course_init.specs.Reading.{BringUp}
 use Rattle.device_bring_up.specs.BringUp.{bringUp}
-use Rattle.device_image.specs.Image.{WORDS, decode, isImage}
+use Rattle.device_image.specs.Image.{decode, isImage}
+use Rattle.device_image.specs.Layout.{WORDS}
 use Rattle.xhci_device.specs.Crossed.{Crossed, CrossedAs}
 use Rattle.theorem_slot.specs.Call.{Buffers, Asked, bringsUp, claims, releases, configures, updatesHub, Call, left, OfSlot}
 use Rattle.theorem_slot.specs.Theorem.{State, Turn, after, Between, start, Kept}

@@ -6,6 +6,7 @@ use mathlib.Core.List.{List}
 use native.Mathlib.Omega.{arith}
 use lib.Dec.{eqb}
 use lib.ListN.{length, take}
+use Rattle.def.specs.Speed.{exponentOk}
 use Rattle.descriptor_list.specs.Valid.{configurations}
 use Rattle.answer.specs.declared.Answer.{Answer}
 use Rattle.answer.specs.declared.Check.{Check}
@@ -70,7 +71,7 @@ module _ (a : BringUp) (spacing : ℕ) (routes : List ℕ) where
   bring-up-cuts : (ctx : List ℕ) → BroughtCuts (bringUpAddress a spacing ctx routes)
   unfolding CutsTo bringUpAddress bringUpHeader
   bring-up-cuts ctx =
-      step-cuts _ _ _ routes _ (step-cuts _ _ _ routes _ (either (eqb (a .header) 8) _ _ (packet-cuts _) tt))
+      step-cuts _ _ _ routes _ (step-cuts _ _ _ routes _ (either (eqb (a .header) 8) _ _ (either (exponentOk (a .speed) (a .packet)) _ _ (packet-cuts _) tt) tt))
 
 -- A call that checks, and then leaves what a course leaves.
 module _ {A : Type 0} (contextIn : A → List ℕ) (leaves : Played A → Left) (c : Course A) (log o : List ℕ)

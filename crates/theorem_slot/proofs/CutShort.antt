@@ -89,7 +89,7 @@ module _ (b : Buffers) (d : Device) (routes : List ℕ) (i : ℕ) where
       cut-checked (λ (x : End). x .answer) (ended (claimRecord d j a rings)) (claimCourse (claimIn d j a rings) (b .ctx) routes) (b .log)
       (b .outcomes) (λ p. refl) (λ p. refl) (λ p. refl)
       (told-cuts _ _ _ (claim-tells (λ code. Unit {0}) (claimIn d j a rings) (b .ctx) routes))
-      (recordCheck d (length (b .ctx)) (length routes) (length (b .log)) (claimCheck d j a rings))
+      (recordCheck d (length (b .ctx)) (length routes) (length (b .log)) (claimCheck d j a rings Pass))
       (λ x. refused d x (b .ctx) routes (b .log)) i
       (λ e. passed d _ _ _ _ e .0 .room) (λ x. refl) (few-words (call (claims j a rings)) d routes) h
   each (releases j) h =

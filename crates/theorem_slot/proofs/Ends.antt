@@ -6,6 +6,7 @@ use mathlib.Core.List.{List}
 use native.Mathlib.Omega.{arith}
 use lib.Dec.{eqb}
 use lib.ListN.{length}
+use Rattle.def.specs.Speed.{exponentOk}
 use Rattle.laws.proofs.Tests.{not-both}
 use Rattle.descriptor_list.specs.Valid.{configurations}
 use Rattle.answer.specs.declared.Answer.{Answer}
@@ -59,6 +60,10 @@ module _ (K : ℕ → Type 0) where
   unfolding number isRefused
   fair-header = fair-plain answer.ShortHeader refl refl refl
 
+  fair-exponent : Fair K answer.PacketExponent
+  unfolding number isRefused
+  fair-exponent = fair-plain answer.PacketExponent refl refl refl
+
   fair-failed : (code : ℕ) → K code → Fair K (answer.Failed code)
   unfolding number isRefused codeOf
   fair-failed code k =
@@ -101,7 +106,7 @@ module _ (K : ℕ → Type 0) where
 
     claim-publish : (ctx routes : List ℕ) → TellsEnd (claimPublish a ctx routes)
     unfolding Told claimPublish
-    claim-publish ctx routes = claim-published (replaced routes (a .slot) (a .old) (a .pending)) ctx routes
+    claim-publish ctx routes = claim-published (replaced routes (a .args .slot .0) (a .old) (a .pending)) ctx routes
 
     module _ (code : ℕ) (k : K code) where
       claim-back : (ctx routes : List ℕ) → TellsEnd (claimSwitchBack a code ctx routes)
@@ -118,7 +123,7 @@ module _ (K : ℕ → Type 0) where
       claim-undo : (ctx routes : List ℕ) → TellsEnd (claimUndo a code ctx routes)
       unfolding Told EndsWith claimUndo claimUndone onSent
       claim-undo ctx routes =
-          (refl, λ s r. on-read TellsEnd K s _ _ _ r (claim-undone (a .held) _ routes) (λ later l. fair-broken))
+          (refl, λ s r. on-read TellsEnd K s _ _ _ r (claim-undone (a .args .held) _ routes) (λ later l. fair-broken))
 
       claim-resume : (ctx routes : List ℕ) → TellsEnd (claimResume a code ctx routes)
       unfolding Told EndsWith claimResume answerOf orCode
@@ -269,7 +274,7 @@ module _ (K : ℕ → Type 0) where
     pub bring-up-tells : (ctx : List ℕ) → TellsBrought (bringUpAddress a spacing ctx routes)
     unfolding Told bringUpAddress bringUpHeader
     bring-up-tells ctx =
-        step-tells _ _ _ routes _ (step-tells _ _ _ routes _ (either (eqb (a .header) 8) _ _ (packet-tells _) fair-header))
+        step-tells _ _ _ routes _ (step-tells _ _ _ routes _ (either (eqb (a .header) 8) _ _ (either (exponentOk (a .speed) (a .packet)) _ _ (packet-tells _) fair-exponent) fair-header))
 
 -- Each sends a command.
 module _ (o ctx routes : List ℕ) where

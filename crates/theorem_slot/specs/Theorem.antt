@@ -93,7 +93,8 @@ pub record Kept (slot : ℕ) (still : ℕ → Bool) (before : List ℕ) (s : Sta
   pub others : (k : ℕ) → OutsideSlot slot k → still k ≡ true → getD (s .routes) k 0 ≡ getD before k 0
   -- control is enabled
   pub control : s .plain .enabled 1 ≡ true
-  -- before the first broken or cut answer the other enabled endpoints are the held ones
+  -- before the first broken or cut answer, and while no release sent a command for an interface that held nothing, the other enabled
+  -- endpoints are the held ones
   pub enabled :
       s .plain .broken ≡ false → s .plain .unheldRelease ≡ false → (d : ℕ) → 2 ≤ d → d < 32 →
       s .plain .enabled d ≡ isHeldDci (s .plain) d

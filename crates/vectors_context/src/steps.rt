@@ -24,7 +24,7 @@ pub fn address(ctx: &mut [u8], spacing: usize)
 pub fn header(ctx: &mut [u8], spacing: usize)
     requires { ⌜ Spaced spacing (length (now ctx)) ⌝ }
 {
-    context_writer::setup_max_packet(ctx, spacing, 0);
+    context_writer::setup_max_packet(ctx, spacing, def::FULL, 0);
     show::text(b"header byte 0\n");
     show::block(b"control:", ctx, spacing, 0);
     show::block(b"Dci 1:", ctx, spacing, 2);

@@ -6,8 +6,21 @@ fn first_size(speed: u8) {
     out::number(def::parse_default_max_packet_size_from_port_speed(speed) as u64);
 }
 
-fn header_size(byte: u8) {
-    out::number(def::header_packet_size(byte) as u64);
+fn header_size(speed: u8, byte: u8) {
+    if def::exponent_ok(speed, byte) {
+        out::number(def::header_packet_size(speed, byte) as u64);
+    } else {
+        out::text(b" none");
+    }
+}
+
+fn header_sizes(speed: u8) {
+    header_size(speed, 0);
+    header_size(speed, 8);
+    header_size(speed, 9);
+    header_size(speed, 64);
+    header_size(speed, 255);
+    out::end();
 }
 
 pub fn packet_sizes() {
@@ -27,12 +40,11 @@ pub fn packet_sizes() {
     out::truth(def::speed_known(6));
     out::end();
     out::text(b"packet sizes of header bytes 0, 8, 9, 64, 255:");
-    header_size(0);
-    header_size(8);
-    header_size(9);
-    header_size(64);
-    header_size(255);
-    out::end();
+    header_sizes(def::HIGH);
+    out::text(b"  at SuperSpeed:");
+    header_sizes(def::SUPER);
+    out::text(b"  at SuperSpeedPlus:");
+    header_sizes(def::SUPER_PLUS);
 }
 
 fn interval(byte: u8, t: TransferType, speed: u8) {

@@ -3,6 +3,7 @@
 use scenario::{Answer, BringUp, Buffers, Call, Cannot, Layer, Left, Outcome, Record, left_text, scenario_text};
 
 use crate::case::Case;
+use crate::fields;
 use crate::refusal::{self, chain_fault};
 use crate::rows;
 use crate::tally::Tally;
@@ -73,7 +74,7 @@ impl Pair {
         if number == 12 && case.record.usable && self.listed {
             return Verdict::Uncompared("12: the record is not sound");
         }
-        let reference = Self::ask(&mut *self.reference, case);
+        let reference = self.ask_reference(case);
         match &reference {
             Ok(reference) if reference.same(subject) => Verdict::Same,
             _ if !self.listed => Verdict::Different("the layers"),
@@ -95,8 +96,15 @@ impl Pair {
         subject.ok()
     }
 
+    /// What the reference leaves, with the fields that a public document decides in the original's place.
     pub fn ask_reference(&mut self, case: &Case) -> Result<Done, Cannot> {
-        Self::ask(&mut *self.reference, case)
+        let mut reference = Self::ask(&mut *self.reference, case);
+        if self.listed
+            && let Ok(done) = &mut reference
+        {
+            fields::decide(case, done);
+        }
+        reference
     }
 
     /// The subject's number.
@@ -110,7 +118,7 @@ impl Pair {
 
     pub fn report(&mut self, case: &Case) -> String {
         let (subject, verdict) = self.judge(case);
-        let reference = Self::ask(&mut *self.reference, case);
+        let reference = self.ask_reference(case);
         let mut text = String::from("DIFFERENT");
         if let Verdict::Different(what) = verdict {
             text.push_str(": ");
@@ -152,7 +160,7 @@ fn describe(text: &mut String, done: Result<Done, Cannot>) {
 
 /// A refusal has changed nothing and logged no word.
 fn left_alone(case: &Case, subject: &Done) -> bool {
-    let refused = matches!(subject.answer.number, 1..=12 | 17);
+    let refused = matches!(subject.answer.number, 1..=12 | 17 | 20..);
     let record = match case.call {
         Call::BringUp(_) => Record::default(),
         _ => case.record.sorted(),
@@ -176,6 +184,7 @@ fn rule(case: &Case, subject: &Done, reference: &Result<Done, Cannot>) -> Verdic
         (Call::HubUpdate(_), 12) if !case.record.usable => Verdict::Listed(rows::BROKEN_HUB_UPDATE),
         (Call::HubUpdate(args), 7) if args.think < 666 => Verdict::Listed(rows::THINK_SHORT),
         (Call::HubUpdate(_), 7) => Verdict::Listed(rows::THINK_LONG),
+        (Call::BringUp(_), 19) if reference.is_ok() => Verdict::Listed(rows::PACKET_EXPONENT),
         (_, 13) => failed_configure(case, subject, reference),
         _ => Verdict::Different("the layers"),
     }

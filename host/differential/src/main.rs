@@ -6,6 +6,7 @@ mod case;
 mod compare;
 mod exhaustive;
 mod faults;
+mod fields;
 mod random;
 mod raw;
 mod refusal;

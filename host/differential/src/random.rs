@@ -132,6 +132,10 @@ fn bring_up(rng: &mut Rng) -> BringUp {
         list: if rng.percent(96) { list(rng) } else { broken_list(rng) },
         ..BringUp::default()
     };
+    // Most SuperSpeed devices say 9.
+    if args.speed > 3 && rng.percent(90) {
+        args.packet = 9;
+    }
     hubs(rng, &mut args);
     if rng.percent(1) {
         args.ring = rng.of(&[0, 8, 0x1001]);

@@ -17,7 +17,9 @@ pub const BROKEN_HUB_UPDATE: &str = "a hub update on an unusable record";
 pub const CONFIGURE_CODE: &str = "the code of a failed Configure, in a release, a set configuration or a bring-up";
 pub const RESUME_FAILS_TOO: &str = "a failed Configure whose resume fails too, in a release or a set configuration";
 
-pub const ALL: [&str; 16] = [
+pub const PACKET_EXPONENT: &str = "a packet byte other than 9 at SuperSpeed";
+
+pub const ALL: [&str; 17] = [
     UNKNOWN_SPEED,
     HUB_MISSING,
     NO_ROOT_HUB,
@@ -34,6 +36,7 @@ pub const ALL: [&str; 16] = [
     BROKEN_HUB_UPDATE,
     CONFIGURE_CODE,
     RESUME_FAILS_TOO,
+    PACKET_EXPONENT,
 ];
 
 #[cfg(test)]

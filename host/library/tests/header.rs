@@ -39,7 +39,7 @@ fn answers_have_their_numbers_and_names() {
         assert_eq!(text.trim_end_matches("\";"), words.trim_end_matches(", with code 0"), "{name}");
         count += 1;
     }
-    assert_eq!((count, Answer::of(19, 0)), (20, None));
+    assert_eq!((count, Answer::of(20, 0)), (21, None));
 }
 
 #[test]

@@ -15,7 +15,7 @@ pub struct Context<'a> {
 }
 
 /// By speed, from 1 on.
-const FIRST_PACKET_SIZE: [u32; 5] = [64, 8, 64, 512, 1024];
+const FIRST_PACKET_SIZE: [u32; 5] = [64, 8, 64, 512, 512];
 
 pub struct Address {
     pub speed: u8,
@@ -68,11 +68,16 @@ impl Context<'_> {
         self.put(CONTROL, 1, 0, 32, 1);
     }
 
-    /// `setup_max_packet`: a byte of 0 stands for 8.
-    pub fn control_packet_size(&mut self, byte: u8) {
+    /// `setup_max_packet`: at speeds 4 and 5 the byte is an exponent; at the others a byte of 0 stands for 8.
+    pub fn control_packet_size(&mut self, speed: u8, byte: u8) {
         self.change();
         self.put(CONTROL, 1, 1, 1, 1);
-        self.put(SLOT + 1, 1, 16, 16, if byte == 0 { 8 } else { byte.into() });
+        let size = match (speed, byte) {
+            (4 | 5, exponent) => 1 << exponent,
+            (_, 0) => 8,
+            (_, size) => size.into(),
+        };
+        self.put(SLOT + 1, 1, 16, 16, size);
     }
 
     /// For the last Evaluate of a set configuration, and no other command.
@@ -155,6 +160,7 @@ fn interval(word: &EndpointWord, speed: u8) -> u32 {
     match (word.kind, speed) {
         (BULK, _) => byte,
         (_, 3..) => byte.clamp(1, 16) - 1,
+        (ISOCHRONOUS, 1) => byte.clamp(1, 16) + 2,
         (_, _) => byte.max(1).ilog2() + 3,
     }
 }

@@ -19,6 +19,7 @@ const BROKEN: Ended = Ended { number: 14, code: 0 };
 const CUT: Ended = Ended { number: 15, code: 0 };
 const SHORT_HEADER: Ended = Ended { number: 16, code: 0 };
 const INVALID_ENDPOINT: Ended = Ended { number: 18, code: 0 };
+const PACKET_EXPONENT: Ended = Ended { number: 19, code: 0 };
 
 /// What an undoing that did not work answers: a cut stays one.
 fn broken(end: Ended) -> Ended {
@@ -164,7 +165,10 @@ impl<'a> Course<'a> {
         if args.header != 8 {
             return Err(SHORT_HEADER);
         }
-        self.context().control_packet_size(args.packet);
+        if matches!(args.speed, 4 | 5) && args.packet != 9 {
+            return Err(PACKET_EXPONENT);
+        }
+        self.context().control_packet_size(args.speed, args.packet);
         self.send(EVALUATE, 0, 0)?;
         self.send(READ_CONFIGURATION, 0, 0)?;
         self.record.config = Some(args.config);

@@ -6,7 +6,7 @@ use crate::block::{Endpoint, Slot};
 use crate::bus::Hardware;
 use crate::controller::{Controller, TRBS};
 use crate::descriptors;
-use crate::findings::{ENTRIES, Findings, HUB_FIELDS, Kind, PACKET};
+use crate::findings::{ENTRIES, Findings, HUB_FIELDS, Kind};
 use crate::text;
 
 /// Where a device is, by our own reading.
@@ -150,6 +150,6 @@ impl<'a> Seen<'a> {
         // At SuperSpeed the byte is an exponent (USB 3.2, 9.6.1).
         let (packet, byte) = (control.packet, u32::from(self.hardware.packet_byte));
         let wanted = if speed >= 4 { 1 << byte } else { byte };
-        findings.check_but(PACKET, packet == wanted, packet == byte, || format!("control's packet size is {packet}"));
+        findings.check(Kind::Descriptor, packet == wanted, || format!("control's packet size is {packet}"));
     }
 }

@@ -32,6 +32,7 @@ pub fn answer(number: u8) -> &'static str {
         16 => "failed: the header read has not 8 bytes",
         17 => "refused, QueueFull: the control endpoint's route is taken",
         18 => "failed, InvalidEndpoint: an endpoint's route is not its ring",
+        19 => "failed: the packet byte is no exponent of a SuperSpeed size",
         _ => "an answer without a name",
     }
 }

@@ -52,10 +52,12 @@ pub enum Answer {
     QueueFull,
     /// An old endpoint's route is not its ring.
     InvalidEndpoint,
+    /// At SuperSpeed and SuperSpeedPlus: the packet byte of the header is not 9.
+    PacketExponent,
 }
 
 impl Answer {
-    /// The answer of a number; `code` counts for 13 only. None above 18.
+    /// The answer of a number; `code` counts for 13 only. None above 19.
     pub fn of(number: u8, code: u8) -> Option<Answer> {
         Some(match number {
             0 => Answer::Accepted,
@@ -77,6 +79,7 @@ impl Answer {
             16 => Answer::ShortHeader,
             17 => Answer::QueueFull,
             18 => Answer::InvalidEndpoint,
+            19 => Answer::PacketExponent,
             _ => return None,
         })
     }
@@ -103,6 +106,7 @@ impl Answer {
             Answer::ShortHeader => 16,
             Answer::QueueFull => 17,
             Answer::InvalidEndpoint => 18,
+            Answer::PacketExponent => 19,
         }
     }
 
@@ -138,6 +142,7 @@ impl fmt::Display for Answer {
             Answer::ShortHeader => "the header read has not 8 bytes",
             Answer::QueueFull => "the control endpoint's route is taken",
             Answer::InvalidEndpoint => "an endpoint's route is not its ring",
+            Answer::PacketExponent => "the packet byte is no exponent of a SuperSpeed size",
         })
     }
 }
@@ -148,11 +153,11 @@ mod tests {
 
     #[test]
     fn numbers_name_the_answers() {
-        for number in 0..=18 {
+        for number in 0..=19 {
             let answer = Answer::of(number, 7).expect("an answer");
             assert_eq!(answer.number(), number);
             assert_eq!(answer.code(), if number == 13 { 7 } else { 0 });
         }
-        assert_eq!(Answer::of(19, 0), None);
+        assert_eq!(Answer::of(20, 0), None);
     }
 }

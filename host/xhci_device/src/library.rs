@@ -106,7 +106,7 @@ unsafe extern "C" {
 
 fn told(answered: Answered) -> (Answer, usize) {
     let answer = Answer::of(answered.answer as u8, answered.code as u8);
-    (answer.expect("the library answers 0 to 18"), answered.count)
+    (answer.expect("the library answers 0 to 19"), answered.count)
 }
 
 fn counted(answered: Answered) -> Result<usize, RawRefusal> {

@@ -183,7 +183,7 @@ fn drive(world: &mut World, call: &Call<'_>, mut script: Script<'_>, rng: &mut R
 #[test]
 fn driven_calls_equal_one_shot_calls() {
     let mut rng = Rng::new(0x5EED_0001);
-    let (mut counts, mut sent) = ([0; 19], 0);
+    let (mut counts, mut sent) = ([0; 20], 0);
     let mut world = random::world(&mut rng);
     for _ in 0..CALLS {
         let stale = !world.record.is_usable() && !rng.once_in(4);
@@ -210,7 +210,7 @@ fn driven_calls_equal_one_shot_calls() {
         world = steps;
     }
     println!("{CALLS} calls, {sent} commands, answers {counts:?}");
-    let missing: Vec<usize> = (0..19).filter(|&number| counts[number] == 0).collect();
+    let missing: Vec<usize> = (0..20).filter(|&number| counts[number] == 0).collect();
     assert_eq!(missing, [3, 4], "the log is the driver's own, and the list is read");
 }
 

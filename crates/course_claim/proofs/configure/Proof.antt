@@ -128,7 +128,7 @@ returns-2 c =
     let c16 = c12 .before .before .before .before in
     failed _ _ _ _ _ _ _ _ _ _ _ _ _ _ _ _ (configured _ _ _ _ _ _ _ _ _ _ _ (c16 .prepare-configure .ensures)
     (c12 .send .ensures .0) (c12 .send .ensures .1)) (c8 .s .given .1) (c5 .resume-stopped-endpoints .ensures _)
-    (c .before .before .or-code .ensures) (c .before .answer-of .ensures) (c .settingsKept .ensures)
+    (c .before .before .or-code .ensures) (c .before .answer-of .ensures) (c .settings-kept .ensures)
 
 same-length-6 : tie.Need-same-length-6
 same-length-6 c = search needs

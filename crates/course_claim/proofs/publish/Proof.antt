@@ -52,7 +52,7 @@ same-length-2 c = search needs
 returns-2 : tie.Need-returns-2
 unfolding claimPublish withReplaced
 returns-2 c =
-    let e = c .before .before .before .before .publish-endpoint-routes .ensures in λ old new o ctx log. rw (played-ends, c .settingsKept .ensures, e .1, ← e .0, kept _ _ _ _ (c .before .match .keys2))
+    let e = c .before .before .before .before .publish-endpoint-routes .ensures in λ old new o ctx log. rw (played-ends, c .settings-kept .ensures, e .1, ← e .0, kept _ _ _ _ (c .before .match .keys2))
 
 pub publish-spec : {M : Type 1} → statement M
 publish-spec =

@@ -108,7 +108,7 @@ returns-2 c =
     let c9 = c5 .before .before .before .before in
     λ routes. failed _ _ _ _ _ _ _ _ _ _ _ _ _ (configured _ _ _ _ _ _ _ _ _ _ _ _
     (c9 .prepare-configure .ensures) (c5 .send .ensures .0) (c5 .send .ensures .1)) (c .before .enum-told2 .given .1)
-    (c .settingsKept .ensures)
+    (c .settings-kept .ensures)
 
 same-length-5 : tie.Need-same-length-5
 same-length-5 c = search needs

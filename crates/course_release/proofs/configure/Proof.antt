@@ -134,7 +134,7 @@ returns-2 c =
     let c18 = c15 .before .before .before in
     failed _ _ _ _ _ _ _ _ _ _ _ _ _ _ _ (configured _ _ _ _ _ _ _ _ _ _ _ (c18 .no-queues .ensures .0)
     (c15 .prepare-configure .ensures) (c11 .send .ensures .0) (c11 .send .ensures .1)) (c7 .s .given .1)
-    (c4 .resume-stopped-endpoints .ensures _) (c .before .configure-failed .ensures) (c .settingsKept .ensures)
+    (c4 .resume-stopped-endpoints .ensures _) (c .before .configure-failed .ensures) (c .settings-kept .ensures)
 
 same-length-6 : tie.Need-same-length-6
 same-length-6 c = search needs

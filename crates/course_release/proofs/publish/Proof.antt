@@ -69,7 +69,7 @@ returns-2 c =
     let e = c4 .publish-endpoint-routes .ensures in let r = rw (c6 .no-queues .ensures .0) at (e .0) in let t = rw
     (c6 .no-queues .ensures .0) at (e .1) in λ words o ctx log. rw (
       played-ends,
-      c .settingsKept .ensures,
+      c .settings-kept .ensures,
       t,
       ← r,
       kept _ _ _ _

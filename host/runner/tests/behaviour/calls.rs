@@ -82,7 +82,7 @@ fn the_order_of_checks() {
                 }
                 let left = run(&steps);
                 assert_eq!(u64::from(left.answer.number), *first, "{}: {first} and {later}", row[0]);
-                assert_eq!((left.answer.count, left.log[0]), (0, LOG_FILL));
+                assert_eq!((left.answer.count, left.log[0]), (0, filled_words(1)[0]));
             }
         }
         assert_eq!(run(&calls(&row[0])).answer.number, 0);
@@ -99,7 +99,7 @@ fn bounds() {
         match name {
             "slot" => args.slot = value as u8,
             "n" => args.n = value as u32,
-            "speed" => args.speed = value as u8,
+            "speed" => args = BringUp { slot: args.slot, n: args.n, ..bring_up(value as u8, &args.list) },
             "ring" => args.ring = value,
             "header" => args.header = value as u32,
             _ => {}

@@ -76,7 +76,7 @@ fn changed(change: &str) -> Record {
     let lines: Vec<String> = text.lines().map(of_line).collect();
     assert_ne!(lines, text.lines().collect::<Vec<_>>(), "'{change}' changes nothing");
     let scenarios = scenario::parse(&format!("scenario changed\n{}\nend\n", lines.join("\n"))).expect("a scenario");
-    scenarios[0].steps[0].record.clone().expect("a record")
+    scenarios.scenarios[0].steps[0].record.clone().expect("a record")
 }
 
 #[test]

@@ -37,15 +37,17 @@ returns c =
     not-addressed (bringUpOf (c17 .args .a) (c17 .args .hubs .now) (c17 .args .list .now)) (c17 .args .spacing)
     (c17 .args .outcomes .now) (c17 .args .ctx .now) (c17 .args .routes .now) (c17 .args .log .now)
     (c7 .address-context .last .0) (c3 .read-header .last .0) (c3 .read-header .result) (c7 .address-context .ensures ∙ rw
-    (c10 .route-string .ensures, c9 .transaction-translator .ensures)) (c3 .read-header .ensures (c17 .args .hubs .now)
+    (c10 .route-string .ensures, c9 .transaction-translator .ensures)) (c3 .read-header .ensures .1 (c17 .args .hubs .now)
     (c17 .args .list .now) (c7 .address-context .last .0) (c17 .args .routes .now) (c17 .args .spacing) (c17 .pre .1 .1))
     (c .match .keys2)
 
 setup-max-packet-requires : tie.Need-setup-max-packet-requires
 setup-max-packet-requires c κs =
     let c9 = c .before .before .before .before .before .before .before .before .before in
-    let c19 = c9 .before .before .before .before .before .before .before .before .before .before in
-    spaced-same (c19 .pre .0) (c9 .address-context .kept .0)
+    let c19 = c9 .before .before .before .before .before .before .before .before .before .before in (
+      spaced-same (c19 .pre .0) (c9 .address-context .kept .0),
+      c .before .before .before .before .before .read-header .ensures .0 (accepted _ (c .before .enum-told .given .1)),
+    )
 
 read-descriptors-requires : tie.Need-read-descriptors-requires
 read-descriptors-requires c κs =
@@ -75,7 +77,7 @@ returns-2 c =
     not-read (bringUpOf (c27 .args .a) (c27 .args .hubs .now) (c27 .args .list .now)) (c27 .args .spacing)
     (c27 .args .outcomes .now) (c27 .args .ctx .now) (c27 .args .routes .now) (c27 .args .log .now)
     (c17 .address-context .last .0) (c13 .read-header .last .0) (c13 .read-header .result) (c17 .address-context .ensures ∙
-    rw (c20 .route-string .ensures, c19 .transaction-translator .ensures)) (c13 .read-header .ensures (c27 .args .hubs .now)
+    rw (c20 .route-string .ensures, c19 .transaction-translator .ensures)) (c13 .read-header .ensures .1 (c27 .args .hubs .now)
     (c27 .args .list .now) (c17 .address-context .last .0) (c27 .args .routes .now) (c27 .args .spacing) (c27 .pre .1 .1))
     (c9 .enum-told .given .1) (c7 .setup-max-packet .last .0) (c3 .read-descriptors .last .0) (c3 .read-descriptors .result)
     (c7 .setup-max-packet .ensures) (c3 .read-descriptors .ensures .1 (c27 .args .hubs .now) (c7 .setup-max-packet .last .0)
@@ -100,7 +102,7 @@ returns-3 c =
     none-to-set (bringUpOf (c29 .args .a) (c29 .args .hubs .now) (c29 .args .list .now)) (c29 .args .spacing)
     (c29 .args .outcomes .now) (c29 .args .ctx .now) (c29 .args .routes .now) (c29 .args .log .now)
     (c19 .address-context .last .0) (c15 .read-header .last .0) (c15 .read-header .result) (c19 .address-context .ensures ∙
-    rw (c22 .route-string .ensures, c21 .transaction-translator .ensures)) (c15 .read-header .ensures (c29 .args .hubs .now)
+    rw (c22 .route-string .ensures, c21 .transaction-translator .ensures)) (c15 .read-header .ensures .1 (c29 .args .hubs .now)
     (c29 .args .list .now) (c19 .address-context .last .0) (c29 .args .routes .now) (c29 .args .spacing) (c29 .pre .1 .1))
     (c11 .enum-told .given .1) (c9 .setup-max-packet .last .0) (c5 .read-descriptors .last .0)
     (c5 .read-descriptors .result) (c9 .setup-max-packet .ensures) (c5 .read-descriptors .ensures .1 (c29 .args .hubs .now)
@@ -158,7 +160,7 @@ returns-4 c =
     first-set (bringUpOf (c39 .args .a) (c39 .args .hubs .now) (c39 .args .list .now)) (c39 .args .spacing)
     (c39 .args .outcomes .now) (c39 .args .ctx .now) (c39 .args .routes .now) (c39 .args .log .now)
     (c29 .address-context .last .0) (c25 .read-header .last .0) (c25 .read-header .result) (c29 .address-context .ensures ∙
-    rw (c32 .route-string .ensures, c31 .transaction-translator .ensures)) (c25 .read-header .ensures (c39 .args .hubs .now)
+    rw (c32 .route-string .ensures, c31 .transaction-translator .ensures)) (c25 .read-header .ensures .1 (c39 .args .hubs .now)
     (c39 .args .list .now) (c29 .address-context .last .0) (c39 .args .routes .now) (c39 .args .spacing) (c39 .pre .1 .1))
     (c21 .enum-told .given .1) (c19 .setup-max-packet .last .0) (c15 .read-descriptors .last .0)
     (c15 .read-descriptors .result) (c19 .setup-max-packet .ensures) (c15 .read-descriptors .ensures .1

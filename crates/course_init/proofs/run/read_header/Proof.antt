@@ -1,10 +1,12 @@
-use Rattle.course_init.proofs.Steps.{done, stopped-before, short-header, leads-on}
+use Rattle.course_init.proofs.Steps.{done, stopped-before, none-accepted, header-refused, none-refused, leads-on}
 use Rattle.course_init.specs.Init.{bringUpHeader}
 use Rattle.course_init.specs.declared.run.InitEnd.{InitEnd}
+use Rattle.answer.specs.Answer.{number}
+use Rattle.answer.specs.declared.Answer.the-variants as answer
 use Rattle.course_steps.specs.End.{answerOf}
-use mathlib.Core.Path.{ap, _∙_}
+use mathlib.Core.Path.{refl, sym, ap, _∙_}
 use native.Mathlib.Omega.{arith}
-use borrow.Author.Tests.{eq-eqb, ne-eqb}
+use borrow.Author.Tests.{eq-eqb, ne-eqb, not-true, not-false}
 use borrow.Author.Needs.{needs}
 use Rattle.course_init.proofs.run.read_header.Statement.{statement}
 use Rattle.course_init.proofs.run.read_header.Tie as tie
@@ -22,7 +24,10 @@ same-length : tie.Need-same-length
 same-length c = search needs
 
 returns : tie.Need-returns
-returns c = λ hubs list ctx routes spacing v. stopped-before _ _ _ _ _ _ (c .before .before .before .before .send .ensures) ctx routes _ _ _ (c .before .match .keys2) list v (c .before-reading .ensures)
+returns c = (
+  λ t. none-accepted _ _ (c .before .match .keys2) (ap (λ (e : InitEnd). e .answer) (c .before-reading .ensures)) t,
+  λ hubs list ctx routes spacing v. stopped-before _ _ _ _ _ _ (c .before .before .before .before .send .ensures) ctx routes _ _ _ (c .before .match .keys2) list v (c .before-reading .ensures),
+)
 
 send-requires-2 : tie.Need-send-requires-2
 send-requires-2 c κs = search needs
@@ -41,43 +46,81 @@ unfolding bringUpHeader
 returns-2 c =
     let c4 = c .before .before .before .before in
     let c6 = c4 .before .before in
-    let c10 = c6 .before .before .before .before in
-    λ hubs list ctx routes spacing v. done _ _ _ _ _ _ (c10 .send .ensures) _ ctx routes _ (c6 .enum-told .given .1) ∙
-    stopped-before _ _ _ _ _ _ (c4 .send2 .ensures) ctx routes _ _ _ (c .before .match2 .keys2) list v
-    (c .before-reading2 .ensures)
+    let c10 = c6 .before .before .before .before in (
+      λ t. none-accepted _ _ (c .before .match2 .keys2) (ap (λ (e : InitEnd). e .answer) (c .before-reading2 .ensures)) t,
+      λ hubs list ctx routes spacing v. done _ _ _ _ _ _ (c10 .send .ensures) _ ctx routes _ (c6 .enum-told .given .1) ∙
+          stopped-before _ _ _ _ _ _ (c4 .send2 .ensures) ctx routes _ _ _ (c .before .match2 .keys2) list v
+          (c .before-reading2 .ensures),
+    )
+
+header-refused-requires : tie.Need-header-refused-requires
+header-refused-requires c κs = search needs
 
 same-length-3 : tie.Need-same-length-3
 same-length-3 c = search needs
 
+-- 16
 returns-3 : tie.Need-returns-3
-unfolding bringUpHeader
+unfolding bringUpHeader number
 returns-3 c =
-    let c6 = c .before .before .before .before .before .before in
-    let c8 = c6 .before .before in
-    let c12 = c8 .before .before .before .before in
-    let c16 = c12 .before .before .before .before in
-    λ hubs list ctx routes spacing v. done _ _ _ _ _ _ (c12 .send .ensures) _ ctx routes _ (c8 .enum-told .given .1) ∙ done
-    _ _ _ _ _ _ (c6 .send2 .ensures) _ ctx routes _ (c .before .before .enum-told2 .given .1) ∙ short-header _ list ctx
-    routes _ _ _ _ v (ne-eqb (c16 .args .a .header) 8 (λ e. omega (arith, e, c .if1 .taken)))
+    let c7 = c .before .before .before .before .before .before .before in
+    let c9 = c7 .before .before in
+    let c13 = c9 .before .before .before .before in
+    let c17 = c13 .before .before .before .before in (
+      none-refused answer.ShortHeader _ refl (c .header-refused .ensures),
+      λ hubs list ctx routes spacing v. done _ _ _ _ _ _ (c13 .send .ensures) _ ctx routes _ (c9 .enum-told .given .1) ∙ done
+          _ _ _ _ _ _ (c7 .send2 .ensures) _ ctx routes _ (c .before .before .before .enum-told2 .given .1) ∙ header-refused _ list ctx
+          routes _ answer.ShortHeader _ _ _ v refl (c .header-refused .ensures)
+          (rw (ne-eqb (c17 .args .a .header) 8 (λ e. omega (arith, e, c .before .if1 .taken)))),
+    )
 
-before-reading-requires-3 : tie.Need-before-reading-requires-3
-before-reading-requires-3 c κs = search needs
+exponent-ok-requires : tie.Need-exponent-ok-requires
+exponent-ok-requires c κs = search needs
+
+header-refused-requires-2 : tie.Need-header-refused-requires-2
+header-refused-requires-2 c κs = search needs
 
 same-length-4 : tie.Need-same-length-4
 same-length-4 c = search needs
 
+-- 19
 returns-4 : tie.Need-returns-4
-unfolding bringUpHeader answerOf
+unfolding bringUpHeader number
 returns-4 c =
     let c3 = c .before .before .before in
-    let c7 = c3 .before .before .before .before in
-    let c9 = c7 .before .before in
-    let c13 = c9 .before .before .before .before in
-    let c17 = c13 .before .before .before .before in
-    λ hubs list ctx routes spacing v. done _ _ _ _ _ _ (c13 .send .ensures) _ ctx routes _ (c9 .enum-told .given .1) ∙ done
-    _ _ _ _ _ _ (c7 .send2 .ensures) _ ctx routes _ (c3 .enum-told2 .given .1) ∙ leads-on _ list ctx routes _ _ (ap (λ (e :
-    InitEnd). e .answer) (c .before-reading3 .ensures) ∙ rw (c3 .enum-told2 .given .1)) (rw (eq-eqb (c17 .args .a .header) 8
-    (omega (arith, c .before .if1 .left))))
+    let c9 = c3 .before .before .before .before .before .before in
+    let c11 = c9 .before .before in
+    let c15 = c11 .before .before .before .before in
+    let c19 = c15 .before .before .before .before in (
+      none-refused answer.PacketExponent _ refl (c .header-refused2 .ensures),
+      λ hubs list ctx routes spacing v. done _ _ _ _ _ _ (c15 .send .ensures) _ ctx routes _ (c11 .enum-told .given .1) ∙ done
+          _ _ _ _ _ _ (c9 .send2 .ensures) _ ctx routes _ (c3 .before .before .enum-told2 .given .1) ∙ header-refused _ list ctx
+          routes _ answer.PacketExponent _ _ _ v refl (c .header-refused2 .ensures)
+          (rw (eq-eqb (c19 .args .a .header) 8 (omega (arith, c3 .if1 .left)), ← c .before .before .exponent-ok .ensures, not-true (c .before .before .exponent-ok .result) (c .before .if2 .taken))),
+    )
+
+before-reading-requires-3 : tie.Need-before-reading-requires-3
+before-reading-requires-3 c κs = search needs
+
+same-length-5 : tie.Need-same-length-5
+same-length-5 c = search needs
+
+returns-5 : tie.Need-returns-5
+unfolding bringUpHeader answerOf
+returns-5 c =
+    let c3 = c .before .before .before in
+    let c5 = c3 .before .before in
+    let c9 = c5 .before .before .before .before in
+    let c11 = c9 .before .before in
+    let c15 = c11 .before .before .before .before in
+    let c19 = c15 .before .before .before .before in
+    let ok = not-false (c .before .before .exponent-ok .result) (c .before .if2 .left) in (
+      λ t. sym (c .before .before .exponent-ok .ensures) ∙ ok,
+      λ hubs list ctx routes spacing v. done _ _ _ _ _ _ (c15 .send .ensures) _ ctx routes _ (c11 .enum-told .given .1) ∙ done
+          _ _ _ _ _ _ (c9 .send2 .ensures) _ ctx routes _ (c5 .enum-told2 .given .1) ∙ leads-on _ list ctx routes _ _ (ap (λ (e :
+          InitEnd). e .answer) (c .before-reading3 .ensures) ∙ rw (c5 .enum-told2 .given .1))
+          (rw (eq-eqb (c19 .args .a .header) 8 (omega (arith, c3 .if1 .left)), ← c .before .before .exponent-ok .ensures, ok)),
+    )
 
 pub read-header-spec : {M : Type 1} → statement M
 read-header-spec =
@@ -93,8 +136,13 @@ read-header-spec =
     before-reading-requires-2
     same-length-2
     returns-2
+    header-refused-requires
     same-length-3
     returns-3
-    before-reading-requires-3
+    exponent-ok-requires
+    header-refused-requires-2
     same-length-4
-    returns-4)
+    returns-4
+    before-reading-requires-3
+    same-length-5
+    returns-5)
