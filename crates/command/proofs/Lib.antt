@@ -4,3 +4,4 @@ pub mod Laws
 pub mod Operations
 pub mod Reached
 pub mod Sweeps
+pub mod Told

@@ -32,7 +32,7 @@ use Rattle.device_bring_up.proofs.Checks as brought-checks
 use Rattle.theorem_slot.specs.Call.{Buffers, Asked, bringsUp, claims, releases, configures, updatesHub, Call, left, cutAt}
 use Rattle.theorem_slot.specs.Answers.{CutThere, CutsAgree}
 use Rattle.theorem_slot.proofs.Words.{stored-first, stored}
-use Rattle.theorem_slot.proofs.Told.{told-cuts}
+use Rattle.command.proofs.Told.{told-cuts}
 use Rattle.theorem_slot.proofs.Ends.{claim-tells, release-tells, set-tells, hub-tells, bring-up-tells}
 use Rattle.theorem_slot.proofs.Few.{few-words}
 

@@ -29,7 +29,7 @@ use Rattle.course_init.specs.Reading.{BringUp, Reading, Brought}
 use Rattle.course_init.specs.Init.{step, bringUpSettings, bringUpSet, bringUpConfigs, bringUpDevice, bringUpConfiguration, bringUpPacket, bringUpHeader, bringUpAddress}
 use Rattle.device.specs.Calls.{hubCourse}
 use Rattle.theorem_slot.specs.Answers.{isRefused}
-use Rattle.theorem_slot.proofs.Told.{Read, Told, on-read, told-then, ReadSweep, CutSweep, resume-told, stop-told, sends-after-stop}
+use Rattle.command.proofs.Told.{Read, Told, on-read, told-then, ReadSweep, CutSweep, resume-told, stop-told, sends-after-stop}
 
 -- An answer after a command that is no cut: no refusal either, and where it has a code, one of these.
 pub record Fair (K : ℕ → Type 0) (a : Answer) : Type 0 where

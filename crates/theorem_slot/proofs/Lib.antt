@@ -16,5 +16,4 @@ mod SetConfiguration
 pub mod Settings
 pub mod Step
 pub mod Surplus
-pub mod Told
 pub mod Words

@@ -45,7 +45,7 @@ use Rattle.device_bring_up.specs.BringUp.{bringUpCourse, broughtRecord, brought
 use Rattle.theorem_slot.specs.Call.{Buffers, Asked, bringsUp, claims, releases, configures, updatesHub, Call, left}
 use Rattle.theorem_slot.specs.Answers.{isRefused, refusedRecord, CodeOfOutcome, Accounted, AnswersTell, GivenBack, SoundReturned, usableAfter}
 use Rattle.theorem_slot.specs.Theorem.{NoneQuarantined}
-use Rattle.theorem_slot.proofs.Told.{Told, told-whole, told-cut}
+use Rattle.command.proofs.Told.{Told, told-whole, told-cut}
 use Rattle.theorem_slot.proofs.Ends.{Fair, hub-sends, claim-tells, release-tells, set-tells, hub-tells, bring-up-tells, claim-sends, release-sends, set-sends, bring-up-sends}
 use Rattle.theorem_slot.proofs.Step.{MildCheck, on-mild, mild-claim, mild-release, mild-set, mild-hub, mild-bring-up}
 

@@ -19,7 +19,7 @@ use Rattle.device.specs.SetConfiguration.{settingsIn, setRecord, setConfigurati
 use Rattle.device_bring_up.specs.BringUp.{broughtLeft, bringUp}
 use Rattle.theorem_slot.specs.Call.{Buffers, Asked, bringsUp, claims, releases, configures, updatesHub, left, cutAt}
 use Rattle.theorem_slot.specs.Answers.{SurplusUnread}
-use Rattle.theorem_slot.proofs.Told.{played-surplus}
+use Rattle.command.proofs.Told.{played-surplus}
 
 -- A call that checks, and then leaves what a course leaves.
 unread :
