@@ -41,9 +41,9 @@ pub cut-end : (l : List ℕ) (i : ℕ) → length l ≤ i → descriptorsFrom l 
 unfolding cut
 cut-end l i h = rw (drop-of-length-le l h)
 
-head-length : (n : ℕ) (m : List ℕ) → getD (take n (n ∷ m)) 0 0 ≡ n
-head-length zero m = refl
-head-length (suc n) m = refl
+first-length : (n : ℕ) (m : List ℕ) → getD (take n (n ∷ m)) 0 0 ≡ n
+first-length zero m = refl
+first-length (suc n) m = refl
 
 -- Bytes past an index, and the length byte there.
 module _ (l : List ℕ) (i n : ℕ) (h : i < length l) (e : n ≡ getD l i 0) where
@@ -57,7 +57,7 @@ module _ (l : List ℕ) (i n : ℕ) (h : i < length l) (e : n ≡ getD l i 0) wh
       cut-first ∙ rw (cut-skip (n - 1) (drop (i + 1) l), drop-drop (n - 1) (i + 1) l, q)
 
   piece-length-byte : byteAt LENGTH (piece l i n) ≡ n
-  piece-length-byte = rw (drop-cons l i 0 h, ← e) (head-length n (drop (suc i) l))
+  piece-length-byte = rw (drop-cons l i 0 h, ← e) (first-length n (drop (suc i) l))
 
   -- A byte of the descriptor.
   pub piece-byte : (place : ℕ) → place < n → byteAt place (piece l i n) ≡ getD l (i + place) 0

@@ -32,7 +32,7 @@ fn cells(line: &str) -> Vec<String> {
     inner.split('|').map(|cell| cell.trim().to_string()).collect()
 }
 
-/// The rows of a table; its head has as many cells as each of them.
+/// The lines of a table below its titles, cut into cells: as many as there are titles.
 pub fn table(name: &str) -> Vec<Vec<String>> {
     let lines = marked(name);
     let width = cells(lines[0]).len();
