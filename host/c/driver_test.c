@@ -33,13 +33,14 @@ enum { POOL = sizeof pool / sizeof pool[0], USABLE = POOL - 3 };
 
 /* A call with all that the device and the bus will say. */
 struct script {
-    int kind; /* 0 bring-up, then claim, release, set configuration, hub update */
+    int kind; /* 0 bring-up, then claim, release, set configuration, hub update, unplugging, commit */
     struct xhci_device_attached attached;
     uint64_t hubs[2];
     uint8_t byte1, byte2;
     uint32_t ns;
-    uint64_t rings[3];
-    size_t rings_len;
+    uint64_t rings[8];
+    struct xhci_device_asked asked;
+    uint64_t drawn[XHCI_DEVICE_ASK_RINGS];
     uint8_t header[12];
     size_t header_len;
     uint8_t value;
@@ -76,8 +77,11 @@ static void bring_up_script(struct script *s) {
     at->parent = below(3);
     at->port = (uint8_t)below(20);
     at->root_port = byte();
-    at->ring = 0x1000 + 16 * below(4096);
-    at->ring += below(30) == 0;
+    at->rings_len = below(9);
+    for (i = 0; i < at->rings_len; i++) {
+        s->rings[i] = 0x1000 + 16 * below(4096) + (below(90) == 0);
+    }
+    at->rings = s->rings;
     s->hubs[0] = UINT64_C(0x8000030000000000);
     s->hubs[1] = UINT64_C(0xC0008B0400000000);
     at->hubs = s->hubs;
@@ -93,19 +97,18 @@ static void bring_up_script(struct script *s) {
     }
 }
 
-static struct script any_script(bool usable) {
+static struct script any_script(bool usable, bool up) {
     struct script s;
     size_t i, failures = below(3);
     memset(&s, 0, sizeof s);
     bring_up_script(&s);
     s.kind = usable == (below(20) != 0) ? (int)(1 + below(4)) : 0;
+    if (up && below(usable ? 20 : 2) == 0) {
+        s.kind = 5;
+    }
     s.byte1 = (uint8_t)below(3);
     s.byte2 = (uint8_t)below(2);
     s.ns = (uint32_t)below(4000);
-    s.rings_len = below(4);
-    for (i = 0; i < s.rings_len; i++) {
-        s.rings[i] = 0x20000 + 16 * below(4096);
-    }
     s.outcomes_len = below(4) == 0 ? below(16) : (size_t)OUTCOMES;
     for (i = 0; i < failures; i++) {
         size_t at = below(12);
@@ -145,22 +148,61 @@ static struct xhci_device_answered one_shot(struct world *w, const struct script
     switch (s->kind) {
     case 0:
         return xhci_device_bring_up(w->image, XHCI_DEVICE_RECORD_WORDS, w->ctx, w->ctx_len, w->routes, ROUTES, log,
-            XHCI_DEVICE_LOG_WORDS, outcomes, s->outcomes_len, at->hubs, at->hubs_len, list, list_len, at->slot, at->n,
-            at->speed, at->has_parent, at->parent, at->port, at->root_port, at->ring, s->header_len,
+            XHCI_DEVICE_LOG_WORDS, outcomes, s->outcomes_len, at->rings, at->rings_len, at->hubs, at->hubs_len, list,
+            list_len, at->slot, at->n, at->speed, at->has_parent, at->parent, at->port, at->root_port, s->header_len,
             s->header_len > 7 ? s->header[7] : 0, s->value);
     case 1:
         return xhci_device_claim(w->image, XHCI_DEVICE_RECORD_WORDS, w->ctx, w->ctx_len, w->routes, ROUTES, log,
-            XHCI_DEVICE_LOG_WORDS, outcomes, s->outcomes_len, s->byte1, s->byte2, s->rings, s->rings_len);
+            XHCI_DEVICE_LOG_WORDS, outcomes, s->outcomes_len, s->byte1, s->byte2);
+    case 6:
+        return xhci_device_commit(w->image, XHCI_DEVICE_RECORD_WORDS, w->ctx, w->ctx_len, w->routes, ROUTES, log,
+            XHCI_DEVICE_LOG_WORDS, outcomes, s->outcomes_len, s->asked.interface, s->asked.alternate, s->asked.drops,
+            s->asked.adds, s->drawn, s->asked.count);
     case 2:
         return xhci_device_release(w->image, XHCI_DEVICE_RECORD_WORDS, w->ctx, w->ctx_len, w->routes, ROUTES, log,
             XHCI_DEVICE_LOG_WORDS, outcomes, s->outcomes_len, s->byte1);
     case 3:
         return xhci_device_set_configuration(w->image, XHCI_DEVICE_RECORD_WORDS, w->ctx, w->ctx_len, w->routes, ROUTES,
             log, XHCI_DEVICE_LOG_WORDS, outcomes, s->outcomes_len, s->byte1);
+    case 5:
+        return xhci_device_disconnect(w->image, XHCI_DEVICE_RECORD_WORDS, w->ctx, w->ctx_len, w->routes, ROUTES, log,
+            XHCI_DEVICE_LOG_WORDS, outcomes, s->outcomes_len);
     default:
         return xhci_device_hub_update(w->image, XHCI_DEVICE_RECORD_WORDS, w->ctx, w->ctx_len, w->routes, ROUTES, log,
             XHCI_DEVICE_LOG_WORDS, outcomes, s->outcomes_len, s->byte1, s->byte2, s->ns);
     }
+}
+
+/* An ask that is lent so many words. Whether it leaves those past its rings, all of them where it is refused. */
+static bool asks(const struct world *w, struct script *s, size_t lent) {
+    const uint64_t mark = UINT64_C(0xA5A5A5A5A5A5A5A5);
+    size_t i;
+    bool kept = true;
+    for (i = 0; i < XHCI_DEVICE_ASK_RINGS; i++) {
+        s->drawn[i] = mark;
+    }
+    s->asked = xhci_device_ask(w->image, XHCI_DEVICE_RECORD_WORDS, w->ctx_len, ROUTES, XHCI_DEVICE_LOG_WORDS, s->byte1,
+        s->byte2, s->drawn, lent);
+    for (i = s->asked.count; i < XHCI_DEVICE_ASK_RINGS; i++) {
+        kept = kept && s->drawn[i] == mark;
+    }
+    return kept && (s->asked.answer == XHCI_DEVICE_ACCEPTED || s->asked.count == 0);
+}
+
+/* A claim becomes a commit of its ask, now and then of another. One that is lent too few words answers 3, after 12, 1
+ * and 2. */
+static bool ask(const struct world *w, struct script *s) {
+    bool kept = true;
+    if (s->kind == 1 && below(2) == 0) {
+        uint32_t few;
+        s->kind = 6;
+        kept = asks(w, s, XHCI_DEVICE_ASK_RINGS - 1);
+        few = s->asked.answer;
+        kept = kept && asks(w, s, XHCI_DEVICE_ASK_RINGS);
+        kept = kept && few == (few == 12 || few == 1 || few == 2 ? s->asked.answer : (uint32_t)XHCI_DEVICE_LOG_TOO_SHORT);
+        s->asked.adds ^= below(10) == 0 ? 1u << below(32) : 0;
+    }
+    return kept;
 }
 
 static void begin(struct xhci_device_pending *call, struct world *w, const struct script *s) {
@@ -169,13 +211,19 @@ static void begin(struct xhci_device_pending *call, struct world *w, const struc
         xhci_device_begin_bring_up(call, w->image, w->ctx, w->ctx_len, &s->attached);
         break;
     case 1:
-        xhci_device_begin_claim(call, w->image, w->ctx, w->ctx_len, s->byte1, s->byte2, s->rings, s->rings_len);
+        xhci_device_begin_claim(call, w->image, w->ctx, w->ctx_len, s->byte1, s->byte2);
+        break;
+    case 6:
+        xhci_device_begin_commit(call, w->image, w->ctx, w->ctx_len, &s->asked, s->drawn);
         break;
     case 2:
         xhci_device_begin_release(call, w->image, w->ctx, w->ctx_len, s->byte1);
         break;
     case 3:
         xhci_device_begin_set_configuration(call, w->image, w->ctx, w->ctx_len, s->byte1);
+        break;
+    case 5:
+        xhci_device_begin_disconnect(call, w->image, w->ctx, w->ctx_len);
         break;
     default:
         xhci_device_begin_hub_update(call, w->image, w->ctx, w->ctx_len, s->byte1, s->byte2 != 0, s->ns);
@@ -245,19 +293,25 @@ static void begin_anew(struct world *w) {
 int main(void) {
     static struct world now, whole;
     static struct xhci_device_pending call;
-    size_t i, sent = 0, answers[20] = {0};
+    size_t i, sent = 0, unplugged = 0, answers[23] = {0};
     begin_anew(&now);
     for (i = 0; i < CALLS; i++) {
         uint32_t log[XHCI_DEVICE_LOG_WORDS];
         struct script s;
         struct xhci_device_answered left;
         bool usable = xhci_device_is_usable(now.image, XHCI_DEVICE_RECORD_WORDS);
+        bool up = xhci_device_is_up(now.image, XHCI_DEVICE_RECORD_WORDS);
         if ((!usable && below(4) != 0) || below(30) == 0) {
             begin_anew(&now);
-            usable = false;
+            usable = up = false;
         }
-        s = any_script(usable);
+        s = any_script(usable, up);
+        s.attached.rings = s.rings;
         s.attached.hubs = s.hubs;
+        if (!ask(&now, &s)) {
+            printf("call %zu: the ask, answer %" PRIu32 "\n", i, s.asked.answer);
+            return EXIT_FAILURE;
+        }
         whole = now;
         left = one_shot(&whole, &s, log);
         drive(&call, &now, &whole, &s);
@@ -269,10 +323,15 @@ int main(void) {
         }
         answers[left.answer]++;
         sent += left.count;
+        unplugged += s.kind == 5 && left.answer == XHCI_DEVICE_ACCEPTED;
     }
     printf("%d calls, %zu commands: each driven call leaves what the one-shot call leaves\n", (int)CALLS, sent);
+    if (unplugged == 0) {
+        printf("no unplugging was accepted\n");
+        return EXIT_FAILURE;
+    }
     printf("answers:");
-    for (i = 0; i < 20; i++) {
+    for (i = 0; i < 23; i++) {
         printf(" %zu: %zu", i, answers[i]);
     }
     printf("\n");

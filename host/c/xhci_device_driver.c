@@ -3,24 +3,16 @@
 
 #include <string.h>
 
-enum { BRING_UP, CLAIM, RELEASE, SET_CONFIGURATION, HUB_UPDATE };
+enum { BRING_UP, CLAIM, COMMIT, RELEASE, SET_CONFIGURATION, HUB_UPDATE, DISCONNECT };
 
 /* New, a command is to be sent, its outcome was told, ended. */
 enum { NEW, WAITS, TOLD, ENDED };
 
 enum { DEVICE_DESCRIPTOR = 18, MAX_PACKET_SIZE = 7, NUM_CONFIGURATIONS = 17 };
 
-struct xhci_device_command xhci_device_command_of(uint32_t word) {
-    struct xhci_device_command command;
-    command.operation = (uint8_t)(word >> 28);
-    command.first = (uint8_t)(word >> 20 & 255);
-    command.second = (uint8_t)(word >> 12 & 255);
-    return command;
-}
-
 const char *xhci_device_operation_name(uint8_t operation) {
     static const char *const names[] = {"Address", "Evaluate", "Configure", "Stop", "Resume", "SetInterface",
-        "SetConfiguration", "ReadHeader", "ReadConfiguration", "ReadDevice", "ReadConfig"};
+        "SetConfiguration", "ReadHeader", "ReadConfiguration", "ReadDevice", "ReadConfig", "Disable"};
     size_t count = sizeof names / sizeof names[0];
     return operation >= 1 && operation <= count ? names[operation - 1] : "an unknown operation";
 }
@@ -52,17 +44,23 @@ void xhci_device_begin_bring_up(struct xhci_device_pending *call, uint64_t *imag
                                 const struct xhci_device_attached *attached) {
     begin(call, BRING_UP, image, ctx, ctx_len);
     call->attached = *attached;
+    call->attached.rings = words_or_none(attached->rings, attached->rings_len);
     call->attached.hubs = words_or_none(attached->hubs, attached->hubs_len);
     call->slot = attached->slot;
 }
 
 void xhci_device_begin_claim(struct xhci_device_pending *call, uint64_t *image, uint8_t *ctx, size_t ctx_len,
-                             uint8_t interface, uint8_t alternate, const uint64_t *rings, size_t rings_len) {
+                             uint8_t interface, uint8_t alternate) {
     begin(call, CLAIM, image, ctx, ctx_len);
     call->byte1 = interface;
     call->byte2 = alternate;
-    call->rings = words_or_none(rings, rings_len);
-    call->rings_len = rings_len;
+}
+
+void xhci_device_begin_commit(struct xhci_device_pending *call, uint64_t *image, uint8_t *ctx, size_t ctx_len,
+                              const struct xhci_device_asked *asked, const uint64_t *rings) {
+    begin(call, COMMIT, image, ctx, ctx_len);
+    call->asked = *asked;
+    call->rings = words_or_none(rings, asked->count);
 }
 
 void xhci_device_begin_release(struct xhci_device_pending *call, uint64_t *image, uint8_t *ctx, size_t ctx_len,
@@ -85,25 +83,35 @@ void xhci_device_begin_hub_update(struct xhci_device_pending *call, uint64_t *im
     call->ns = ns;
 }
 
+void xhci_device_begin_disconnect(struct xhci_device_pending *call, uint64_t *image, uint8_t *ctx, size_t ctx_len) {
+    begin(call, DISCONNECT, image, ctx, ctx_len);
+}
+
 static struct xhci_device_answered played(struct xhci_device_pending *call, uint64_t *routes, size_t routes_len) {
     uint64_t *image = call->image;
     const struct xhci_device_attached *at = &call->attached;
     switch (call->call) {
     case BRING_UP:
         return xhci_device_bring_up(image, XHCI_DEVICE_RECORD_WORDS, call->ctx, call->ctx_len, routes, routes_len,
-            call->log, XHCI_DEVICE_LOG_WORDS, call->outcomes, call->told, at->hubs, at->hubs_len, call->list,
-            call->read + call->unread, at->slot, at->n, at->speed, at->has_parent, at->parent, at->port,
-            at->root_port, at->ring, call->header, call->packet, call->value);
+            call->log, XHCI_DEVICE_LOG_WORDS, call->outcomes, call->told, at->rings, at->rings_len, at->hubs,
+            at->hubs_len, call->list, call->read + call->unread, at->slot, at->n, at->speed, at->has_parent,
+            at->parent, at->port, at->root_port, call->header, call->packet, call->value);
     case CLAIM:
         return xhci_device_claim(image, XHCI_DEVICE_RECORD_WORDS, call->ctx, call->ctx_len, routes, routes_len,
-            call->log, XHCI_DEVICE_LOG_WORDS, call->outcomes, call->told, call->byte1, call->byte2, call->rings,
-            call->rings_len);
+            call->log, XHCI_DEVICE_LOG_WORDS, call->outcomes, call->told, call->byte1, call->byte2);
+    case COMMIT:
+        return xhci_device_commit(image, XHCI_DEVICE_RECORD_WORDS, call->ctx, call->ctx_len, routes, routes_len,
+            call->log, XHCI_DEVICE_LOG_WORDS, call->outcomes, call->told, call->asked.interface, call->asked.alternate,
+            call->asked.drops, call->asked.adds, call->rings, call->asked.count);
     case RELEASE:
         return xhci_device_release(image, XHCI_DEVICE_RECORD_WORDS, call->ctx, call->ctx_len, routes, routes_len,
             call->log, XHCI_DEVICE_LOG_WORDS, call->outcomes, call->told, call->byte1);
     case SET_CONFIGURATION:
         return xhci_device_set_configuration(image, XHCI_DEVICE_RECORD_WORDS, call->ctx, call->ctx_len, routes,
             routes_len, call->log, XHCI_DEVICE_LOG_WORDS, call->outcomes, call->told, call->byte1);
+    case DISCONNECT:
+        return xhci_device_disconnect(image, XHCI_DEVICE_RECORD_WORDS, call->ctx, call->ctx_len, routes, routes_len,
+            call->log, XHCI_DEVICE_LOG_WORDS, call->outcomes, call->told);
     default:
         return xhci_device_hub_update(image, XHCI_DEVICE_RECORD_WORDS, call->ctx, call->ctx_len, routes,
             routes_len, call->log, XHCI_DEVICE_LOG_WORDS, call->outcomes, call->told, call->byte1, call->byte2,

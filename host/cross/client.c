@@ -1,4 +1,4 @@
-/* libxhci_device.a for this machine, whose functions run in the process that XHCI_DEVICE_REMOTE names (server.c). */
+/* The archives for this machine, whose functions run in the process that XHCI_DEVICE_REMOTE names (server.c). */
 #include "remote.h"
 
 #include <stdio.h>
@@ -93,7 +93,7 @@ static struct reply remote(const struct request *r, void *const buffers[BUFFERS]
     }
     send_request(r, buffers);
     get(&reply, sizeof reply);
-    for (int i = 0; i < WRITTEN && r->function <= HUB_UPDATE; i++) {
+    for (int i = 0; i < WRITTEN && r->function <= WRITE_DESCRIPTORS; i++) {
         get(buffers[i], r->count[i] * size_of[i]);
     }
     return reply;
@@ -112,28 +112,49 @@ static struct xhci_device_answered call(const struct request *r, void *const buf
     struct request r = {FUNCTION, {image_len, ctx_len, routes_len, log_len, outcomes_len}, {0}}; \
     void *buffers[BUFFERS] = {image, ctx, routes, log, (void *)outcomes}
 
-struct xhci_device_answered xhci_device_bring_up(LENT, const uint64_t *hubs, size_t hubs_len, const uint32_t *list,
-    size_t list_len, uint8_t slot, size_t n, uint8_t speed, uint8_t has_parent, size_t parent, uint8_t port,
-    uint8_t root_port, uint64_t ring, size_t header, uint8_t packet, uint8_t value) {
+struct xhci_device_answered xhci_device_bring_up(LENT, const uint64_t *rings, size_t rings_len, const uint64_t *hubs,
+    size_t hubs_len, const uint32_t *list, size_t list_len, uint8_t slot, size_t n, uint8_t speed, uint8_t has_parent,
+    size_t parent, uint8_t port, uint8_t root_port, size_t header, uint8_t packet, uint8_t value) {
     CALL(BRING_UP);
-    const uint64_t number[NUMBERS] = {
-        slot, n, speed, has_parent, parent, port, root_port, ring, header, packet, value};
+    const uint64_t number[NUMBERS] = {slot, n, speed, has_parent, parent, port, root_port, header, packet, value};
     memcpy(r.number, number, sizeof number);
+    r.count[RINGS] = rings_len;
     r.count[HUBS] = hubs_len;
     r.count[LIST] = list_len;
+    buffers[RINGS] = (void *)rings;
     buffers[HUBS] = (void *)hubs;
     buffers[LIST] = (void *)list;
     return call(&r, buffers);
 }
 
-struct xhci_device_answered xhci_device_claim(
-    LENT, uint8_t interface, uint8_t alternate, const uint64_t *rings, size_t rings_len) {
+struct xhci_device_answered xhci_device_claim(LENT, uint8_t interface, uint8_t alternate) {
     CALL(CLAIM);
     r.number[0] = interface;
     r.number[1] = alternate;
+    return call(&r, buffers);
+}
+
+struct xhci_device_answered xhci_device_commit(LENT, uint8_t interface, uint8_t alternate, uint32_t drops, uint32_t adds,
+    const uint64_t *rings, size_t rings_len) {
+    CALL(COMMIT);
+    const uint64_t number[4] = {interface, alternate, drops, adds};
+    memcpy(r.number, number, sizeof number);
     r.count[RINGS] = rings_len;
     buffers[RINGS] = (void *)rings;
     return call(&r, buffers);
+}
+
+struct xhci_device_asked xhci_device_ask(const uint64_t *image, size_t image_len, size_t ctx_len, size_t routes_len,
+    size_t log_len, uint8_t interface, uint8_t alternate, uint64_t *rings, size_t rings_len) {
+    struct request r = {ASK, {image_len}, {ctx_len, routes_len, log_len, interface, alternate}};
+    void *buffers[BUFFERS] = {(void *)image};
+    struct xhci_device_asked asked;
+    r.count[RINGS] = rings_len;
+    buffers[RINGS] = rings;
+    remote(&r, buffers);
+    get(&asked, sizeof asked);
+    get(rings, rings_len * size_of[RINGS]);
+    return asked;
 }
 
 struct xhci_device_answered xhci_device_release(LENT, uint8_t interface) {
@@ -156,6 +177,33 @@ struct xhci_device_answered xhci_device_hub_update(LENT, uint8_t ports, uint8_t 
     return call(&r, buffers);
 }
 
+struct xhci_device_answered xhci_device_disconnect(LENT) {
+    CALL(DISCONNECT);
+    return call(&r, buffers);
+}
+
+struct xhci_device_answered xhci_device_read_descriptors(
+    const uint8_t *bytes, size_t bytes_len, uint32_t *words, size_t words_len) {
+    struct request r = {READ_DESCRIPTORS, {0}, {0}};
+    void *buffers[BUFFERS] = {0};
+    r.count[OUTCOMES] = bytes_len;
+    r.count[LOG] = words_len;
+    buffers[OUTCOMES] = (void *)bytes;
+    buffers[LOG] = words;
+    return call(&r, buffers);
+}
+
+struct xhci_device_answered xhci_device_write_descriptors(
+    const uint32_t *list, size_t list_len, uint8_t *bytes, size_t bytes_len) {
+    struct request r = {WRITE_DESCRIPTORS, {0}, {0}};
+    void *buffers[BUFFERS] = {0};
+    r.count[LIST] = list_len;
+    r.count[CTX] = bytes_len;
+    buffers[LIST] = (void *)list;
+    buffers[CTX] = bytes;
+    return call(&r, buffers);
+}
+
 static uint64_t asked(enum function function, const uint64_t *image, size_t image_len) {
     struct request r = {function, {image_len}, {0}};
     void *buffers[BUFFERS] = {(void *)image};
@@ -166,10 +214,21 @@ bool xhci_device_is_usable(const uint64_t *image, size_t image_len) {
     return asked(IS_USABLE, image, image_len);
 }
 
+bool xhci_device_is_up(const uint64_t *image, size_t image_len) {
+    return asked(IS_UP, image, image_len);
+}
+
 bool xhci_device_is_sound(const uint64_t *image, size_t image_len) {
     return asked(IS_SOUND, image, image_len);
 }
 
 size_t xhci_device_record_words(void) {
     return asked(RECORD_WORDS, NULL, 0);
+}
+
+struct xhci_device_command xhci_device_command_of(uint32_t word) {
+    struct request r = {COMMAND_OF, {0}, {word}};
+    void *buffers[BUFFERS] = {0};
+    uint64_t value = remote(&r, buffers).value;
+    return (struct xhci_device_command){(uint8_t)(value >> 16), (uint8_t)(value >> 8), (uint8_t)value};
 }

@@ -1,5 +1,5 @@
-/* A device is brought up, its interface claimed, a switch to the other setting fails on the bus, and the interface is
- * released. host/xhci_device/examples/switch.rs is the same in Rust and prints the same. */
+/* A device is brought up, its interface claimed, a switch to the other setting fails on the bus, the interface is
+ * released, and the device unplugged. host/xhci_device/examples/switch.rs is the same in Rust and prints the same. */
 #include <inttypes.h>
 #include <stdio.h>
 
@@ -111,19 +111,50 @@ static void run(const char *what, struct xhci_device_pending *call, uint32_t fai
     printf("\n");
 }
 
+/* What the claim would do. */
+static void show(const struct xhci_device_asked *asked, const uint64_t *rings) {
+    uint8_t dci;
+    size_t i;
+    printf("ask for interface %u, alternate %u\n", asked->interface, asked->alternate);
+    for (dci = 0; dci < 32; dci++) {
+        if (asked->drops >> dci & 1) {
+            printf("  Dci %u would go\n", dci);
+        }
+    }
+    for (dci = 0; dci < 32; dci++) {
+        if (asked->adds >> dci & 1) {
+            printf("  Dci %u would come\n", dci);
+        }
+    }
+    for (i = 0; i < asked->count; i++) {
+        printf("  ring %" PRIx64 " would be drawn\n", rings[i]);
+    }
+    printf("\n");
+}
+
 int main(void) {
     static struct xhci_device_pending call;
-    struct xhci_device_attached attached = {SLOT, N, 3, false, 0, 1, 1, 0x1000, NULL, 0};
-    const uint64_t first[1] = {0x2000};
-    const uint64_t others[2] = {0x3000, 0x3400};
+    /* The rings that the slot is given; the lowest is control's. */
+    const uint64_t rings[4] = {0x1000, 0x2000, 0x3000, 0x3400};
+    struct xhci_device_attached attached = {SLOT, N, 3, false, 0, 1, 1, rings, 4, NULL, 0};
+    struct xhci_device_asked asked;
+    uint64_t drawn[XHCI_DEVICE_ASK_RINGS];
 
     xhci_device_begin_bring_up(&call, image, ctx, sizeof ctx, &attached);
     run("bring-up of slot 1", &call, 0);
-    xhci_device_begin_claim(&call, image, ctx, sizeof ctx, 0, 0, first, 1);
+    xhci_device_begin_claim(&call, image, ctx, sizeof ctx, 0, 0);
     run("claim of interface 0, alternate 0", &call, 0);
-    xhci_device_begin_claim(&call, image, ctx, sizeof ctx, 0, 1, others, 2);
-    run("claim of interface 0, alternate 1", &call, 0x60001000);
+    asked = xhci_device_ask(image, XHCI_DEVICE_RECORD_WORDS, sizeof ctx, ROUTES, XHCI_DEVICE_LOG_WORDS, 0, 1, drawn,
+        XHCI_DEVICE_ASK_RINGS);
+    if (asked.answer != XHCI_DEVICE_ACCEPTED) {
+        return 1;
+    }
+    show(&asked, drawn);
+    xhci_device_begin_commit(&call, image, ctx, sizeof ctx, &asked, drawn);
+    run("commit of interface 0, alternate 1", &call, 0x60001000);
     xhci_device_begin_release(&call, image, ctx, sizeof ctx, 0);
     run("release of interface 0", &call, 0);
+    xhci_device_begin_disconnect(&call, image, ctx, sizeof ctx);
+    run("unplugging of slot 1", &call, 0);
     return 0;
 }

@@ -50,8 +50,18 @@ enum {
     XHCI_DEVICE_OP_READ_HEADER = 8,         /* the first 8 bytes of the device descriptor */
     XHCI_DEVICE_OP_READ_CONFIGURATION = 9,  /* the value that is set */
     XHCI_DEVICE_OP_READ_DEVICE = 10,        /* the device descriptor */
-    XHCI_DEVICE_OP_READ_CONFIG = 11         /* index; a configuration descriptor with all that follows it */
+    XHCI_DEVICE_OP_READ_CONFIG = 11,        /* index; a configuration descriptor with all that follows it */
+    XHCI_DEVICE_OP_DISABLE = 12             /* Disable Slot Command */
 };
+
+/* What a word of the log says. Operands that an operation has not are 0; where no call logs the word, all three are. */
+struct xhci_device_command {
+    uint8_t operation;  /* XHCI_DEVICE_OP_... */
+    uint8_t first;      /* Dci, interface, value or index */
+    uint8_t second;     /* alternate setting */
+};
+
+struct xhci_device_command xhci_device_command_of(uint32_t word);
 
 /* Answers. */
 enum {
@@ -65,7 +75,7 @@ enum {
     XHCI_DEVICE_THINK_TIME = 7,
     XHCI_DEVICE_NOT_FOUND = 8,
     XHCI_DEVICE_INVALID_PARAMETER = 9,  /* an address that another interface owns */
-    XHCI_DEVICE_RINGS = 10,
+    XHCI_DEVICE_RINGS = 10,             /* bring-up: not 1 to 64 rings, or one is no nonzero multiple of 16 or twice there */
     XHCI_DEVICE_SLOT_LIMIT_REACHED = 11,
     XHCI_DEVICE_UNUSABLE = 12,          /* a record marked unusable or not sound, or no record */
     XHCI_DEVICE_FAILED = 13,            /* a command failed: `code` */
@@ -75,7 +85,9 @@ enum {
     XHCI_DEVICE_QUEUE_FULL = 17,        /* bring-up: the slot has a route for control */
     XHCI_DEVICE_INVALID_ENDPOINT = 18,  /* an old endpoint's route is not its ring */
     XHCI_DEVICE_PACKET_EXPONENT = 19,   /* bring-up at speeds 4 and 5: the packet byte is not 9 */
-    XHCI_DEVICE_MALFORMED = 20          /* raw descriptors: malformed bytes, or an endpoint word with packets 0 */
+    XHCI_DEVICE_MALFORMED = 20,         /* raw descriptors: malformed bytes, or an endpoint word with packets 0 */
+    XHCI_DEVICE_TOO_FEW_RINGS = 21,     /* a claim: fewer free rings than endpoint words */
+    XHCI_DEVICE_OUTDATED_ASK = 22       /* a commit: an ask would now return something else */
 };
 
 /* The answer in words. */
@@ -91,7 +103,7 @@ static inline const char *xhci_device_answer_name(uint32_t answer) {
     case XHCI_DEVICE_THINK_TIME: return "the think time has no value";
     case XHCI_DEVICE_NOT_FOUND: return "there is no such alternate";
     case XHCI_DEVICE_INVALID_PARAMETER: return "an address is owned by another interface";
-    case XHCI_DEVICE_RINGS: return "the rings offered do not fit";
+    case XHCI_DEVICE_RINGS: return "the rings given do not fit";
     case XHCI_DEVICE_SLOT_LIMIT_REACHED: return "the slot or the number of slots is out of range";
     case XHCI_DEVICE_UNUSABLE: return "the record is unusable or not sound";
     case XHCI_DEVICE_FAILED: return "a command failed";
@@ -102,6 +114,8 @@ static inline const char *xhci_device_answer_name(uint32_t answer) {
     case XHCI_DEVICE_INVALID_ENDPOINT: return "an endpoint's route is not its ring";
     case XHCI_DEVICE_PACKET_EXPONENT: return "the packet byte is no exponent of a SuperSpeed size";
     case XHCI_DEVICE_MALFORMED: return "the descriptors are malformed";
+    case XHCI_DEVICE_TOO_FEW_RINGS: return "there are fewer free rings than endpoint words";
+    case XHCI_DEVICE_OUTDATED_ASK: return "the ask is outdated";
     default: return "an answer without a name";
     }
 }
@@ -117,14 +131,15 @@ struct xhci_device_answered {
  * Words that no record has (a wrong count of words, a flag above 1, a byte above 255, a descriptor word
  * of more than 32 bits) are no record: 12, and nothing changes.
  */
-#define XHCI_DEVICE_RECORD_WORDS 514
+#define XHCI_DEVICE_RECORD_WORDS 580
 
 /* Room in a record's arrays. */
 enum {
     XHCI_DEVICE_LIST_ROOM = 256,    /* descriptor words */
     XHCI_DEVICE_EP_ROOM = 30,       /* endpoints */
     XHCI_DEVICE_HELD_ROOM = 32,     /* held settings */
-    XHCI_DEVICE_RING_ROOM = 61      /* quarantined rings */
+    XHCI_DEVICE_RING_ROOM = 61,     /* quarantined rings */
+    XHCI_DEVICE_GIVEN_ROOM = 64     /* given rings */
 };
 
 /* How many words the log of a call has at least. */
@@ -139,7 +154,7 @@ enum {
     XHCI_DEVICE_CONTROL_REVOKED = 2,
     XHCI_DEVICE_EP_REVOKED = 3,             /* EP_ROOM */
     XHCI_DEVICE_SLOT = 33,                  /* bytes */
-    XHCI_DEVICE_N = 34,
+    XHCI_DEVICE_MAX_SLOTS = 34,
     XHCI_DEVICE_PORT_SPEED = 35,
     XHCI_DEVICE_CURRENT_CONFIG_VALUE = 36,
     XHCI_DEVICE_EP_ADDRESSES = 37,          /* EP_ROOM */
@@ -154,7 +169,10 @@ enum {
     XHCI_DEVICE_QUARANTINED_COUNT = 421,
     XHCI_DEVICE_CONTROL = 422,              /* control's ring */
     XHCI_DEVICE_EP_RINGS = 423,             /* EP_ROOM */
-    XHCI_DEVICE_QUARANTINED = 453           /* RING_ROOM */
+    XHCI_DEVICE_QUARANTINED = 453,          /* RING_ROOM */
+    XHCI_DEVICE_UP = 514,                   /* flag: the device may be unplugged */
+    XHCI_DEVICE_GIVEN_COUNT = 515,
+    XHCI_DEVICE_GIVEN = 516                 /* GIVEN_ROOM, the rings that the slot was given */
 };
 
 /* How many words an image has: XHCI_DEVICE_RECORD_WORDS. */
@@ -163,22 +181,54 @@ size_t xhci_device_record_words(void);
 /* Whether words are a record that is marked usable. */
 bool xhci_device_is_usable(const uint64_t *image, size_t image_len);
 
+/* Whether words are a record whose device may be unplugged: brought up, and not unplugged since. */
+bool xhci_device_is_up(const uint64_t *image, size_t image_len);
+
 /* Whether words are a record that is sound. */
 bool xhci_device_is_sound(const uint64_t *image, size_t image_len);
 
-/* The bring-up of a slot: makes the record, whatever the image held. */
+/* The bring-up of a slot: makes the record, whatever the image held. The slot is given 1 to 64 rings, in any order: the
+ * lowest is control's, and claims draw from the others. */
 struct xhci_device_answered xhci_device_bring_up(
     uint64_t *image, size_t image_len, uint8_t *ctx, size_t ctx_len, uint64_t *routes, size_t routes_len,
     uint32_t *log, size_t log_len, const uint8_t *outcomes, size_t outcomes_len,
-    const uint64_t *hubs, size_t hubs_len, const uint32_t *list, size_t list_len,
+    const uint64_t *rings, size_t rings_len, const uint64_t *hubs, size_t hubs_len,
+    const uint32_t *list, size_t list_len,
     uint8_t slot, size_t n, uint8_t speed, uint8_t has_parent, size_t parent, uint8_t port,
-    uint8_t root_port, uint64_t ring, size_t header, uint8_t packet, uint8_t value);
+    uint8_t root_port, size_t header, uint8_t packet, uint8_t value);
 
-/* The claim of an interface's alternate setting, with a ring for each of its endpoint words. */
+/* The claim of an interface's alternate setting. Each of its endpoint words draws a ring, the lowest free one first. */
 struct xhci_device_answered xhci_device_claim(
     uint64_t *image, size_t image_len, uint8_t *ctx, size_t ctx_len, uint64_t *routes, size_t routes_len,
     uint32_t *log, size_t log_len, const uint8_t *outcomes, size_t outcomes_len,
-    uint8_t interface, uint8_t alternate, const uint64_t *rings, size_t rings_len);
+    uint8_t interface, uint8_t alternate);
+
+/* What an ask returns, beside the rings in the words that it was lent. A refused one has 0 everywhere but in `answer`, and
+ * is not to be committed: its zeros name interface 0, alternate 0. */
+struct xhci_device_asked {
+    uint32_t answer;    /* 0, or why a claim would be refused */
+    uint8_t interface;
+    uint8_t alternate;
+    uint32_t drops;     /* bit d: the claim would drop Dci d; bits 0 and 1 are 0 */
+    uint32_t adds;      /* bit d: it would add Dci d */
+    size_t count;       /* how many rings it would draw: one for each endpoint word, in the order of the list */
+};
+
+/* How many words an ask is lent for rings, at least: else 3. */
+#define XHCI_DEVICE_ASK_RINGS 30
+
+/* What a claim of an interface's alternate setting would do that is lent a context, routes and a log of these lengths.
+ * It runs the claim's checks, sends nothing and changes nothing but the first `count` of the rings. */
+struct xhci_device_asked xhci_device_ask(
+    const uint64_t *image, size_t image_len, size_t ctx_len, size_t routes_len, size_t log_len,
+    uint8_t interface, uint8_t alternate, uint64_t *rings, size_t rings_len);
+
+/* The claim that an ask has shown: its interface, alternate, flags and rings. 22, and nothing is changed, if an ask would
+ * now return other flags or rings. */
+struct xhci_device_answered xhci_device_commit(
+    uint64_t *image, size_t image_len, uint8_t *ctx, size_t ctx_len, uint64_t *routes, size_t routes_len,
+    uint32_t *log, size_t log_len, const uint8_t *outcomes, size_t outcomes_len,
+    uint8_t interface, uint8_t alternate, uint32_t drops, uint32_t adds, const uint64_t *rings, size_t rings_len);
 
 /* The release of an interface. */
 struct xhci_device_answered xhci_device_release(
@@ -195,6 +245,12 @@ struct xhci_device_answered xhci_device_hub_update(
     uint64_t *image, size_t image_len, uint8_t *ctx, size_t ctx_len, uint64_t *routes, size_t routes_len,
     uint32_t *log, size_t log_len, const uint8_t *outcomes, size_t outcomes_len,
     uint8_t ports, uint8_t multi, uint32_t ns);
+
+/* The unplugging: everything is stopped and the slot disabled. Also of a record that is up and that a broken or cut call
+ * left unusable. */
+struct xhci_device_answered xhci_device_disconnect(
+    uint64_t *image, size_t image_len, uint8_t *ctx, size_t ctx_len, uint64_t *routes, size_t routes_len,
+    uint32_t *log, size_t log_len, const uint8_t *outcomes, size_t outcomes_len);
 
 /* Raw configuration descriptors (USB 2.0 section 9.6) to descriptor words, into the first of 256 words or more:
  * 0, or the first of 3, 20 and 4. A refusal changes nothing, and words past the count keep their contents.

@@ -5,7 +5,7 @@
  * one to send, over the context that it left:
  *
  *     struct xhci_device_pending call;
- *     xhci_device_begin_claim(&call, image, ctx, sizeof ctx, 0, 1, rings, 2);
+ *     xhci_device_begin_claim(&call, image, ctx, sizeof ctx, 0, 1);
  *     while (xhci_device_next(&call, routes, routes_len)) {
  *         ... send call.command, then one of
  *         xhci_device_done(&call); xhci_device_failed(&call, code); xhci_device_read_bytes(...); xhci_device_read_words(...);
@@ -32,15 +32,6 @@
 extern "C" {
 #endif
 
-/* A command: what a word of the log says. Operands that an operation has not are 0. */
-struct xhci_device_command {
-    uint8_t operation;  /* XHCI_DEVICE_OP_... */
-    uint8_t first;      /* Dci, interface, value or index */
-    uint8_t second;     /* alternate setting */
-};
-
-struct xhci_device_command xhci_device_command_of(uint32_t word);
-
 /* "Stop", say. Operands are not in it. */
 const char *xhci_device_operation_name(uint8_t operation);
 
@@ -53,7 +44,8 @@ struct xhci_device_attached {
     size_t parent;          /* that hub's place among the hub words, */
     uint8_t port;           /* and the port on it */
     uint8_t root_port;
-    uint64_t ring;          /* control's */
+    const uint64_t *rings;  /* that the slot is given: 1 to 64, in any order; the lowest is control's */
+    size_t rings_len;
     const uint64_t *hubs;   /* hub words */
     size_t hubs_len;
 };
@@ -81,9 +73,9 @@ struct xhci_device_pending {
     int call;
     uint8_t byte1, byte2;                   /* interface, value or ports; alternate or multi */
     uint32_t ns;
-    const uint64_t *rings;
-    size_t rings_len;
     struct xhci_device_attached attached;
+    struct xhci_device_asked asked;
+    const uint64_t *rings;                  /* of a commit */
     /* what it began with, */
     uint64_t begun_image[XHCI_DEVICE_RECORD_WORDS];
     uint8_t begun_ctx[XHCI_DEVICE_CONTEXT_BYTES_64];
@@ -96,18 +88,22 @@ struct xhci_device_pending {
     size_t read, unread, read_before, unread_before;
 };
 
-/* The calls. Nothing is changed before the first xhci_device_next. An image has 514 words. Rings and hubs may be
- * null where there are none. */
+/* The calls. Nothing is changed before the first xhci_device_next. An image has XHCI_DEVICE_RECORD_WORDS words.
+ * Rings and hubs may be null where there are none. */
 void xhci_device_begin_bring_up(struct xhci_device_pending *call, uint64_t *image, uint8_t *ctx, size_t ctx_len,
                                 const struct xhci_device_attached *attached);
 void xhci_device_begin_claim(struct xhci_device_pending *call, uint64_t *image, uint8_t *ctx, size_t ctx_len,
-                             uint8_t interface, uint8_t alternate, const uint64_t *rings, size_t rings_len);
+                             uint8_t interface, uint8_t alternate);
+/* The claim that an accepted xhci_device_ask has shown, with the rings that it left in the words that it was lent. */
+void xhci_device_begin_commit(struct xhci_device_pending *call, uint64_t *image, uint8_t *ctx, size_t ctx_len,
+                              const struct xhci_device_asked *asked, const uint64_t *rings);
 void xhci_device_begin_release(struct xhci_device_pending *call, uint64_t *image, uint8_t *ctx, size_t ctx_len,
                                uint8_t interface);
 void xhci_device_begin_set_configuration(struct xhci_device_pending *call, uint64_t *image, uint8_t *ctx,
                                          size_t ctx_len, uint8_t value);
 void xhci_device_begin_hub_update(struct xhci_device_pending *call, uint64_t *image, uint8_t *ctx, size_t ctx_len,
                                   uint8_t ports, bool multi, uint32_t ns);
+void xhci_device_begin_disconnect(struct xhci_device_pending *call, uint64_t *image, uint8_t *ctx, size_t ctx_len);
 
 /* Whether a command is to be sent, `command`; otherwise the call has ended with `answered`. Asked twice, it says
  * the same. Routes of another length than at the first step end the call with 2, and it stays cut. */
@@ -128,7 +124,8 @@ void xhci_device_failed(struct xhci_device_pending *call, uint8_t code);
  * and begun anew. Control for Address, those flagged for Configure, none for any other. */
 uint32_t xhci_device_added(const struct xhci_device_pending *call);
 
-/* The endpoints that it gives up by that command, before it begins the added ones. */
+/* The endpoints that it gives up by a Configure, before it begins the added ones. Disable, for which this is 0, gives up
+ * control and all others. */
 uint32_t xhci_device_dropped(const struct xhci_device_pending *call);
 
 /* The ring that the context names for an endpoint. */

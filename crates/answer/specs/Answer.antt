@@ -3,7 +3,7 @@ use Prim.Native.Nat.{ℕ}
 use mathlib.Core.Bool.{Bool, _||_}
 use lib.Dec.{eqb}
 use Rattle.answer.specs.declared.Answer.{Answer}
-use Rattle.answer.specs.declared.Answer.the-variants.{Accepted, ContextLength, RoutesLength, LogTooShort, DescriptorList, HubChain, Speed, ThinkTime, NotFound, InvalidParameter, Rings, SlotLimitReached, Unusable, Failed, InterfaceBroken, Cut, ShortHeader, QueueFull, InvalidEndpoint, PacketExponent}
+use Rattle.answer.specs.declared.Answer.the-variants.{Accepted, ContextLength, RoutesLength, LogTooShort, DescriptorList, HubChain, Speed, ThinkTime, NotFound, InvalidParameter, Rings, SlotLimitReached, Unusable, Failed, InterfaceBroken, Cut, ShortHeader, QueueFull, InvalidEndpoint, PacketExponent, TooFewRings, OutdatedAsk}
 
 -- The papers' number of an answer.
 unfoldable pub number : Answer → ℕ
@@ -27,6 +27,8 @@ number ShortHeader = 16
 number QueueFull = 17
 number InvalidEndpoint = 18
 number PacketExponent = 19
+number TooFewRings = 21
+number OutdatedAsk = 22
 
 -- The code of 13, and 0 of the others.
 unfoldable pub codeOf : Answer → ℕ
@@ -50,6 +52,8 @@ codeOf ShortHeader = 0
 codeOf QueueFull = 0
 codeOf InvalidEndpoint = 0
 codeOf PacketExponent = 0
+codeOf TooFewRings = 0
+codeOf OutdatedAsk = 0
 
 abbrev pub isAccepted : Answer → Bool
 isAccepted a = eqb (number a) 0

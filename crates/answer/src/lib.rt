@@ -23,6 +23,8 @@ pub enum Answer {
     QueueFull,
     InvalidEndpoint,
     PacketExponent,
+    TooFewRings,
+    OutdatedAsk,
 }
 
 // Whether a call may go on, or its refusal.
@@ -56,6 +58,8 @@ pub fn answer_number(a: Answer) -> u8
         Answer::QueueFull => 17,
         Answer::InvalidEndpoint => 18,
         Answer::PacketExponent => 19,
+        Answer::TooFewRings => 21,
+        Answer::OutdatedAsk => 22,
     }
 }
 

@@ -6,10 +6,9 @@ use native.Mathlib.Omega.{arith}
 use borrow.Author.Tests.{lt-ltb}
 use lib.ListN.{length, getD}
 use Rattle.command.specs.declared.Command.{Command}
-use Rattle.command.specs.declared.Command.the-variants as command
 use Rattle.command.specs.declared.Sent.{Sent}
 use Rattle.command.specs.declared.Sent.the-variants as sent
-use Rattle.command.specs.Command.{outcomeAt}
+use Rattle.command.specs.Command.{outcomeAt, stopCommand}
 use Rattle.command.specs.Course.{Course, ends, sends, onSent, result}
 use Rattle.command.specs.Sweep.{Sweep, swept, undoStops, stopFrom, stopEndpoints}
 
@@ -34,7 +33,7 @@ stops-done o ctx stopped [] n h = refl
 stops-done o ctx stopped (d ∷ ds) n h =
     let next : Sent → Course Sweep =
     λ s. onSent s (stopFrom ctx (stopped ++ (d ∷ [])) ds) (undoStops ctx stopped) (ends (swept sent.Cut 0)) in
-    result-sends o n (command.Stop d) ctx next sent.Done (h n (omega arith) (omega arith))
+    result-sends o n (stopCommand d) ctx next sent.Done (h n (omega arith) (omega arith))
     ∙ stops-done o ctx (stopped ++ (d ∷ [])) ds (n + 1) (λ i l m. h i (omega arith) (omega arith))
 
 -- stopping ends done where every outcome is

@@ -5,8 +5,9 @@ use mathlib.Core.List.{List, [], _∷_, _++_}
 use native.Mathlib.Numerals.{add-one}
 use native.Mathlib.Nat.{add-zero}
 use native.Mathlib.Omega.{arith}
-use lib.ListN.{length, getD, set, length-set}
-use lib.Seq.{sets, length-sets, getD-set-same, getD-set-other}
+use lib.ListN.{length, getD, set}
+use lib.Seq.{sets, length-sets}
+use Rattle.laws.proofs.Stores.{sets-past, sets-there}
 use Rattle.command.specs.declared.Command.{Command}
 use Rattle.command.specs.declared.Sent.{Sent}
 use Rattle.command.specs.Command.{commandWord, outcomeAt}
@@ -52,29 +53,6 @@ pub result-then : {A B : Type 0} (o : List ℕ) (n : ℕ) (c : Course A) (f : A 
     result o n (then c f) ≡ result o (n + length (words o n c)) (f (result o n c))
 unfolding played
 result-then o n c f = ap (λ p. p .end) (played-then o n c f [])
-
--- words stored one after the other leave what is past them
-pub sets-past : (ws log : List ℕ) (n k : ℕ) → n + length ws ≤ k → getD (sets log n ws) k 0 ≡ getD log k 0
-sets-past [] log n k h = refl
-sets-past (w ∷ ws) log n k h =
-    sets-past ws (set log n w) (suc n) k (omega arith) ∙ getD-set-other log n k w 0 (λ e. omega arith)
-
--- and what is before them
-pub sets-before : (ws log : List ℕ) (n k : ℕ) → k < n → getD (sets log n ws) k 0 ≡ getD log k 0
-sets-before [] log n k h = refl
-sets-before (w ∷ ws) log n k h =
-    sets-before ws (set log n w) (suc n) k (omega arith) ∙ getD-set-other log n k w 0 (λ e. omega arith)
-
--- and are there
-pub sets-there : (ws log : List ℕ) (n i : ℕ) → i < length ws → n + length ws ≤ length log →
-    getD (sets log n ws) (n + i) 0 ≡ getD ws i 0
-sets-there [] log n i h l = absurd (omega arith)
-sets-there (w ∷ ws) log n zero h l =
-    rw add-zero (sets-before ws (set log n w) (suc n) n (omega arith) ∙ getD-set-same log n w 0 (omega arith))
-sets-there (w ∷ ws) log n (suc i) h l =
-    let e : n + suc i ≡ suc n + i = omega arith in
-    let m : suc n + length ws ≤ length (set log n w) = simp length-set (omega arith) in
-    rw e (sets-there ws (set log n w) (suc n) i (omega arith) m)
 
 module _ {A : Type 0} (o : List ℕ) (n : ℕ) (c : Course A) (log : List ℕ) where
   -- a course keeps the log's length

@@ -23,14 +23,15 @@ unfoldable pub ByteOperands : Command → Type 0
 ByteOperands command.Address = Unit {0}
 ByteOperands command.Evaluate = Unit {0}
 ByteOperands command.Configure = Unit {0}
-ByteOperands (command.Stop dci) = dci < 256
-ByteOperands (command.Resume dci) = dci < 256
+ByteOperands (command.Stop dci) = dci .0 < 256
+ByteOperands (command.Resume dci) = dci .0 < 256
 ByteOperands (command.SetInterface interface alternate) = (interface < 256) × (alternate < 256)
 ByteOperands (command.SetConfiguration value) = value < 256
 ByteOperands command.ReadHeader = Unit {0}
 ByteOperands command.ReadConfiguration = Unit {0}
 ByteOperands command.ReadDevice = Unit {0}
 ByteOperands (command.ReadConfig index) = index < 256
+ByteOperands command.Disable = Unit {0}
 
 -- The operation of a command.
 unfoldable pub operation : Command → ℕ
@@ -45,6 +46,7 @@ operation command.ReadHeader = 8
 operation command.ReadConfiguration = 9
 operation command.ReadDevice = 10
 operation (command.ReadConfig index) = 11
+operation command.Disable = 12
 
 -- a command's word tells its operation
 pub operation-command : (c : Command) → ByteOperands c → operationOf (commandWord c) ≡ operation c
@@ -52,14 +54,15 @@ unfolding commandWord ByteOperands operation
 operation-command command.Address b = refl
 operation-command command.Evaluate b = refl
 operation-command command.Configure b = refl
-operation-command (command.Stop dci) b = operation-word 4 dci 0 b (omega arith)
-operation-command (command.Resume dci) b = operation-word 5 dci 0 b (omega arith)
+operation-command (command.Stop dci) b = operation-word 4 (dci .0) 0 b (omega arith)
+operation-command (command.Resume dci) b = operation-word 5 (dci .0) 0 b (omega arith)
 operation-command (command.SetInterface interface alternate) b = operation-word 6 interface alternate (b .0) (b .1)
 operation-command (command.SetConfiguration value) b = operation-word 7 value 0 b (omega arith)
 operation-command command.ReadHeader b = refl
 operation-command command.ReadConfiguration b = refl
 operation-command command.ReadDevice b = refl
 operation-command (command.ReadConfig index) b = operation-word 11 index 0 b (omega arith)
+operation-command command.Disable b = refl
 
 -- Every command that a course can send has P.
 unfoldable pub EachCommand : {A : Type 0} → (Command → Type 0) → Course A → Type 0

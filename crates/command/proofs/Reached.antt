@@ -1,5 +1,5 @@
 -- The commands that a course comes to along outcomes that are known.
-use Prim.Native.Nat.{ℕ, _+_, _<_}
+use Prim.Native.Nat.{ℕ, _+_, _<_, _≤_}
 use mathlib.Core.Path.{_≡_, refl, sym, ap, _∙_}
 use mathlib.Core.Bool.{Bool, true, false, cond}
 use mathlib.Core.List.{List, [], _∷_, _++_, append-assoc}
@@ -13,11 +13,11 @@ use Rattle.command.specs.declared.Sent.{Sent}
 use Rattle.command.specs.declared.Sent.the-variants as sent
 use Rattle.command.specs.Command.{commandWord, outcomeAt}
 use Rattle.command.specs.Course.{Course, ends, sends, onSent, then, words, result}
-use Rattle.command.specs.Sweep.{Sweep, stopEndpoints}
+use Rattle.command.specs.Sweep.{Sweep, stopEndpoints, stopEach}
 use Rattle.command.proofs.Cuts.{outcome-none}
 use Rattle.command.proofs.Done.{outcome-done, AllDone, stop-all-done}
 use Rattle.command.proofs.Laws.{words-then, result-then}
-use Rattle.command.proofs.Sweeps.{stop-done}
+use Rattle.command.proofs.Sweeps.{stop-done, stop-words-length, stop-each-words, stop-each-through}
 
 -- A course goes on as another one that begins at command n, after words that it logged.
 pub record Comes {A : Type 0} (o : List ℕ) (m : ℕ) (c : Course A) (n : ℕ) (d : Course A) : Type 0 where
@@ -76,6 +76,14 @@ module _ {A : Type 0} (o : List ℕ) where
       let e = stop-all-done o ctx ds n h in
       let l : length (words o n (stopEndpoints ctx ds)) ≡ length ds = stop-done o ctx ds n e in
       rw (l, e) at (comes-part n (stopEndpoints ctx ds) (λ r. onSent (r .sent) next (failed r) (cut r)))
+
+  -- after endpoints that are stopped past failures
+  pub comes-each : (n : ℕ) (ctx ds : List ℕ) (f : Bool → Course A) → n + length ds ≤ length o →
+      Comes o n (then (stopEach ctx ds) f) (n + length ds) (f false)
+  comes-each n ctx ds f h =
+      let e = stop-each-through o ctx ds n h in
+      let l : length (words o n (stopEach ctx ds)) ≡ length ds = rw (stop-each-words o ctx ds n e) (stop-words-length ds) in
+      rw (l, e) at (comes-part n (stopEach ctx ds) f)
 
   -- by a test
   pub comes-true : (n : ℕ) (b : Bool) (x y : Course A) → b ≡ true → Comes o n (cond b x y) n x

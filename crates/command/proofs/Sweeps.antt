@@ -1,18 +1,19 @@
 -- What a sweep over endpoints sends and how it ends.
 use Prim.Native.Nat.{ℕ, zero, suc, _+_, _*_, _<_, _≤_}
 use mathlib.Core.Path.{_≡_, refl, sym, ap, _∙_}
+use mathlib.Core.Bool.{Bool, true, false}
 use mathlib.Core.List.{List, [], _∷_, _++_, append-nil}
 use native.Mathlib.Omega.{arith}
 use native.Mathlib.Decide.{decLt}
 use lib.ListN.{length, getD, length-append, List·getD-eq-default}
 use Rattle.command.specs.declared.Command.{Command}
-use Rattle.command.specs.declared.Command.the-variants as command
 use Rattle.command.specs.declared.Sent.{Sent}
 use Rattle.command.specs.declared.Sent.the-variants.{Done, Failed, Cut}
 use Rattle.command.specs.declared.Swept.{Swept}
-use Rattle.command.specs.Command.{commandWord, outcomeAt}
+use Rattle.command.specs.Command.{commandWord, outcomeAt, stopCommand, resumeCommand}
 use Rattle.command.specs.Course.{Course, ends, onSent, then, words, result, played, EndsWith, CutsTo, CutEnds, Uncut}
-use Rattle.command.specs.Sweep.{Sweep, swept, resumeFrom, resumeStoppedEndpoints, orCode, undoStops, stopFrom, stopEndpoints, SweptAs}
+use Rattle.command.specs.Sweep.{Sweep, swept, resumeFrom, resumeStoppedEndpoints, orCode, undoStops, stopFrom, stopEndpoints, stopEach, SweptAs}
+use Rattle.laws.proofs.Tests.{not-both}
 use Rattle.command.proofs.Laws.{words-then, result-then}
 use Rattle.command.proofs.Cuts.{done-cut, failed-cut, failed-done, on-sent, cuts-then, uncut-then, uncut-result, cut-last}
 use Rattle.command.proofs.Operations.{EachCommand, each-then}
@@ -34,7 +35,7 @@ resumed-from o ctx (d ∷ ds) n a = go (outcomeAt o n) (resumed-from o ctx ds (n
 
     go : (s : Sent) →
         Resumed (a + 1) (length ds) (words o (n + 1) (resumeFrom ctx (a + 1) ds)) (result o (n + 1) (resumeFrom ctx (a + 1) ds)) →
-        Resumed a (suc (length ds)) (commandWord (command.Resume d) ∷ words o (n + 1) (rest s)) (result o (n + 1) (rest s))
+        Resumed a (suc (length ds)) (commandWord (resumeCommand d) ∷ words o (n + 1) (rest s)) (result o (n + 1) (rest s))
     go Done f =
         record {
           short = omega (arith, f .short);
@@ -109,7 +110,7 @@ stopped-from o ctx stopped (d ∷ ds) n = go (outcomeAt o n) (stopped-from o ctx
 
     go : (s : Sent) →
         Stopped (length next) (length ds) (words o (n + 1) (stopFrom ctx next ds)) (result o (n + 1) (stopFrom ctx next ds)) →
-        Stopped (length stopped) (suc (length ds)) (commandWord (command.Stop d) ∷ words o (n + 1) (rest s)) (result o (n + 1) (rest s))
+        Stopped (length stopped) (suc (length ds)) (commandWord (stopCommand d) ∷ words o (n + 1) (rest s)) (result o (n + 1) (rest s))
     go Done f =
         let l : length next ≡ length stopped + 1 = simp length-append in
         record {
@@ -258,7 +259,7 @@ one-more Q (x ∷ l) d h q zero = h zero
 one-more Q (x ∷ l) d h q (suc k) = one-more Q l d (λ j. h (suc j)) q k
 
 module _ (P : Command → Type 0) (ctx : List ℕ) where
-  resume-each-from : (ds : List ℕ) (a : ℕ) → ((k : ℕ) → P (command.Resume (getD ds k 0))) → EachCommand P (resumeFrom ctx a ds)
+  resume-each-from : (ds : List ℕ) (a : ℕ) → ((k : ℕ) → P (resumeCommand (getD ds k 0))) → EachCommand P (resumeFrom ctx a ds)
   unfolding EachCommand resumeFrom
   resume-each-from [] a h = tt
   resume-each-from (d ∷ ds) a h = (
@@ -267,27 +268,105 @@ module _ (P : Command → Type 0) (ctx : List ℕ) where
   )
 
   -- resuming sends resumes
-  pub resume-each : (ds : List ℕ) → ((k : ℕ) → P (command.Resume (getD ds k 0))) → EachCommand P (resumeStoppedEndpoints ctx ds)
+  pub resume-each : (ds : List ℕ) → ((k : ℕ) → P (resumeCommand (getD ds k 0))) → EachCommand P (resumeStoppedEndpoints ctx ds)
   unfolding resumeStoppedEndpoints
   resume-each ds h = resume-each-from ds 0 h
 
-  stop-each-from : (stopped ds : List ℕ) → ((k : ℕ) → P (command.Resume (getD stopped k 0))) →
-      ((k : ℕ) → P (command.Stop (getD ds k 0)) × P (command.Resume (getD ds k 0))) → EachCommand P (stopFrom ctx stopped ds)
+  stop-each-from : (stopped ds : List ℕ) → ((k : ℕ) → P (resumeCommand (getD stopped k 0))) →
+      ((k : ℕ) → P (stopCommand (getD ds k 0)) × P (resumeCommand (getD ds k 0))) → EachCommand P (stopFrom ctx stopped ds)
   unfolding EachCommand stopFrom undoStops
   stop-each-from stopped [] b h = tt
   stop-each-from stopped (d ∷ ds) b h = (
     h zero .0,
     λ s.
         on-sent (EachCommand P) s _ _ _
-        (λ e. stop-each-from (stopped ++ (d ∷ [])) ds (one-more (λ x. P (command.Resume x)) stopped d b (h zero .1)) (λ k. h (suc k)))
+        (λ e. stop-each-from (stopped ++ (d ∷ [])) ds (one-more (λ x. P (resumeCommand x)) stopped d b (h zero .1)) (λ k. h (suc k)))
         (λ code e. each-then P (resumeStoppedEndpoints ctx stopped) _ (resume-each stopped b) (λ r. tt))
         (λ e. tt),
   )
 
   -- stopping sends stops and resumes
-  pub stop-each : (ds : List ℕ) → ((k : ℕ) → P (command.Stop (getD ds k 0)) × P (command.Resume (getD ds k 0))) →
+  pub stop-each : (ds : List ℕ) → ((k : ℕ) → P (stopCommand (getD ds k 0)) × P (resumeCommand (getD ds k 0))) →
       EachCommand P (stopEndpoints ctx ds)
   unfolding stopEndpoints
   stop-each ds h =
       let e : getD ds (length ds) 0 ≡ 0 = List·getD-eq-default ds 0 (omega arith) in
       stop-each-from [] ds (λ k. rw e at (h (length ds) .1)) h
+
+  -- stopping past failures sends stops
+  pub stop-each-each : (ds : List ℕ) → ((k : ℕ) → k < length ds → P (stopCommand (getD ds k 0))) → EachCommand P (stopEach ctx ds)
+  unfolding EachCommand stopEach
+  stop-each-each [] h = tt
+  stop-each-each (d ∷ ds) h =
+      let rest : EachCommand P (stopEach ctx ds) = stop-each-each ds (λ k l. h (suc k) (omega arith)) in
+      (h zero (omega arith), λ s. on-sent (EachCommand P) s _ _ _ (λ e. rest) (λ code e. rest) (λ e. tt))
+
+-- Stopping past failures that was cut, over this context, and one that was not.
+abbrev pub CutStops : List ℕ → List ℕ → Bool → Type 0
+CutStops ctx at cut = (ctx ≡ at) × (cut ≡ true)
+
+abbrev pub UncutStops : Bool → Type 0
+UncutStops cut = cut ≡ false
+
+-- it passes a cut on
+pub stop-each-cuts : (ctx ds : List ℕ) → CutsTo (CutStops ctx) (stopEach ctx ds)
+unfolding CutsTo EndsWith stopEach onSent
+stop-each-cuts ctx [] = tt
+stop-each-cuts ctx (d ∷ ds) =
+    let rest : CutsTo (CutStops ctx) (stopEach ctx ds) = stop-each-cuts ctx ds in
+    ((refl, refl), λ s. on-sent (CutsTo (CutStops ctx)) s _ _ _ (λ e. rest) (λ code e. rest) (λ e. tt))
+
+-- and reports no other
+pub stop-each-uncut : (ctx ds : List ℕ) → Uncut UncutStops (stopEach ctx ds)
+unfolding Uncut stopEach
+stop-each-uncut ctx [] = refl
+stop-each-uncut ctx (d ∷ ds) =
+    let rest : Uncut UncutStops (stopEach ctx ds) = stop-each-uncut ctx ds in
+    λ s u. on-sent (Uncut UncutStops) s _ _ _ (λ e. rest) (λ code e. rest) (λ e. absurd (u e))
+
+-- The words of a Stop for each.
+unfoldable pub stopWords : List ℕ → List ℕ
+stopWords [] = []
+stopWords (d ∷ ds) = commandWord (stopCommand d) ∷ stopWords ds
+
+pub stop-words-length : (ds : List ℕ) → length (stopWords ds) ≡ length ds
+unfolding stopWords
+stop-words-length [] = refl
+stop-words-length (d ∷ ds) = ap suc (stop-words-length ds)
+
+-- it sends at most a word for each endpoint
+pub words-length-stop-each : (o ctx ds : List ℕ) (n : ℕ) → length (words o n (stopEach ctx ds)) ≤ length ds
+unfolding stopEach words onSent
+words-length-stop-each o ctx [] n = omega arith
+words-length-stop-each o ctx (d ∷ ds) n = go (outcomeAt o n) (words-length-stop-each o ctx ds (n + 1))
+  where
+    rest : Sent → Course Bool
+    rest s = onSent s (stopEach ctx ds) (λ code. stopEach ctx ds) (ends true)
+
+    go : (s : Sent) → length (words o (n + 1) (stopEach ctx ds)) ≤ length ds →
+        length (commandWord (stopCommand d) ∷ words o (n + 1) (rest s)) ≤ suc (length ds)
+    go Done h = omega arith
+    go (Failed code) h = omega arith
+    go Cut h = omega arith
+
+-- where it is not cut, a Stop for each, in order
+pub stop-each-words : (o ctx ds : List ℕ) (n : ℕ) → result o n (stopEach ctx ds) ≡ false →
+    words o n (stopEach ctx ds) ≡ stopWords ds
+unfolding stopEach words result onSent stopWords
+stop-each-words o ctx [] n e = refl
+stop-each-words o ctx (d ∷ ds) n e = go (outcomeAt o n) (stop-each-words o ctx ds (n + 1)) e
+  where
+    rest : Sent → Course Bool
+    rest s = onSent s (stopEach ctx ds) (λ code. stopEach ctx ds) (ends true)
+
+    go : (s : Sent) → (result o (n + 1) (stopEach ctx ds) ≡ false → words o (n + 1) (stopEach ctx ds) ≡ stopWords ds) →
+        result o (n + 1) (rest s) ≡ false →
+        commandWord (stopCommand d) ∷ words o (n + 1) (rest s) ≡ commandWord (stopCommand d) ∷ stopWords ds
+    go Done f p = ap (λ ws. commandWord (stopCommand d) ∷ ws) (f p)
+    go (Failed code) f p = ap (λ ws. commandWord (stopCommand d) ∷ ws) (f p)
+    go Cut f p = not-both true refl p
+
+-- it is not cut where there is an outcome for each
+pub stop-each-through : (o ctx ds : List ℕ) (n : ℕ) → n + length ds ≤ length o → result o n (stopEach ctx ds) ≡ false
+stop-each-through o ctx ds n h =
+    uncut-result UncutStops o n (stopEach ctx ds) (stop-each-uncut ctx ds) (omega (arith, words-length-stop-each o ctx ds n))

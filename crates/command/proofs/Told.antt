@@ -1,6 +1,7 @@
 -- What the end of a course says of the outcomes that were read: how many, and which codes.
 use Prim.Native.Nat.{ℕ, suc, _+_, _≤_, _<_}
 use mathlib.Core.Path.{_≡_, refl, _∙_, ap}
+use mathlib.Core.Bool.{true, false}
 use mathlib.Core.List.{List, [], _∷_, _++_}
 use native.Mathlib.Omega.{arith}
 use native.Mathlib.Decide.{decLt}
@@ -9,7 +10,7 @@ use Rattle.command.specs.declared.Sent.{Sent}
 use Rattle.command.specs.declared.Sent.the-variants.{Done, Failed, Cut}
 use Rattle.command.specs.Command.{commandWord, outcomeAt}
 use Rattle.command.specs.Course.{Course, ends, sends, onSent, then, words, result, played, EndsWith, CutsTo}
-use Rattle.command.specs.Sweep.{Sweep, swept, resumeFrom, resumeStoppedEndpoints, orCode, undoStops, stopFrom, stopEndpoints}
+use Rattle.command.specs.Sweep.{Sweep, swept, resumeFrom, resumeStoppedEndpoints, orCode, undoStops, stopFrom, stopEndpoints, stopEach}
 use Rattle.command.proofs.Cuts.{outcome-none, outcome-there, outcome-take, ended-then}
 
 -- An outcome that was read: done, or failed with one of these codes.
@@ -179,6 +180,14 @@ module _ (K : ℕ → Type 0) (ctx : List ℕ) where
   pub stop-told : (ds : List ℕ) → Told (ReadSweep K) CutSweep K (stopEndpoints ctx ds)
   unfolding stopEndpoints
   stop-told ds = stop-told-from [] ds
+
+  -- stopping past failures reports a cut, and no code
+  pub stop-each-told : (ds : List ℕ) → Told (λ cut. cut ≡ false) (λ cut. cut ≡ true) K (stopEach ctx ds)
+  unfolding Told EndsWith stopEach onSent
+  stop-each-told [] = refl
+  stop-each-told (d ∷ ds) =
+      let rest : Told (λ cut. cut ≡ false) (λ cut. cut ≡ true) K (stopEach ctx ds) = stop-each-told ds in
+      (refl, λ s r. on-read (Told (λ cut. cut ≡ false) (λ cut. cut ≡ true) K) K s _ _ _ r rest (λ code k. rest))
 
 -- Where a command comes after stopping, one is sent.
 pub sends-after-stop :

@@ -26,14 +26,22 @@ unfoldable pub commandWord : Command → ℕ
 commandWord command.Address = logWord 1 0 0
 commandWord command.Evaluate = logWord 2 0 0
 commandWord command.Configure = logWord 3 0 0
-commandWord (command.Stop dci) = logWord 4 dci 0
-commandWord (command.Resume dci) = logWord 5 dci 0
+commandWord (command.Stop dci) = logWord 4 (dci .0) 0
+commandWord (command.Resume dci) = logWord 5 (dci .0) 0
 commandWord (command.SetInterface interface alternate) = logWord 6 interface alternate
 commandWord (command.SetConfiguration value) = logWord 7 value 0
 commandWord command.ReadHeader = logWord 8 0 0
 commandWord command.ReadConfiguration = logWord 9 0 0
 commandWord command.ReadDevice = logWord 10 0 0
 commandWord (command.ReadConfig index) = logWord 11 index 0
+commandWord command.Disable = logWord 12 0 0
+
+-- Stop and Resume of an endpoint by its number.
+abbrev pub stopCommand : ℕ → Command
+stopCommand dci = command.Stop (record { 0 = dci })
+
+abbrev pub resumeCommand : ℕ → Command
+resumeCommand dci = command.Resume (record { 0 = dci })
 
 -- The outcome of command number n: byte n, 0 being done; when none is left the call is cut.
 unfoldable pub outcomeAt : List ℕ → ℕ → Sent

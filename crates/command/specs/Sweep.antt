@@ -1,11 +1,12 @@
 -- Stopping and resuming some endpoints, one after the other: `stop_endpoints` and `resume_stopped_endpoints` of the original.
 use Prim.Native.Nat.{ℕ, _+_}
 use mathlib.Core.Path.{_≡_}
+use mathlib.Core.Bool.{Bool, true, false}
 use mathlib.Core.List.{List, [], _∷_, _++_}
-use Rattle.command.specs.declared.Command.the-variants as command
 use Rattle.command.specs.declared.Sent.{Sent}
 use Rattle.command.specs.declared.Sent.the-variants.{Done, Failed, Cut}
 use Rattle.command.specs.declared.Swept.{Swept}
+use Rattle.command.specs.Command.{stopCommand, resumeCommand}
 use Rattle.command.specs.Course.{Course, ends, sends, onSent, then, Played}
 
 -- How a sweep over endpoints ended, and how many of them, from the first on, it made active again.
@@ -20,7 +21,7 @@ swept s n = record { sent = s; active = n }
 unfoldable pub resumeFrom : List ℕ → ℕ → List ℕ → Course Sweep
 resumeFrom ctx active [] = ends (swept Done active)
 resumeFrom ctx active (d ∷ ds) =
-    sends (command.Resume d) ctx
+    sends (resumeCommand d) ctx
     (λ s. onSent s (resumeFrom ctx (active + 1) ds) (λ code. ends (swept (Failed code) active)) (ends (swept Cut active)))
 
 unfoldable pub resumeStoppedEndpoints : List ℕ → List ℕ → Course Sweep
@@ -41,11 +42,17 @@ undoStops ctx stopped code =
 unfoldable pub stopFrom : List ℕ → List ℕ → List ℕ → Course Sweep
 stopFrom ctx stopped [] = ends (swept Done 0)
 stopFrom ctx stopped (d ∷ ds) =
-    sends (command.Stop d) ctx
+    sends (stopCommand d) ctx
     (λ s. onSent s (stopFrom ctx (stopped ++ (d ∷ [])) ds) (undoStops ctx stopped) (ends (swept Cut 0)))
 
 unfoldable pub stopEndpoints : List ℕ → List ℕ → Course Sweep
 stopEndpoints ctx dcis = stopFrom ctx [] dcis
+
+-- Endpoints are stopped one after the other, past a failed Stop; whether it was cut.
+unfoldable pub stopEach : List ℕ → List ℕ → Course Bool
+stopEach ctx [] = ends false
+stopEach ctx (d ∷ ds) =
+    sends (stopCommand d) ctx (λ s. onSent s (stopEach ctx ds) (λ code. stopEach ctx ds) (ends true))
 
 -- What a sweep's code leaves: its result, and the log.
 pub record SweptAs (r : Swept) (left : List ℕ) (p : Played Sweep) : Type 0 where

@@ -1,4 +1,5 @@
 // Commands to the controller and the device: each is a word in the log, and its outcome is a byte (cmd.rs and device.rs of the original).
+use def::Dci;
 ghost use mathlib.Core.Path.{_≡_};
 ghost use Prim.Native.Nat.{_<_};
 ghost use lib.ListN.{length, set};
@@ -12,14 +13,15 @@ pub enum Command {
     Address,
     Evaluate,
     Configure,
-    Stop(u8),
-    Resume(u8),
+    Stop(Dci),
+    Resume(Dci),
     SetInterface(u8, u8),
     SetConfiguration(u8),
     ReadHeader,
     ReadConfiguration,
     ReadDevice,
     ReadConfig(u8),
+    Disable,
 }
 
 // How a command ended.
@@ -59,6 +61,8 @@ const READ_DEVICE: u32 = 0xA000_0000;
 
 const READ_CONFIG: u32 = 0xB000_0000;
 
+const DISABLE: u32 = 0xC000_0000;
+
 // The lowest bit of each operand.
 const FIRST: u32 = 0x10_0000;
 
@@ -71,8 +75,8 @@ fn command_word(c: Command) -> u32
         Command::Address => ADDRESS,
         Command::Evaluate => EVALUATE,
         Command::Configure => CONFIGURE,
-        Command::Stop(dci) => STOP + (dci as u32) * FIRST,
-        Command::Resume(dci) => RESUME + (dci as u32) * FIRST,
+        Command::Stop(dci) => STOP + (dci.0 as u32) * FIRST,
+        Command::Resume(dci) => RESUME + (dci.0 as u32) * FIRST,
         Command::SetInterface(interface, alternate) => SET_INTERFACE
             + (interface as u32) * FIRST
             + (alternate as u32) * SECOND,
@@ -81,6 +85,7 @@ fn command_word(c: Command) -> u32
         Command::ReadConfiguration => READ_CONFIGURATION,
         Command::ReadDevice => READ_DEVICE,
         Command::ReadConfig(index) => READ_CONFIG + (index as u32) * FIRST,
+        Command::Disable => DISABLE,
     }
 }
 

@@ -13,8 +13,8 @@ use Rattle.transfer.specs.Routes.{Queue, ringFor}
 use Rattle.context_block.specs.Fields.{DROP-FLAG, ADD-FLAG, INTERFACE-NUMBER, ALTERNATE-SETTING, CONTEXT-ENTRIES, apartFromAll}
 use Rattle.context_field.specs.Field.{apart}
 use Rattle.context_block.specs.FieldWrite.{FieldWrite, _:=_, fieldsWritten, inside, allInside}
-use Rattle.context_block.specs.Blocks.{changed, dropFlags, endpointFields, wordDci}
-use Rattle.context_block.specs.Promises.{fieldsOf, someDci}
+use Rattle.context_block.specs.Blocks.{changed, dropFlags, endpointFields, wordDci, someDci}
+use Rattle.context_block.specs.Promises.{fieldsOf}
 use Rattle.context_block.proofs.Laws.{fields-written-append}
 use Rattle.context.specs.Place.{Write, CONTROL, SLOT, inBlock, ofBlock, written, blockAt, readAt, OutsideBlock, Spaced}
 use Rattle.context.specs.Steps.{addWrites, addAll, contextEntries, configureWrites}
@@ -128,7 +128,7 @@ module _ (speed interface alternate : ℕ) (dropped added : List ℕ) (qs : List
 
   -- Context Entries.
   abbrev pub entries : List FieldWrite
-  entries = (CONTEXT-ENTRIES := contextEntries dcis added) ∷ []
+  entries = (CONTEXT-ENTRIES := contextEntries dropped dcis added) ∷ []
 
   abbrev controls : List FieldWrite
   controls = changed ++ ((INTERFACE-NUMBER := interface) ∷ (ALTERNATE-SETTING := alternate) ∷ dropFlags dropped)

@@ -16,8 +16,8 @@ use Rattle.context_field.specs.Field.{readField, writeField, InBlock, apart, wi
 use Rattle.context_field.proofs.Laws.{length-writeField, read-apart, within-self}
 use Rattle.context_block.specs.Fields.{DROP-FLAGS, ADD-FLAGS, DROP-FLAG, ADD-FLAG, apartFromAll}
 use Rattle.context_block.specs.FieldWrite.{FieldWrite, _:=_, fieldsWritten, inside, allInside}
-use Rattle.context_block.specs.Blocks.{changed, dropFlags, wordDci}
-use Rattle.context_block.specs.Promises.{Holds, fieldsOf, someDci}
+use Rattle.context_block.specs.Blocks.{changed, dropFlags, wordDci, someDci}
+use Rattle.context_block.specs.Promises.{Holds, fieldsOf}
 use Rattle.context_block.proofs.Laws.{fields-written-append, fields-written-length, inside-true, apart-from, apart-part, flag-set}
 use Rattle.context_block.proofs.Promises.{changed-flag-promise, control-packet-promise}
 use Rattle.context.specs.Promises.{Endpoints, ControlReads}

@@ -1,5 +1,6 @@
 pub mod Added
 pub mod Control
+pub mod Entries
 pub mod Laws
 pub mod Parts
 pub mod Promises

@@ -18,14 +18,15 @@ use Rattle.context_field.specs.declared.Field.{Field}
 use Rattle.context_field.specs.Field.{readField, wordAt, InBlock, apart}
 use Rattle.context_block.specs.Fields.{ADD-FLAGS, ADD-FLAG, CONFIGURATION-VALUE, INTERFACE-NUMBER, ALTERNATE-SETTING, CONTEXT-ENTRIES, MAX-PACKET-SIZE, apartFromAll}
 use Rattle.context_block.specs.FieldWrite.{FieldWrite, _:=_, fieldsWritten, allInside, inside}
-use Rattle.context_block.specs.Blocks.{changed, addressSlot, addressEndpoint, hubFields, wordDci, endpointFields}
-use Rattle.context_block.specs.Promises.{Holds, fieldsOf, Leaves, someDci, endpointReads}
+use Rattle.context_block.specs.Blocks.{changed, addressSlot, addressEndpoint, hubFields, wordDci, endpointFields, someDci}
+use Rattle.context_block.specs.Promises.{Holds, fieldsOf, Leaves, endpointReads}
 use Rattle.context_block.proofs.Promises as block
 use Rattle.context.specs.Place.{Write, CONTROL, SLOT, inBlock, ofBlock, written, blockAt, readAt, OutsideBlock}
 use Rattle.context.specs.Steps.{addressWrites, addressContext, maxPacketWrites, addAll, contextEntries, configureWrites, configurationWrites, hubWrites}
-use Rattle.context.specs.Promises.{Reads, ControlReads, zeroField, AddressPromise, MaxPacketPromise, SuperPacketPromise, ConfigurationPromise, HubPromise, Endpoints, ConfigurePromise}
+use Rattle.context.specs.Promises.{Reads, ControlReads, zeroField, AddressPromise, MaxPacketPromise, SuperPacketPromise, ConfigurationPromise, HubPromise, Endpoints, EntriesReads, ConfigurePromise}
 use Rattle.context.proofs.Laws.{written-length, of-block-skip, of-block-append, of-block-same, of-block-other, block-length, block-written, other-block, Untouched, untouched-append, untouched-block, other-byte}
 use Rattle.context.proofs.Added.{some-in, endpointOf, added-none, configure-slot, configure-endpoint, control-after, last-after, configure-untouched}
+use Rattle.context.proofs.Entries.{entries-reads}
 use Rattle.context.proofs.Control.{word-dci-small, flags, cleared-reads, end-else, flagged-reads, packet-reads}
 
 -- A block's promise, of a block of the context.
@@ -251,13 +252,11 @@ endpoint-from now was speed w ring e size h =
 
 pub configure-promise : ConfigurePromise
 unfolding readAt Holds apart apartFromAll fieldsOf allInside inside endpointOf
-configure-promise s speed interface alternate dropped added qs dcis ctx spaced h-interface h-alternate e-d e-a rings h-entries =
+configure-promise s speed interface alternate dropped added qs dcis ctx spaced h-interface h-alternate e-d e-a rings placed =
     record {
       control = rw control (flagged-reads was size listed refl dropped added e-d e-a (λ d. (refl, refl)) chosen);
-      slot =
-          reads-of s ctx ws SLOT _ _ wide (configure-slot speed interface alternate dropped added qs dcis (none-0 added e-a))
-          (block.single-promise _ CONTEXT-ENTRIES (contextEntries dcis added) (block-length s SLOT ctx spaced (omega arith))
-          (lit< tt, omega arith) h-entries);
+      slot = slot;
+      entries = rw (slot .named .0) told;
       endpoint =
           λ xs ys w e n m.
           let b = wordDci w + 1 in
@@ -290,6 +289,15 @@ configure-promise s speed interface alternate dropped added qs dcis ctx spaced h
 
     listed : List FieldWrite
     listed = (INTERFACE-NUMBER := interface) ∷ (ALTERNATE-SETTING := alternate) ∷ []
+
+    told : EntriesReads dropped dcis added (contextEntries dropped dcis added)
+    told = entries-reads dropped dcis added placed
+
+    slot : Reads (blockAt s after SLOT) ((CONTEXT-ENTRIES := contextEntries dropped dcis added) ∷ []) (readAt s ctx SLOT)
+    slot =
+        reads-of s ctx ws SLOT _ _ wide (configure-slot speed interface alternate dropped added qs dcis (none-0 added e-a))
+        (block.single-promise _ CONTEXT-ENTRIES (contextEntries dropped dcis added) (block-length s SLOT ctx spaced (omega arith))
+        (lit< tt, omega arith) (omega (arith, told .fits)))
 
     was : List ℕ
     was = blockAt s ctx CONTROL

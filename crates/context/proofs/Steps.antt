@@ -126,7 +126,7 @@ add-next s speed qs ws ctx ctx′ i h e =
 pub configure-steps :
     (s speed interface alternate : ℕ) (dropped added : List ℕ) (qs : List Queue) (dcis ctx : List ℕ) →
     written s (configureWrites speed interface alternate dropped added qs dcis) ctx
-    ≡ written s (inBlock SLOT ((CONTEXT-ENTRIES := contextEntries dcis added) ∷ []))
+    ≡ written s (inBlock SLOT ((CONTEXT-ENTRIES := contextEntries dropped dcis added) ∷ []))
     (written s (addAll speed qs added)
     (written s (inBlock CONTROL (dropFlags dropped))
     (written s (inBlock CONTROL (changed ++ ((INTERFACE-NUMBER := interface) ∷ (ALTERNATE-SETTING := alternate) ∷ []))) ctx)))

@@ -14,8 +14,8 @@ use Rattle.context_field.specs.declared.Field.{Field}
 use Rattle.context_field.specs.Field.{readField, InBlock}
 use Rattle.context_block.specs.Fields.{DROP-FLAGS, ADD-FLAGS, DROP-FLAG, ADD-FLAG, CONFIGURATION-VALUE, INTERFACE-NUMBER, ALTERNATE-SETTING, MTT, HUB, CONTEXT-ENTRIES, NUMBER-OF-PORTS, TT-THINK-TIME, CERR, EP-TYPE, MAX-PACKET-SIZE, AVERAGE-TRB-LENGTH, apartFromAll}
 use Rattle.context_block.specs.FieldWrite.{FieldWrite, _:=_}
-use Rattle.context_block.specs.Blocks.{wordDci}
-use Rattle.context_block.specs.Promises.{Holds, fieldsOf, someDci, slotReads, ringReads, endpointReads}
+use Rattle.context_block.specs.Blocks.{wordDci, someDci}
+use Rattle.context_block.specs.Promises.{Holds, fieldsOf, slotReads, ringReads, endpointReads}
 use Rattle.context.specs.Place.{CONTROL, SLOT, written, blockAt, readAt, OutsideBlock, Spaced}
 use Rattle.context.specs.Steps.{addressContext, maxPacketWrites, addAll, contextEntries, configureWrites, configurationWrites, hubWrites}
 
@@ -122,6 +122,26 @@ HubPromise =
 abbrev pub Endpoints : List ℕ → Type 0
 Endpoints words = (d : ℕ) → someDci d words ≡ true → 2 ≤ d
 
+-- Dcis of endpoints, as those of a record are.
+abbrev pub EndpointDcis : List ℕ → Type 0
+EndpointDcis dcis = (i : ℕ) → i < length dcis → (2 ≤ getD dcis i 0) × (getD dcis i 0 < 32)
+
+-- Drop flags 2 to 31 of a context are those of some words.
+abbrev pub Flagged : List ℕ → List ℕ → Type 0
+Flagged dropped ctx = (d : ℕ) → 2 ≤ d → d < 32 → readField ctx (DROP-FLAG d) ≡ cond (someDci d dropped) 1 0
+
+-- A Dci of the record's that a Configure does not flag for drop.
+abbrev pub Stays : List ℕ → List ℕ → ℕ → Type 0
+Stays dropped dcis d = (i : ℕ) × (i < length dcis) × (getD dcis i 0 ≡ d) × (someDci d dropped ≡ false)
+
+-- Context Entries: no Dci that is added or stays lies above it, and it is one of these, or 1; so its five bits hold it.
+pub record EntriesReads (dropped dcis added : List ℕ) (entries : ℕ) : Type 0 where
+  pub overAdded : (d : ℕ) → someDci d added ≡ true → d ≤ entries
+  pub overStaying : (d : ℕ) → Stays dropped dcis d → d ≤ entries
+  pub least : 1 ≤ entries
+  pub reached : (entries ≡ 1) ⊎ ((someDci entries added ≡ true) ⊎ Stays dropped dcis entries)
+  pub fits : entries ≤ 31
+
 module _ (s speed : ℕ) (added : List ℕ) (queues : List Queue) (was ctx : List ℕ) where
   -- The block of an added word that is the only one of its Dci.
   abbrev pub EndpointReads : Type 0
@@ -152,7 +172,8 @@ pub record ConfigureReads (s speed interface alternate : ℕ) (dropped added : L
   pub control :
       ControlReads (blockAt s ctx CONTROL) (blockAt s was CONTROL) (λ d. someDci d dropped) (λ d. eqb d 0 || someDci d added)
       ((INTERFACE-NUMBER := interface) ∷ (ALTERNATE-SETTING := alternate) ∷ [])
-  pub slot : Reads (blockAt s ctx SLOT) ((CONTEXT-ENTRIES := contextEntries dcis added) ∷ []) (readAt s was SLOT)
+  pub slot : Reads (blockAt s ctx SLOT) ((CONTEXT-ENTRIES := contextEntries dropped dcis added) ∷ []) (readAt s was SLOT)
+  pub entries : EntriesReads dropped dcis added (readAt s ctx SLOT CONTEXT-ENTRIES)
   pub endpoint : EndpointReads s speed added queues was ctx
   pub last : LastReads s speed added queues was ctx
   pub idle : (d : ℕ) → 1 ≤ d → someDci d added ≡ false → blockAt s ctx (d + 1) ≡ blockAt s was (d + 1)
@@ -172,6 +193,6 @@ ConfigurePromise =
     Endpoints dropped →
     Endpoints added →
     ((d : ℕ) → ringFor d queues 0 < 2 ^ 64) →
-    contextEntries dcis added < 2 ^ 5 →
+    EndpointDcis dcis →
     ConfigureReads s speed interface alternate dropped added queues dcis ctx
     (written s (configureWrites speed interface alternate dropped added queues dcis) ctx)

@@ -1,6 +1,6 @@
 -- What each step writes into an input context: document 01, context.rs and device.rs of the original.
 use Prim.Native.Nat.{ℕ, _+_, max}
-use mathlib.Core.Bool.{Bool}
+use mathlib.Core.Bool.{Bool, cond}
 use mathlib.Core.List.{List, [], _∷_, _++_}
 use lib.ListN.{length, replicate}
 use Rattle.def.specs.Speed.{headerPacketSize}
@@ -9,7 +9,7 @@ use Rattle.hub.specs.declared.translator.Translator.{Translator}
 use Rattle.transfer.specs.Routes.{Queue, ringFor}
 use Rattle.context_block.specs.Fields.{ADD-FLAGS, ADD-FLAG, CONFIGURATION-VALUE, INTERFACE-NUMBER, ALTERNATE-SETTING, CONTEXT-ENTRIES, MAX-PACKET-SIZE}
 use Rattle.context_block.specs.FieldWrite.{_:=_}
-use Rattle.context_block.specs.Blocks.{changed, addressSlot, addressEndpoint, endpointFields, wordDci, dropFlags, hubFields}
+use Rattle.context_block.specs.Blocks.{changed, addressSlot, addressEndpoint, endpointFields, wordDci, someDci, dropFlags, hubFields}
 use Rattle.context.specs.Place.{Write, inBlock, CONTROL, SLOT, written}
 
 -- `address`: the control block, the slot and the control endpoint.
@@ -38,7 +38,7 @@ unfoldable pub addAll : ℕ → List Queue → List ℕ → List Write
 addAll speed queues [] = []
 addAll speed queues (w ∷ ws) = addWrites speed queues w ++ addAll speed queues ws
 
--- The highest of some Dcis, control's being 1.
+-- The highest of some Dcis, control's 1 if there is none.
 unfoldable pub highestDci : List ℕ → ℕ
 highestDci [] = 1
 highestDci (d ∷ ds) = max d (highestDci ds)
@@ -47,15 +47,21 @@ unfoldable pub wordDcis : List ℕ → List ℕ
 wordDcis [] = []
 wordDcis (w ∷ ws) = wordDci w ∷ wordDcis ws
 
--- One above the highest Dci among the record's endpoints, as they are at that moment, and the added words.
-unfoldable pub contextEntries : List ℕ → List ℕ → ℕ
-contextEntries dcis added = max (highestDci dcis) (highestDci (wordDcis added)) + 1
+-- Those of the record's Dcis that no dropped word has.
+unfoldable pub staying : List ℕ → List ℕ → List ℕ
+staying dropped [] = []
+staying dropped (d ∷ ds) = cond (someDci d dropped) (staying dropped ds) (d ∷ staying dropped ds)
+
+-- Context Entries, the index of the last endpoint context in use (xHCI 1.2, table 6-4): of the record's endpoints that stay and of the
+-- added words.
+unfoldable pub contextEntries : List ℕ → List ℕ → List ℕ → ℕ
+contextEntries dropped dcis added = max (highestDci (staying dropped dcis)) (highestDci (wordDcis added))
 
 -- `prepare_configure_context`.
 unfoldable pub configureWrites : ℕ → ℕ → ℕ → List ℕ → List ℕ → List Queue → List ℕ → List Write
 configureWrites speed interface alternate dropped added queues dcis =
     inBlock CONTROL (changed ++ ((INTERFACE-NUMBER := interface) ∷ (ALTERNATE-SETTING := alternate) ∷ dropFlags dropped))
-    ++ (addAll speed queues added ++ inBlock SLOT ((CONTEXT-ENTRIES := contextEntries dcis added) ∷ []))
+    ++ (addAll speed queues added ++ inBlock SLOT ((CONTEXT-ENTRIES := contextEntries dropped dcis added) ∷ []))
 
 -- What the last Evaluate of a set configuration is given.
 unfoldable pub configurationWrites : ℕ → List Write

@@ -25,8 +25,8 @@ use Rattle.context_field.specs.Field.{readField, writeField, InBlock, apart, wi
 use Rattle.context_field.proofs.Laws.{within-self, length-writeField, read-apart, read-back}
 use Rattle.context_block.specs.Fields.{DROP-FLAG, ADD-FLAG, MTT, HUB, NUMBER-OF-PORTS, TT-THINK-TIME, MULT, MAX-PSTREAMS, MAX-ESIT-PAYLOAD-HI, MAX-BURST-SIZE, AVERAGE-TRB-LENGTH, MAX-ESIT-PAYLOAD-LO, apartFromAll}
 use Rattle.context_block.specs.FieldWrite.{_:=_, fieldsWritten, afterFieldWrites, inside, allInside, clearCut}
-use Rattle.context_block.specs.Blocks.{changed, ringFields, addressSlot, addressEndpoint, errorCount, periodicFields, burstOf, basicFields, endpointFields, wordDci, dropFlags, multiFields, thinkFields, hubFields}
-use Rattle.context_block.specs.Promises.{Holds, fieldsOf, Leaves, unchanged, madeIf, SinglePromise, changedReads, ChangedPromise, ChangedFlagPromise, InterfacePromise, ConfigurationPromise, ControlPacketPromise, someDci, DropFlagsPromise, slotReads, AddressSlotPromise, HubPromise, ringReads, AddressEndpointPromise, endpointReads, EndpointPromise}
+use Rattle.context_block.specs.Blocks.{changed, ringFields, addressSlot, addressEndpoint, errorCount, periodicFields, burstOf, basicFields, endpointFields, wordDci, dropFlags, multiFields, thinkFields, hubFields, someDci}
+use Rattle.context_block.specs.Promises.{Holds, fieldsOf, Leaves, unchanged, madeIf, SinglePromise, changedReads, ChangedPromise, ChangedFlagPromise, InterfacePromise, ConfigurationPromise, ControlPacketPromise, DropFlagsPromise, slotReads, AddressSlotPromise, HubPromise, ringReads, AddressEndpointPromise, endpointReads, EndpointPromise}
 use Rattle.context_block.proofs.Laws.{fields-written-append, fields-written-length, bit-fields-written, apart-from, apart-part, clear, liesIn, covered, Follow, leaves, flag-set}
 
 pub single-promise : SinglePromise

@@ -1,6 +1,6 @@
 -- What each step makes of the control block, the slot block and an endpoint block: document 01, context.rs and device.rs of the original.
 use Prim.Native.Nat.{ℕ, _/_, _^_}
-use mathlib.Core.Bool.{Bool, cond}
+use mathlib.Core.Bool.{Bool, false, cond, _||_}
 use mathlib.Core.List.{List, [], _∷_, _++_}
 use lib.Dec.{eqb}
 use Rattle.def.specs.Speed.{FULL, HIGH, firstPacketSize}
@@ -75,6 +75,11 @@ endpointFields speed e ring =
 -- The Dci of an endpoint word.
 unfoldable pub wordDci : ℕ → ℕ
 wordDci w = dciOf ((endpointDescriptor w) .address)
+
+-- Whether one of some endpoint words has this Dci.
+unfoldable pub someDci : ℕ → List ℕ → Bool
+someDci d [] = false
+someDci d (w ∷ ws) = eqb (wordDci w) d || someDci d ws
 
 -- The drop flags of some endpoint words.
 unfoldable pub dropFlags : List ℕ → List FieldWrite

@@ -109,17 +109,17 @@ AVERAGE-TRB-LENGTH = field 4 0 16
 abbrev pub MAX-ESIT-PAYLOAD-LO : Field
 MAX-ESIT-PAYLOAD-LO = field 4 16 16
 
-abbrev pub controlFields : List Field
-controlFields = DROP-FLAGS ∷ ADD-FLAGS ∷ CONFIGURATION-VALUE ∷ INTERFACE-NUMBER ∷ ALTERNATE-SETTING ∷ []
+abbrev pub fieldsOfControl : List Field
+fieldsOfControl = DROP-FLAGS ∷ ADD-FLAGS ∷ CONFIGURATION-VALUE ∷ INTERFACE-NUMBER ∷ ALTERNATE-SETTING ∷ []
 
-abbrev pub slotFields : List Field
-slotFields =
+abbrev pub fieldsOfSlot : List Field
+fieldsOfSlot =
     ROUTE-STRING ∷ SPEED ∷ MTT ∷ HUB ∷ CONTEXT-ENTRIES
     ∷ MAX-EXIT-LATENCY ∷ ROOT-HUB-PORT-NUMBER ∷ NUMBER-OF-PORTS
     ∷ PARENT-HUB-SLOT-ID ∷ PARENT-PORT-NUMBER ∷ TT-THINK-TIME ∷ INTERRUPTER-TARGET ∷ []
 
-abbrev pub endpointFields : List Field
-endpointFields =
+abbrev pub fieldsOfEndpoint : List Field
+fieldsOfEndpoint =
     MULT ∷ MAX-PSTREAMS ∷ INTERVAL ∷ MAX-ESIT-PAYLOAD-HI
     ∷ CERR ∷ EP-TYPE ∷ MAX-BURST-SIZE ∷ MAX-PACKET-SIZE
     ∷ DCS ∷ TR-DEQUEUE-POINTER-LO ∷ TR-DEQUEUE-POINTER-HI
@@ -134,6 +134,6 @@ pairwiseApart [] = true
 pairwiseApart (f ∷ fs) = apartFromAll f fs && pairwiseApart fs
 
 -- No two fields of one context overlap.
-pub no-overlap : (pairwiseApart controlFields && (pairwiseApart slotFields && pairwiseApart endpointFields)) ≡ true
+pub no-overlap : (pairwiseApart fieldsOfControl && (pairwiseApart fieldsOfSlot && pairwiseApart fieldsOfEndpoint)) ≡ true
 unfolding apart pairwiseApart apartFromAll
 no-overlap = refl

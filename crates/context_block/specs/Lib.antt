@@ -1,4 +1,5 @@
 pub mod Blocks
 pub mod Fields
+pub mod Flags
 pub mod Promises
 pub mod FieldWrite

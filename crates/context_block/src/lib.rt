@@ -4,6 +4,7 @@ use def::Dci;
 ghost use mathlib.Core.Path.{_≡_};
 ghost use Prim.Native.Nat.{_<_};
 ghost use Rattle.context_block.specs.Blocks.{wordDci};
+ghost use Rattle.context_block.specs.Flags.{flagsOf};
 
 // The Dci of an endpoint word.
 pub fn word_dci(w: u32) -> Dci
@@ -11,4 +12,21 @@ pub fn word_dci(w: u32) -> Dci
 {
     let e = descriptor::endpoint_descriptor(w);
     descriptor::endpoint_address_dci(e.address)
+}
+
+// Endpoint words as flags: the bit of each Dci that one of them has is set.
+pub fn word_flags(words: &[u32]) -> u32
+    ensures { λ r. ⌜ r ≡ flagsOf (now (words .entry)) ⌝ }
+{
+    let mut flags = 0;
+    let mut i = words.len();
+    while 0 < i {
+        i -= 1;
+        let dci = word_dci(words[i]);
+        let flag = 1 << dci.0;
+        if flags / flag % 2 == 0 {
+            flags += flag;
+        }
+    }
+    flags
 }

@@ -385,7 +385,12 @@ module _ (a b : List ℕ) (w : ℕ) (h : 4 * w + 4 ≤ length a) where
       let h3 : 4 * w + 3 < length a = omega arith in
       simp (set-append-left, lt-length-set)
 
--- A field of a list's front, written in the whole list.
+-- A field of a list's front, read in the whole list.
+pub read-front : (a b : List ℕ) (f : Field) → 4 * f .word + 4 ≤ length a → readField (a ++ b) f ≡ readField a f
+unfolding readField
+read-front a b f h = rw (front-word a b (f .word) h)
+
+-- Written there.
 pub write-front :
     (a b : List ℕ) (f : Field) (v : ℕ) → 4 * f .word + 4 ≤ length a → writeField (a ++ b) f v ≡ writeField a f v ++ b
 unfolding writeField

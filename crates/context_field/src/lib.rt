@@ -38,7 +38,7 @@ fn power(k: usize) -> u64
 
 // What a field holds.
 pub fn read_field(block: &[u8], f: Field) -> u64
-    requires { ⌜ (length (now block) ≡ 32) × InBlock f ⌝ }
+    requires { ⌜ (32 ≤ length (now block)) × InBlock f ⌝ }
     ensures { λ r. ⌜ r ≡ readField (now (block .entry)) f ⌝ }
 {
     let word = f.word;

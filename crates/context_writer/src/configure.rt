@@ -5,20 +5,23 @@ use context_block_writer::slot;
 use context_field::Field;
 use def::Dci;
 ghost use mathlib.Core.Path.{_≡_};
-ghost use mathlib.Core.List.{[], _∷_, _++_};
-ghost use Prim.Native.Nat.{ℕ, _<_, _≤_};
+ghost use mathlib.Core.List.{List, [], _∷_, _++_};
+ghost use Prim.Native.Nat.{ℕ, _≤_, max};
 ghost use lib.ListN.{length};
 ghost use Rattle.context_block.specs.Fields.{INTERFACE-NUMBER, ALTERNATE-SETTING, CONTEXT-ENTRIES};
 ghost use Rattle.context_block.specs.FieldWrite.{_:=_};
 ghost use Rattle.context_block.specs.Blocks.{changed, dropFlags};
 ghost use Rattle.transfer.specs.Routes.{queues, ringFor};
 ghost use Rattle.context.specs.Place.{inBlock, CONTROL, SLOT, written, Spaced};
-ghost use Rattle.context.specs.Steps.{addAll, highestDci, contextEntries, configureWrites};
+ghost use Rattle.context.specs.Steps.{addAll, highestDci, wordDcis, staying, configureWrites};
+ghost use Rattle.context.specs.Promises.{EndpointDcis, Flagged};
 
 // The flags cleared, and the interface and alternate setting of the command.
 pub fn begin_configure(ctx: &mut [u8], interface: u8, alternate: u8)
     requires { ⌜ 32 ≤ length (now ctx) ⌝ }
-    ensures { λ r. ⌜ ((spacing : ℕ) → now (ctx .exit) ≡ written spacing (inBlock CONTROL (changed ++ ((INTERFACE-NUMBER := interface) ∷ (ALTERNATE-SETTING := alternate) ∷ []))) (now (ctx .entry))) ⌝ }
+    ensures { λ r. ⌜ ((spacing : ℕ) →
+        now (ctx .exit) ≡ written spacing
+        (inBlock CONTROL (changed ++ ((INTERFACE-NUMBER := interface) ∷ (ALTERNATE-SETTING := alternate) ∷ []))) (now (ctx .entry))) ⌝ }
 {
     control::perper_change(ctx);
     context_field::put_field(ctx, control::INTERFACE_NUMBER, interface as u64);
@@ -90,27 +93,35 @@ pub fn add_endpoints(
     }
 }
 
-fn highest_dci(dcis: &[u8]) -> u8
-    ensures { λ r. ⌜ r ≡ highestDci (now (dcis .entry)) ⌝ }
+// The highest Dci of the record's endpoints whose drop flags are not set, 1 if there is none.
+pub fn highest_staying(ctx: &[u8], dcis: &[u8]) -> u8
+    requires { ⌜ (32 ≤ length (now ctx)) × EndpointDcis (now dcis) ⌝ }
+    ensures { λ r. ⌜ (1 ≤ r) × ((dropped : List ℕ) → Flagged dropped (now (ctx .entry)) → r ≡ highestDci (staying dropped (now (dcis .entry)))) ⌝ }
 {
     let mut highest = 1;
     let mut i = 0;
     while i < dcis.len() {
         let dci = dcis[i];
+        let drop_flag = Field {
+            word: 0,
+            low: dci as usize,
+            width: 1,
+        };
+        let flag = context_field::read_field(ctx, drop_flag);
         i += 1;
-        if highest < dci {
+        if highest < dci && flag == 0 {
             highest = dci;
         }
     }
     highest
 }
 
-// Context Entries: of the record's endpoints and the added words.
-pub fn context_entries(dcis: &[u8], words: &[u32]) -> u8
-    requires { ⌜ highestDci (now dcis) < 255 ⌝ }
-    ensures { λ r. ⌜ r ≡ contextEntries (now (dcis .entry)) (now (words .entry)) ⌝ }
+// The highest Dci of added words, or one that is higher.
+pub fn highest_added(least: u8, words: &[u32]) -> u8
+    requires { ⌜ 1 ≤ least ⌝ }
+    ensures { λ r. ⌜ r ≡ max least (highestDci (wordDcis (now (words .entry)))) ⌝ }
 {
-    let mut highest = highest_dci(dcis);
+    let mut highest = least;
     let mut i = 0;
     while i < words.len() {
         let dci = context_block::word_dci(words[i]);
@@ -119,7 +130,7 @@ pub fn context_entries(dcis: &[u8], words: &[u32]) -> u8
             highest = dci.0;
         }
     }
-    highest + 1
+    highest
 }
 
 pub fn finish_configure(ctx: &mut [u8], spacing: usize, entries: u8)
@@ -148,12 +159,16 @@ pub fn prepare_configure_context(
     dcis: &[u8],
 )
     requires { ⌜ Spaced spacing (length (now ctx)) ⌝ }
-    requires { ⌜ highestDci (now dcis) < 255 ⌝ }
-    ensures { λ r. ⌜ now (ctx .exit) ≡ written spacing (configureWrites speed interface alternate (now (dropped .entry)) (now (added .entry)) (queues (now («queue_dcis» .entry)) (now («queue_rings» .entry))) (now (dcis .entry))) (now (ctx .entry)) ⌝ }
+    requires { ⌜ EndpointDcis (now dcis) ⌝ }
+    ensures { λ r. ⌜ now (ctx .exit) ≡ written spacing
+        (configureWrites speed interface alternate (now (dropped .entry)) (now (added .entry))
+        (queues (now («queue_dcis» .entry)) (now («queue_rings» .entry))) (now (dcis .entry)))
+        (now (ctx .entry)) ⌝ }
 {
     begin_configure(ctx, interface, alternate);
     drop_endpoints(ctx, dropped);
+    let staying = highest_staying(ctx, dcis);
     add_endpoints(ctx, spacing, speed, added, queue_dcis, queue_rings);
-    let entries = context_entries(dcis, added);
+    let entries = highest_added(staying, added);
     finish_configure(ctx, spacing, entries);
 }

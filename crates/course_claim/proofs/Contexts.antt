@@ -12,8 +12,7 @@ use Rattle.command.specs.Course.{ends, onSent}
 use Rattle.command.proofs.Done.{AllDone}
 use Rattle.command.proofs.Reached.{Comes, comes-then, comes-sends, comes-stopped, CutHere, cut-here}
 use Rattle.context.specs.Place.{Spaced}
-use Rattle.context.specs.Steps.{contextEntries}
-use Rattle.context.specs.Promises.{Endpoints, ConfigureReads}
+use Rattle.context.specs.Promises.{Endpoints, EndpointDcis, ConfigureReads}
 use Rattle.context.proofs.Laws.{written-length}
 use Rattle.context.proofs.Promises.{configure-promise}
 use Rattle.record_endpoint.specs.EndpointMap.{queueDcis}
@@ -31,8 +30,7 @@ pub record ClaimFits (a : Claim) : Type 0 where
   pub newWords : Endpoints (a .newWords)
   pub old : (d : ℕ) → ringFor d (a .old) 0 < 2 ^ 64
   pub pending : (d : ℕ) → ringFor d (a .pending) 0 < 2 ^ 64
-  pub oldEntries : contextEntries (a .dcis) (a .oldWords) < 2 ^ 5
-  pub newEntries : contextEntries (a .dcis) (a .newWords) < 2 ^ 5
+  pub dcis : EndpointDcis (a .dcis)
 
 module _ (a : Claim) (f : ClaimFits a) (ctx : List ℕ) (sp : Spaced (a .args .spacing) (length ctx)) where
   -- its Configure
@@ -42,7 +40,7 @@ module _ (a : Claim) (f : ClaimFits a) (ctx : List ℕ) (sp : Spaced (a .args .s
   unfolding claimContext
   claim-configure-reads =
       configure-promise (a .args .spacing) (a .args .speed) (a .args .interface) (a .args .alternate) (a .oldWords) (a .newWords) (a .pending) (a .dcis) ctx sp
-      (f .interface) (f .alternate) (f .oldWords) (f .newWords) (f .pending) (f .newEntries)
+      (f .interface) (f .alternate) (f .oldWords) (f .newWords) (f .pending) (f .dcis)
 
   -- the one that undoes it
   pub claim-undo-reads :
@@ -51,7 +49,7 @@ module _ (a : Claim) (f : ClaimFits a) (ctx : List ℕ) (sp : Spaced (a .args .s
   unfolding undoContext
   claim-undo-reads =
       configure-promise (a .args .spacing) (a .args .speed) (a .args .interface) (a .args .«old_alternate») (a .newWords) (a .oldWords) (a .old)
-      (a .dcis) ctx sp (f .interface) (f .oldAlternate) (f .newWords) (f .oldWords) (f .old) (f .oldEntries)
+      (a .dcis) ctx sp (f .interface) (f .oldAlternate) (f .newWords) (f .oldWords) (f .old) (f .dcis)
 
 pub claim-context-length : (a : Claim) (ctx : List ℕ) → length (claimContext a ctx) ≡ length ctx
 unfolding claimContext

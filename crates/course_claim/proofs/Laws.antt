@@ -1,5 +1,5 @@
 -- The course of a claim: how it ends, how many words it logs, and where a cut leaves it.
-use Prim.Native.Nat.{ℕ, suc, _+_, _*_, _<_, _≤_}
+use Prim.Native.Nat.{ℕ, suc, _+_, _*_, _<_, _≤_, max}
 use mathlib.Core.Path.{_≡_, refl, sym, _∙_}
 use mathlib.Core.Bool.{Bool, true, false, cond, true≢false}
 use mathlib.Core.List.{List, _++_}
@@ -203,15 +203,15 @@ module _ (a : Claim) (ctx routes o : List ℕ) where
       only (sent.Failed later) e = cut-failed (sym e)
       only sent.Cut e = refl
 
-  configure-phase : (n : ℕ) → Phase a ctx routes o (length (a .old) + 4) n (claimConfigure a ctx routes)
+  configure-phase : (n : ℕ) → Phase a ctx routes o (max (length (a .old)) 3 + 1) n (claimConfigure a ctx routes)
   unfolding claimConfigure
   configure-phase n =
       more
-      (phase-sends {m = length (a .old) + 3} (more (switch-phase (n + 1)) (omega arith))
+      (phase-sends {m = max (length (a .old)) 3} (more (switch-phase (n + 1)) (omega arith))
       (λ code. more (resume-phase (n + 1) code) (omega arith)))
       (omega arith)
 
-  claim-phase : (n : ℕ) → Phase a ctx routes o (2 * length (a .old) + 4) n (claimCourse a ctx routes)
+  claim-phase : (n : ℕ) → Phase a ctx routes o (length (a .old) + max (length (a .old)) 3 + 1) n (claimCourse a ctx routes)
   unfolding claimCourse
   claim-phase n =
       let dcis : List ℕ = queueDcis (a .old) in
@@ -220,8 +220,8 @@ module _ (a : Claim) (ctx routes o : List ℕ) where
       let l : length dcis ≡ length (a .old) = length-dcis (a .old) in
       let h : k ≤ 2 * length dcis = words-length-stop o ctx dcis n in
       let p =
-      on-sent (λ (c : Course End). (m : ℕ) × Phase a ctx routes o m (n + k) c × (k + m ≤ 2 * length (a .old) + 4)) (r .sent) _ _ _
-      (λ e. (length (a .old) + 4, configure-phase (n + k), omega (arith, stop-done o ctx dcis n e)))
+      on-sent (λ (c : Course End). (m : ℕ) × Phase a ctx routes o m (n + k) c × (k + m ≤ length (a .old) + max (length (a .old)) 3 + 1)) (r .sent) _ _ _
+      (λ e. (max (length (a .old)) 3 + 1, configure-phase (n + k), omega (arith, stop-done o ctx dcis n e)))
       (λ code e. (0, phase-ends stopFailed (λ e. cut-failed (sym e)), omega arith))
       (λ e. (
         0,
@@ -229,14 +229,14 @@ module _ (a : Claim) (ctx routes o : List ℕ) where
             (λ f. sweep-uncut ctx o n (stopEndpoints ctx dcis) (stop-uncut ctx dcis) e),
         omega arith,
       )) in
-      phase-then (p .0) (2 * length (a .old) + 4) n (stopEndpoints ctx dcis) _ (p .1) (p .2)
+      phase-then (p .0) (length (a .old) + max (length (a .old)) 3 + 1) n (stopEndpoints ctx dcis) _ (p .1) (p .2)
 
   -- how a claim ends
   pub claim-ends : (n : ℕ) → ClaimEnd a ctx routes (result o n (claimCourse a ctx routes))
   claim-ends n = claim-phase n .end
 
-  -- it logs no more words than the shortest log has
-  pub claim-words : (n : ℕ) → length (a .old) ≤ 30 → length (words o n (claimCourse a ctx routes)) ≤ 64
+  -- it logs at most 63 words
+  pub claim-words : (n : ℕ) → length (a .old) ≤ 30 → length (words o n (claimCourse a ctx routes)) ≤ 63
   claim-words n h = omega (arith, claim-phase n .few)
 
   -- it is cut only where the outcomes are used up

@@ -52,7 +52,9 @@ fn publish(routes: &mut [u64], n: usize, a: ClaimPlan) -> CourseEnd
 // The device back at its old setting, if it held one, after the controller is.
 fn switch_back(log: &mut [u32], outcomes: &[u8], n: usize, a: ClaimPlan, code: u8) -> CourseEnd
     requires { ⌜ (length (queuesIn (a .old)) ≡ a .old .count) × (n + 1 ≤ length (now log)) ⌝ }
-    ensures { λ r. ⌜ ((old new ctx routes : List ℕ) → courseLeaves r ctx routes (now (log .exit)) ≡ played (now (outcomes .entry)) n (claimUndone (claimOf a old new) code ctx routes) (now (log .entry))) ⌝ }
+    ensures { λ r. ⌜ ((old new ctx routes : List ℕ) →
+        courseLeaves r ctx routes (now (log .exit))
+        ≡ played (now (outcomes .entry)) n (claimUndone (claimOf a old new) code ctx routes) (now (log .entry))) ⌝ }
 {
     if !a.args.held {
         return course_steps::settings_kept(Answer::Failed(code), n, a.old.count);
@@ -84,7 +86,10 @@ fn rollback_interface_configuration(
 ) -> CourseEnd
     requires { ⌜ Room (a .args .spacing) (length (now ctx)) (a .old) (a .all) ⌝ }
     requires { ⌜ n + 2 ≤ length (now log) ⌝ }
-    ensures { λ r. ⌜ ((routes : List ℕ) → courseLeaves r (now (ctx .exit)) routes (now (log .exit)) ≡ played (now (outcomes .entry)) n (claimUndo (claimOf a (now («old_words» .entry)) (now («new_words» .entry))) code (now (ctx .entry)) routes) (now (log .entry))) ⌝ }
+    ensures { λ r. ⌜ ((routes : List ℕ) →
+        courseLeaves r (now (ctx .exit)) routes (now (log .exit))
+        ≡ played (now (outcomes .entry)) n
+        (claimUndo (claimOf a (now («old_words» .entry)) (now («new_words» .entry))) code (now (ctx .entry)) routes) (now (log .entry))) ⌝ }
 {
     course_steps::prepare_configure(
         ctx,
@@ -119,7 +124,10 @@ fn switch(
     requires { ⌜ Room (a .args .spacing) (length (now ctx)) (a .old) (a .all) ⌝ }
     requires { ⌜ a .pending .count ≤ PLACES ⌝ }
     requires { ⌜ n + 3 ≤ length (now log) ⌝ }
-    ensures { λ r. ⌜ courseLeaves r (now (ctx .exit)) (now (routes .exit)) (now (log .exit)) ≡ played (now (outcomes .entry)) n (claimSwitch (claimOf a (now («old_words» .entry)) (now («new_words» .entry))) (now (ctx .entry)) (now (routes .entry))) (now (log .entry)) ⌝ }
+    ensures { λ r. ⌜ courseLeaves r (now (ctx .exit)) (now (routes .exit)) (now (log .exit))
+        ≡ played (now (outcomes .entry)) n
+        (claimSwitch (claimOf a (now («old_words» .entry)) (now («new_words» .entry))) (now (ctx .entry)) (now (routes .entry)))
+        (now (log .entry)) ⌝ }
 {
     let s = command::send(
         log,
@@ -158,7 +166,10 @@ fn configure(
     requires { ⌜ Room (a .args .spacing) (length (now ctx)) (a .old) (a .all) ⌝ }
     requires { ⌜ a .pending .count ≤ PLACES ⌝ }
     requires { ⌜ n + a .old .count + 4 ≤ length (now log) ⌝ }
-    ensures { λ r. ⌜ courseLeaves r (now (ctx .exit)) (now (routes .exit)) (now (log .exit)) ≡ played (now (outcomes .entry)) n (claimConfigure (claimOf a (now («old_words» .entry)) (now («new_words» .entry))) (now (ctx .entry)) (now (routes .entry))) (now (log .entry)) ⌝ }
+    ensures { λ r. ⌜ courseLeaves r (now (ctx .exit)) (now (routes .exit)) (now (log .exit))
+        ≡ played (now (outcomes .entry)) n
+        (claimConfigure (claimOf a (now («old_words» .entry)) (now («new_words» .entry))) (now (ctx .entry)) (now (routes .entry)))
+        (now (log .entry)) ⌝ }
 {
     course_steps::prepare_configure(
         ctx,
@@ -198,7 +209,10 @@ pub fn claim_interface(
     requires { ⌜ Room (a .args .spacing) (length (now ctx)) (a .old) (a .all) ⌝ }
     requires { ⌜ a .pending .count ≤ PLACES ⌝ }
     requires { ⌜ LOG-ROOM ≤ length (now log) ⌝ }
-    ensures { λ r. ⌜ courseLeaves r (now (ctx .exit)) (now (routes .exit)) (now (log .exit)) ≡ played (now (outcomes .entry)) 0 (claimCourse (claimOf a (now («old_words» .entry)) (now («new_words» .entry))) (now (ctx .entry)) (now (routes .entry))) (now (log .entry)) ⌝ }
+    ensures { λ r. ⌜ courseLeaves r (now (ctx .exit)) (now (routes .exit)) (now (log .exit))
+        ≡ played (now (outcomes .entry)) 0
+        (claimCourse (claimOf a (now («old_words» .entry)) (now («new_words» .entry))) (now (ctx .entry)) (now (routes .entry)))
+        (now (log .entry)) ⌝ }
 {
     let stop = course_steps::stop_endpoints(log, outcomes, 0, a.old);
     let s = stop.sent;

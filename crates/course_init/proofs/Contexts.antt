@@ -28,8 +28,8 @@ use Rattle.command.specs.Course.{Course, ends, onSent, then}
 use Rattle.command.proofs.Done.{AllDone}
 use Rattle.command.proofs.Reached.{Comes, comes-self, comes-then, comes-sends, comes-in, comes-true, comes-false, comes-as, CutHere, cut-here}
 use Rattle.context.specs.Place.{Spaced, written}
-use Rattle.context.specs.Steps.{addressContext, maxPacketWrites, highestDci, wordDcis, contextEntries}
-use Rattle.context.specs.Promises.{AddressReads, MaxPacketReads, ConfigurationReads, ConfigureReads}
+use Rattle.context.specs.Steps.{addressContext, maxPacketWrites}
+use Rattle.context.specs.Promises.{EndpointDcis, AddressReads, MaxPacketReads, ConfigurationReads, ConfigureReads}
 use Rattle.context.proofs.Laws.{written-length}
 use Rattle.context.proofs.Promises.{address-promise, max-packet-promise}
 use Rattle.record_endpoint.specs.EndpointMap.{queueDcis}
@@ -37,7 +37,7 @@ use Rattle.course_steps.specs.End.{End}
 use Rattle.course_steps.proofs.Empty.{no-endpoints, no-ring}
 use Rattle.course_set_configuration.specs.SetConfiguration.{Settings, dropContext, restoreContext, valueContext, setEvaluate, setRestore, setConfigure, setCourse}
 use Rattle.course_set_configuration.proofs.Contexts.{set-stopped, set-to-restore, set-to-evaluate, set-configure-reads, set-restore-reads, set-evaluate-reads, drop-context-length}
-use Rattle.course_init.specs.Reading.{BringUp, Reading, nothingRead, Brought, brought}
+use Rattle.course_init.specs.Reading.{BringUp, controlRing, Reading, nothingRead, Brought, brought}
 use Rattle.course_init.specs.Init.{HeaderRead, step, bringUpSettings, bringUpSet, bringUpConfigs, bringUpDevice, bringUpConfiguration, bringUpPacket, bringUpHeader, bringUpAddress}
 
 -- The commands that its course comes to.
@@ -56,7 +56,7 @@ module _ (a : BringUp) (spacing : ℕ) (ctx routes : List ℕ) where
   unfoldable pub addressed : List ℕ
   addressed =
       addressContext spacing (a .speed) (routeString (a .hubs) (a .hasParent) (a .parent) (a .port))
-      (translatorOf (a .speed) (a .hubs) (a .hasParent) (a .parent) (a .port)) (a .rootPort) (a .ring) ctx
+      (translatorOf (a .speed) (a .hubs) (a .hasParent) (a .parent) (a .port)) (a .rootPort) (controlRing a) ctx
 
   unfoldable pub sized : List ℕ
   sized = written spacing (maxPacketWrites (a .speed) (a .packet)) addressed
@@ -174,22 +174,21 @@ value-below : (w : ℕ) → configurationValue w < 2 ^ 8
 unfolding configurationValue
 value-below w = mod-lt _ (omega arith)
 
-no-entries : contextEntries [] [] < 2 ^ 5
-unfolding contextEntries highestDci wordDcis
-no-entries = omega arith
+no-dcis : EndpointDcis []
+no-dcis i l = absurd (omega arith)
 
 module _ (a : BringUp) (spacing : ℕ) (ctx routes : List ℕ) (sp : Spaced spacing (length ctx)) where
   -- Address: the device's place
   pub bring-up-address-reads :
       speedKnown (a .speed) ≡ true → chainOk (a .hubs) (a .hasParent) (a .parent) ≡ true → a .port < 2 ^ 8 → a .rootPort < 2 ^ 8 →
-      a .ring < 2 ^ 64 →
+      controlRing a < 2 ^ 64 →
       AddressReads spacing (a .speed) (routeString (a .hubs) (a .hasParent) (a .parent) (a .port))
-      (translatorOf (a .speed) (a .hubs) (a .hasParent) (a .parent) (a .port)) (a .rootPort) (a .ring) (addressed a spacing ctx routes)
+      (translatorOf (a .speed) (a .hubs) (a .hasParent) (a .parent) (a .port)) (a .rootPort) (controlRing a) (addressed a spacing ctx routes)
   unfolding addressed
   bring-up-address-reads known chain port rootPort ring =
       let t = translator-bytes (a .speed) (a .hubs) (a .hasParent) (a .parent) (a .port) port in
       address-promise spacing (a .speed) (routeString (a .hubs) (a .hasParent) (a .parent) (a .port))
-      (translatorOf (a .speed) (a .hubs) (a .hasParent) (a .parent) (a .port)) (a .rootPort) (a .ring) ctx sp (speed-fits (a .speed) known)
+      (translatorOf (a .speed) (a .hubs) (a .hasParent) (a .parent) (a .port)) (a .rootPort) (controlRing a) ctx sp (speed-fits (a .speed) known)
       (route-fits (a .hubs) (a .hasParent) (a .parent) (a .port) chain) (t .0) (t .1) rootPort ring
 
   addressed-length : length (addressed a spacing ctx routes) ≡ length ctx
@@ -213,7 +212,7 @@ module _ (a : BringUp) (spacing : ℕ) (ctx routes : List ℕ) (sp : Spaced spac
       (dropContext (settings a spacing ctx routes) (sized a spacing ctx routes))
   unfolding settings bringUpSettings queueDcis
   bring-up-configure-reads =
-      set-configure-reads (settings a spacing ctx routes) (sized a spacing ctx routes) (rw sized-length sp) no-endpoints no-entries
+      set-configure-reads (settings a spacing ctx routes) (sized a spacing ctx routes) (rw sized-length sp) no-endpoints no-dcis
 
   dropped-spaced : Spaced spacing (length (dropContext (settings a spacing ctx routes) (sized a spacing ctx routes)))
   dropped-spaced = rw (drop-context-length (settings a spacing ctx routes) (sized a spacing ctx routes), sized-length) sp
@@ -222,7 +221,7 @@ module _ (a : BringUp) (spacing : ℕ) (ctx routes : List ℕ) (sp : Spaced spac
       let was = dropContext (settings a spacing ctx routes) (sized a spacing ctx routes) in
       ConfigureReads spacing (a .speed) 0 0 [] [] [] [] was (restoreContext (settings a spacing ctx routes) was)
   unfolding settings bringUpSettings queueDcis
-  bring-up-restore-reads = set-restore-reads (settings a spacing ctx routes) _ dropped-spaced no-endpoints no-ring no-entries
+  bring-up-restore-reads = set-restore-reads (settings a spacing ctx routes) _ dropped-spaced no-endpoints no-ring no-dcis
 
   pub bring-up-evaluate-reads :
       let was = dropContext (settings a spacing ctx routes) (sized a spacing ctx routes) in

@@ -1,4 +1,4 @@
 pub mod Contexts
 pub mod Laws
-mod Lists
+pub mod Lists
 mod Steps

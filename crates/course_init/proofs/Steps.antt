@@ -27,12 +27,12 @@ use Rattle.command.proofs.Laws.{played-ends, played-sends, played-then}
 use Rattle.hub.specs.Route.{routeString}
 use Rattle.hub.specs.Translator.{translatorOf}
 use Rattle.context.specs.Place.{written, Spaced}
-use Rattle.context.specs.Steps.{highestDci, addressContext, maxPacketWrites}
+use Rattle.context.specs.Steps.{addressContext, maxPacketWrites}
 use Rattle.record_endpoint.specs.declared.pending.Queues.{Queues}
 use Rattle.course_steps.specs.End.{End, answerOf}
 use Rattle.course_steps.specs.Arrays.{dcisIn, queuesIn, Room}
 use Rattle.course_set_configuration.specs.SetConfiguration.{setCourse}
-use Rattle.course_init.specs.Reading.{BringUp, firstConfigurations, Reading, nothingRead, readUpTo, Brought, brought, leavesRead}
+use Rattle.course_init.specs.Reading.{BringUp, controlRing, firstConfigurations, Reading, nothingRead, readUpTo, Brought, brought, leavesRead}
 use Rattle.course_init.specs.Init.{step, bringUpSettings, bringUpSet, bringUpConfigs, bringUpConfiguration, bringUpPacket, bringUpHeader, bringUpAddress}
 use Rattle.course_init.specs.Parts.{orEnded, bringUpRest, afterRead}
 use Rattle.course_init.specs.declared.run.InitEnd.{InitEnd}
@@ -40,9 +40,9 @@ use Rattle.course_init.proofs.Lists.{valid-none, first-all, some-words,
 
 -- room for a set configuration without endpoints
 pub first-room : (s ctx : ℕ) (old : Queues) → Spaced s ctx → old .count ≡ 0 → queuesIn old ≡ [] → Room s ctx old old
-unfolding dcisIn highestDci
+unfolding dcisIn
 first-room s ctx old r n l =
-    record { spaced = r; few = rw n (omega arith); full = ap length l ∙ sym n; few-all = rw n (omega arith); low = rw n (omega arith) }
+    record { spaced = r; few = rw n (omega arith); full = ap length l ∙ sym n; few-all = rw n (omega arith); dcis = rw n (λ i l. absurd (omega arith)) }
 
 -- room in a context of the same length
 pub spaced-same : {s m n : ℕ} → Spaced s m → n ≡ m → Spaced s n
@@ -258,7 +258,7 @@ module _
     (addressed :
     ctx₁
     ≡ addressContext spacing (a .speed) (routeString (a .hubs) (a .hasParent) (a .parent) (a .port))
-    (translatorOf (a .speed) (a .hubs) (a .hasParent) (a .parent) (a .port)) (a .rootPort) (a .ring) ctx)
+    (translatorOf (a .speed) (a .hubs) (a .hasParent) (a .parent) (a .port)) (a .rootPort) (controlRing a) ctx)
     (header :
     played o 0 (step command.Address nothingRead ctx₁ routes (bringUpHeader a spacing ctx₁ routes)) log
     ≡ orEnded r (a .list) ctx₁ routes log₁ (played o 2 (bringUpPacket a spacing ctx₁ routes) log₁)) where

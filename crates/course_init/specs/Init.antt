@@ -18,7 +18,7 @@ use Rattle.command.specs.Course.{Course, ends, sends, onSent, then}
 use Rattle.context.specs.Place.{written}
 use Rattle.context.specs.Steps.{addressContext, maxPacketWrites}
 use Rattle.course_set_configuration.specs.SetConfiguration.{Settings, setCourse}
-use Rattle.course_init.specs.Reading.{BringUp, Reading, nothingRead, readUpTo, Brought, brought}
+use Rattle.course_init.specs.Reading.{BringUp, controlRing, Reading, nothingRead, readUpTo, Brought, brought}
 
 -- A command after which the bring-up goes on; it ends where the command fails or is cut.
 unfoldable pub step : Command → Reading → List ℕ → List ℕ → Course Brought → Course Brought
@@ -94,5 +94,5 @@ unfoldable pub bringUpAddress : BringUp → ℕ → List ℕ → List ℕ → Co
 bringUpAddress a spacing ctx routes =
     let route = routeString (a .hubs) (a .hasParent) (a .parent) (a .port) in
     let translator = translatorOf (a .speed) (a .hubs) (a .hasParent) (a .parent) (a .port) in
-    let next = addressContext spacing (a .speed) route translator (a .rootPort) (a .ring) ctx in
+    let next = addressContext spacing (a .speed) route translator (a .rootPort) (controlRing a) ctx in
     step command.Address nothingRead next routes (bringUpHeader a spacing next routes)

@@ -6,20 +6,22 @@ use lib.Dec.{eqb}
 use Rattle.descriptor.specs.Word.{kind, CONFIGURATION}
 use Rattle.answer.specs.declared.Answer.{Answer}
 use Rattle.command.specs.Course.{Played}
+use Rattle.record_ring.specs.Store.{least}
 use Rattle.course_init.specs.declared.run.BringUpArgs.{BringUpArgs}
 use Rattle.course_init.specs.declared.run.InitEnd.{InitEnd}
 
 -- What a bring-up is told of the device: its place, what is read from it, and its descriptor list.
 pub record BringUp : Type 0 where
   pub slot : ℕ
-  pub n : ℕ
+  pub «max_slots» : ℕ
   pub speed : ℕ
   pub hubs : List ℕ
   pub hasParent : Bool
   pub parent : ℕ
   pub port : ℕ
   pub rootPort : ℕ
-  pub ring : ℕ
+  -- the rings given to the slot
+  pub rings : List ℕ
   -- how many bytes ReadHeader reads, and the packet size among them
   pub header : ℕ
   pub packet : ℕ
@@ -27,19 +29,23 @@ pub record BringUp : Type 0 where
   pub value : ℕ
   pub list : List ℕ
 
+-- Control's ring is the lowest.
+unfoldable pub controlRing : BringUp → ℕ
+controlRing a = least (a .rings)
+
 -- The same from the code's arguments.
-abbrev pub bringUpOf : BringUpArgs → List ℕ → List ℕ → BringUp
-bringUpOf a hubs list =
+abbrev pub bringUpOf : BringUpArgs → List ℕ → List ℕ → List ℕ → BringUp
+bringUpOf a rings hubs list =
     record {
       slot = a .slot .0;
-      n = a .n;
+      «max_slots» = a .«max_slots»;
       speed = a .speed;
       hubs = hubs;
       hasParent = a .«has_parent»;
       parent = a .parent;
       port = a .port;
       rootPort = a .«root_port»;
-      ring = a .ring;
+      rings = rings;
       header = a .header;
       packet = a .packet;
       value = a .value;

@@ -19,21 +19,21 @@ ghost use Rattle.answer.specs.Answer.{isAccepted};
 ghost use Rattle.command.specs.declared.Command.the-variants as commands;
 ghost use Rattle.command.specs.Course.{played};
 ghost use Rattle.context.specs.Place.{Spaced};
+ghost use Rattle.record_ring.specs.Store.{least};
 ghost use Rattle.course_steps.specs.End.{answerOf};
 ghost use Rattle.course_init.specs.Reading.{bringUpOf, nothingRead, leavesRead};
 ghost use Rattle.course_init.specs.Init.{step, bringUpSet, bringUpConfiguration, bringUpPacket, bringUpHeader, bringUpAddress};
 ghost use Rattle.course_init.specs.Parts.{orEnded, bringUpRest, afterRead, AllRead};
 
-// The device's place, its control ring, and what is read from it: `header` bytes with the packet size, and the configuration value.
+// The device's place, and what is read from it: `header` bytes with the packet size, and the configuration value.
 pub struct BringUpArgs {
     pub slot: SlotId,
-    pub n: usize,
+    pub max_slots: usize,
     pub speed: u8,
     pub has_parent: bool,
     pub parent: usize,
     pub port: u8,
     pub root_port: u8,
-    pub ring: u64,
     pub header: usize,
     pub packet: u8,
     pub value: u8,
@@ -95,17 +95,20 @@ pub fn address(
     outcomes: &[u8],
     a: BringUpArgs,
     spacing: usize,
+    ring: u64,
     hubs: &[u64],
     list: &[u32],
 ) -> InitEnd
     requires { ⌜ Spaced spacing (length (now ctx)) ⌝ }
     requires { ⌜ LOG-ROOM ≤ length (now log) ⌝ }
     requires { ⌜ validList (now list) ≡ true ⌝ }
-    ensures { λ r. ⌜ leavesRead r (now (list .entry)) (now (ctx .exit)) (now (routes .exit)) (now (log .exit)) ≡ played (now (outcomes .entry)) 0 (bringUpAddress (bringUpOf a (now (hubs .entry)) (now (list .entry))) spacing (now (ctx .entry)) (now (routes .entry))) (now (log .entry)) ⌝ }
+    ensures { λ r. ⌜ ((rings : List ℕ) → ring ≡ least rings → leavesRead r (now (list .entry)) (now (ctx .exit)) (now (routes .exit)) (now (log .exit))
+        ≡ played (now (outcomes .entry)) 0
+        (bringUpAddress (bringUpOf a rings (now (hubs .entry)) (now (list .entry))) spacing (now (ctx .entry)) (now (routes .entry))) (now (log .entry))) ⌝ }
 {
     let path = hub::route_string(hubs, a.has_parent, a.parent, a.port);
     let translator = hub::transaction_translator(a.speed, hubs, a.has_parent, a.parent, a.port);
-    address_context(ctx, spacing, a.speed, path, translator, a.root_port, a.ring);
+    address_context(ctx, spacing, a.speed, path, translator, a.root_port, ring);
     let addressed = read_header(log, outcomes, a);
     let answer = addressed.answer;
     let Answer::Accepted = answer else {
@@ -127,7 +130,11 @@ pub fn address(
 fn read_header(log: &mut [u32], outcomes: &[u8], a: BringUpArgs) -> InitEnd
     requires { ⌜ LOG-ROOM ≤ length (now log) ⌝ }
     ensures { λ r. ⌜ (isAccepted (r .answer) ≡ true → exponentOk (a .speed) (a .packet) ≡ true) ⌝ }
-    ensures { λ r. ⌜ ((hubs list ctx routes : List ℕ) (spacing : ℕ) → validList list ≡ true → played (now (outcomes .entry)) 0 (step commands.Address nothingRead ctx routes (bringUpHeader (bringUpOf a hubs list) spacing ctx routes)) (now (log .entry)) ≡ orEnded r list ctx routes (now (log .exit)) (played (now (outcomes .entry)) 2 (bringUpPacket (bringUpOf a hubs list) spacing ctx routes) (now (log .exit)))) ⌝ }
+    ensures { λ r. ⌜ ((rings hubs list ctx routes : List ℕ) (spacing : ℕ) → validList list ≡ true →
+        played (now (outcomes .entry)) 0 (step commands.Address nothingRead ctx routes (bringUpHeader (bringUpOf a rings hubs list) spacing ctx routes))
+        (now (log .entry))
+        ≡ orEnded r list ctx routes (now (log .exit))
+        (played (now (outcomes .entry)) 2 (bringUpPacket (bringUpOf a rings hubs list) spacing ctx routes) (now (log .exit)))) ⌝ }
 {
     let address = command::send(log, outcomes, 0, Command::Address);
     match address {
@@ -157,7 +164,12 @@ fn read_descriptors(log: &mut [u32], outcomes: &[u8], a: BringUpArgs, list: &[u3
     requires { ⌜ LOG-ROOM ≤ length (now log) ⌝ }
     requires { ⌜ validList (now list) ≡ true ⌝ }
     ensures { λ r. ⌜ (isAccepted (r .answer) ≡ true → AllRead r (now (list .entry))) ⌝ }
-    ensures { λ r. ⌜ ((hubs ctx routes : List ℕ) (spacing : ℕ) → played (now (outcomes .entry)) 2 (step commands.Evaluate nothingRead ctx routes (bringUpConfiguration (bringUpOf a hubs (now (list .entry))) spacing ctx routes)) (now (log .entry)) ≡ orEnded r (now (list .entry)) ctx routes (now (log .exit)) (afterRead r (now (outcomes .entry)) (bringUpOf a hubs (now (list .entry))) spacing ctx routes (now (log .exit)))) ⌝ }
+    ensures { λ r. ⌜ ((rings hubs ctx routes : List ℕ) (spacing : ℕ) →
+        played (now (outcomes .entry)) 2
+        (step commands.Evaluate nothingRead ctx routes (bringUpConfiguration (bringUpOf a rings hubs (now (list .entry))) spacing ctx routes))
+        (now (log .entry))
+        ≡ orEnded r (now (list .entry)) ctx routes (now (log .exit))
+        (afterRead r (now (outcomes .entry)) (bringUpOf a rings hubs (now (list .entry))) spacing ctx routes (now (log .exit)))) ⌝ }
 {
     let packet = command::send(log, outcomes, 2, Command::Evaluate);
     match packet {
@@ -188,7 +200,10 @@ fn read_configs(log: &mut [u32], outcomes: &[u8], a: BringUpArgs, list: &[u32]) 
     requires { ⌜ LOG-ROOM ≤ length (now log) ⌝ }
     requires { ⌜ validList (now list) ≡ true ⌝ }
     ensures { λ r. ⌜ (isAccepted (r .answer) ≡ true → AllRead r (now (list .entry))) ⌝ }
-    ensures { λ r. ⌜ ((hubs ctx routes : List ℕ) (spacing : ℕ) → played (now (outcomes .entry)) 5 (bringUpRest (bringUpOf a hubs (now (list .entry))) spacing ctx routes) (now (log .entry)) ≡ orEnded r (now (list .entry)) ctx routes (now (log .exit)) (afterRead r (now (outcomes .entry)) (bringUpOf a hubs (now (list .entry))) spacing ctx routes (now (log .exit)))) ⌝ }
+    ensures { λ r. ⌜ ((rings hubs ctx routes : List ℕ) (spacing : ℕ) →
+        played (now (outcomes .entry)) 5 (bringUpRest (bringUpOf a rings hubs (now (list .entry))) spacing ctx routes) (now (log .entry))
+        ≡ orEnded r (now (list .entry)) ctx routes (now (log .exit))
+        (afterRead r (now (outcomes .entry)) (bringUpOf a rings hubs (now (list .entry))) spacing ctx routes (now (log .exit)))) ⌝ }
 {
     let all = descriptor_list::count_configurations(list);
     let mut i = 0;
@@ -217,7 +232,10 @@ fn set_first(
     list: &[u32],
 ) -> InitEnd
     requires { ⌜ Spaced spacing (length (now ctx)) × ((0 < length (now list)) × (LOG-ROOM ≤ length (now log)) × AllRead read (now list)) ⌝ }
-    ensures { λ r. ⌜ ((hubs : List ℕ) → leavesRead r (now (list .entry)) (now (ctx .exit)) (now (routes .exit)) (now (log .exit)) ≡ played (now (outcomes .entry)) (read .count) (bringUpSet (bringUpOf a hubs (now (list .entry))) spacing (now (ctx .entry)) (now (routes .entry))) (now (log .entry))) ⌝ }
+    ensures { λ r. ⌜ ((rings hubs : List ℕ) →
+        leavesRead r (now (list .entry)) (now (ctx .exit)) (now (routes .exit)) (now (log .exit))
+        ≡ played (now (outcomes .entry)) (read .count)
+        (bringUpSet (bringUpOf a rings hubs (now (list .entry))) spacing (now (ctx .entry)) (now (routes .entry))) (now (log .entry))) ⌝ }
 {
     let value = descriptor::configuration_value(list[0]);
     let slot = a.slot;

@@ -12,8 +12,7 @@ use Rattle.command.specs.Course.{ends, onSent}
 use Rattle.command.proofs.Done.{AllDone}
 use Rattle.command.proofs.Reached.{Comes, comes-stopped, CutHere, cut-here}
 use Rattle.context.specs.Place.{Spaced}
-use Rattle.context.specs.Steps.{contextEntries}
-use Rattle.context.specs.Promises.{Endpoints, ConfigureReads}
+use Rattle.context.specs.Promises.{Endpoints, EndpointDcis, ConfigureReads}
 use Rattle.context.proofs.Promises.{configure-promise}
 use Rattle.record_endpoint.specs.EndpointMap.{queueDcis}
 use Rattle.course_steps.specs.End.{settingsKept}
@@ -24,7 +23,7 @@ use Rattle.course_release.specs.Release.{Release, releaseContext, releas
 -- Its Configure drops words and adds none.
 pub release-configure-reads :
     (a : Release) (ctx : List ℕ) → Spaced (a .spacing) (length ctx) → a .interface < 2 ^ 8 → a .alternate < 2 ^ 8 → Endpoints (a .words) →
-    contextEntries (a .dcis) [] < 2 ^ 5 →
+    EndpointDcis (a .dcis) →
     ConfigureReads (a .spacing) (a .speed) (a .interface) (a .alternate) (a .words) [] [] (a .dcis) ctx (releaseContext a ctx)
 unfolding releaseContext
 release-configure-reads a ctx sp i n w e =

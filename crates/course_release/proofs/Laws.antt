@@ -43,8 +43,8 @@ module _ (a : Release) (routes o : List ℕ) where
       (λ code e. omega (arith, resume-words next (n + 1) code))
       (λ e. omega arith)
 
-  -- it logs at most 64 words
-  pub release-words : (ctx : List ℕ) (n : ℕ) → length (a .old) ≤ 30 → length (words o n (releaseCourse a ctx routes)) ≤ 64
+  -- it logs at most 63 words
+  pub release-words : (ctx : List ℕ) (n : ℕ) → length (a .old) ≤ 30 → length (words o n (releaseCourse a ctx routes)) ≤ 63
   unfolding releaseCourse words
   release-words ctx n few =
       let dcis = queueDcis (a .old) in
@@ -53,7 +53,7 @@ module _ (a : Release) (routes o : List ℕ) where
       let m : stopped ≤ 2 * length dcis = words-length-stop o ctx dcis n in
       let l : length dcis ≡ length (a .old) = length-dcis (a .old) in
       rw (words-then, length-append)
-      (on-sent (λ c. stopped + length (words o (n + stopped) c) ≤ 64) (r .sent) (releaseConfigure a ctx routes)
+      (on-sent (λ c. stopped + length (words o (n + stopped) c) ≤ 63) (r .sent) (releaseConfigure a ctx routes)
       (λ code. ends (settingsKept (answer.Failed code) (length (a .old)) ctx routes))
       (ends (settingsKept answer.Cut (r .active) ctx routes))
       (λ e. omega (arith, stop-done o ctx dcis n e, configure-words ctx (n + stopped)))

@@ -53,7 +53,9 @@ fn configure(
 ) -> CourseEnd
     requires { ⌜ Room (a .spacing) (length (now ctx)) (a .old) (a .all) ⌝ }
     requires { ⌜ n + a .old .count + 1 ≤ length (now log) ⌝ }
-    ensures { λ r. ⌜ courseLeaves r (now (ctx .exit)) (now (routes .exit)) (now (log .exit)) ≡ played (now (outcomes .entry)) n (releaseConfigure (releaseOf a (now (words .entry))) (now (ctx .entry)) (now (routes .entry))) (now (log .entry)) ⌝ }
+    ensures { λ r. ⌜ courseLeaves r (now (ctx .exit)) (now (routes .exit)) (now (log .exit))
+        ≡ played (now (outcomes .entry)) n (releaseConfigure (releaseOf a (now (words .entry))) (now (ctx .entry)) (now (routes .entry)))
+        (now (log .entry)) ⌝ }
 {
     let none = course_steps::no_queues();
     course_steps::prepare_configure(
@@ -92,7 +94,9 @@ pub fn release_interface(
 ) -> CourseEnd
     requires { ⌜ Room (a .spacing) (length (now ctx)) (a .old) (a .all) ⌝ }
     requires { ⌜ LOG-ROOM ≤ length (now log) ⌝ }
-    ensures { λ r. ⌜ courseLeaves r (now (ctx .exit)) (now (routes .exit)) (now (log .exit)) ≡ played (now (outcomes .entry)) 0 (releaseCourse (releaseOf a (now (words .entry))) (now (ctx .entry)) (now (routes .entry))) (now (log .entry)) ⌝ }
+    ensures { λ r. ⌜ courseLeaves r (now (ctx .exit)) (now (routes .exit)) (now (log .exit))
+        ≡ played (now (outcomes .entry)) 0 (releaseCourse (releaseOf a (now (words .entry))) (now (ctx .entry)) (now (routes .entry)))
+        (now (log .entry)) ⌝ }
 {
     let stop = course_steps::stop_endpoints(log, outcomes, 0, a.old);
     let s = stop.sent;

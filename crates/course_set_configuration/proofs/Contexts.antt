@@ -13,8 +13,7 @@ use Rattle.command.specs.Course.{ends, onSent}
 use Rattle.command.proofs.Done.{AllDone}
 use Rattle.command.proofs.Reached.{Comes, comes-then, comes-sends, comes-stopped, CutHere, cut-here}
 use Rattle.context.specs.Place.{Spaced}
-use Rattle.context.specs.Steps.{contextEntries}
-use Rattle.context.specs.Promises.{Endpoints, ConfigureReads, ConfigurationReads}
+use Rattle.context.specs.Promises.{Endpoints, EndpointDcis, ConfigureReads, ConfigurationReads}
 use Rattle.context.proofs.Laws.{written-length}
 use Rattle.context.proofs.Promises.{configure-promise, configuration-promise}
 use Rattle.record_endpoint.specs.EndpointMap.{queueDcis}
@@ -27,7 +26,7 @@ use Rattle.course_set_configuration.specs.SetConfiguration.{Settings, dr
 
 module _ (a : Settings) (ctx : List ℕ) (sp : Spaced (a .spacing) (length ctx)) where
   -- Its Configure drops the words of every held setting,
-  pub set-configure-reads : Endpoints (a .words) → contextEntries (queueDcis (a .old)) [] < 2 ^ 5 →
+  pub set-configure-reads : Endpoints (a .words) → EndpointDcis (queueDcis (a .old)) →
       ConfigureReads (a .spacing) (a .speed) 0 0 (a .words) [] [] (queueDcis (a .old)) ctx (dropContext a ctx)
   unfolding dropContext
   set-configure-reads w e =
@@ -35,7 +34,7 @@ module _ (a : Settings) (ctx : List ℕ) (sp : Spaced (a .spacing) (length ctx))
 
   -- another adds them again,
   pub set-restore-reads : Endpoints (a .words) → ((d : ℕ) → ringFor d (a .old) 0 < 2 ^ 64) →
-      contextEntries (queueDcis (a .old)) (a .words) < 2 ^ 5 →
+      EndpointDcis (queueDcis (a .old)) →
       ConfigureReads (a .spacing) (a .speed) 0 0 [] (a .words) (a .old) (queueDcis (a .old)) ctx (restoreContext a ctx)
   unfolding restoreContext
   set-restore-reads w r e =

@@ -12,7 +12,7 @@ use Rattle.command.specs.declared.Sent.the-variants as sent
 use Rattle.command.specs.Course.{result}
 use Rattle.command.proofs.Cuts.{on-sent}
 use Rattle.command.proofs.Operations.{operation}
-use Rattle.context_block.specs.Promises.{someDci}
+use Rattle.context_block.specs.Blocks.{someDci}
 use Rattle.context.specs.Place.{Spaced}
 use Rattle.record_endpoint.specs.EndpointMap.{queueDcis}
 use Rattle.transfer.specs.declared.Replaced.{Replaced}

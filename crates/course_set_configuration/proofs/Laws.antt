@@ -14,7 +14,7 @@ use Rattle.command.specs.declared.Command.{Command}
 use Rattle.command.specs.declared.Command.the-variants as command
 use Rattle.command.specs.declared.Sent.{Sent}
 use Rattle.command.specs.declared.Sent.the-variants as sent
-use Rattle.command.specs.Command.{outcomeAt}
+use Rattle.command.specs.Command.{outcomeAt, stopCommand, resumeCommand}
 use Rattle.command.specs.Course.{Course, ends, sends, onSent, words, result, EndsWith, CutsTo, CutEnds}
 use Rattle.command.specs.Sweep.{stopEndpoints, resumeStoppedEndpoints}
 use Rattle.command.proofs.Cuts.{on-sent}
@@ -174,7 +174,7 @@ module _ (a : Settings) where
 
 -- Which commands it sends.
 
-module _ (P : Command → Type 0) (a : Settings) (back : (k : ℕ) → P (command.Resume (getD (queueDcis (a .old)) k 0))) where
+module _ (P : Command → Type 0) (a : Settings) (back : (k : ℕ) → P (resumeCommand (getD (queueDcis (a .old)) k 0))) where
   resume-sends : (code : ℕ) (ctx routes : List ℕ) → EachCommand P (setResume a code ctx routes)
   unfolding setResume EachCommand
   resume-sends code ctx routes = each-then P (resumeStoppedEndpoints ctx (queueDcis (a .old))) _ (resume-each P ctx _ back) (λ r. tt)
@@ -208,8 +208,8 @@ module _ (P : Command → Type 0) (a : Settings) where
     pub configure : P command.Configure
     pub switch : P (command.SetConfiguration (a .value))
     pub evaluate : P command.Evaluate
-    pub stop : (k : ℕ) → P (command.Stop (getD (queueDcis (a .old)) k 0))
-    pub resume : (k : ℕ) → P (command.Resume (getD (queueDcis (a .old)) k 0))
+    pub stop : (k : ℕ) → P (stopCommand (getD (queueDcis (a .old)) k 0))
+    pub resume : (k : ℕ) → P (resumeCommand (getD (queueDcis (a .old)) k 0))
 
   -- it sends no other commands
   pub set-sends : OfEach → (ctx routes : List ℕ) → EachCommand P (setCourse a ctx routes)

@@ -1,19 +1,21 @@
 -- What the steps of the code come to: the endpoint words of one held setting after the other.
 use Prim.Native.Nat.{ℕ, suc, _+_, _-_, _<_, _≤_, max}
-use mathlib.Core.Path.{_≡_, refl, ap, _∙_}
+use mathlib.Core.Path.{_≡_, refl, sym, ap, _∙_}
 use mathlib.Core.List.{List, [], _∷_, _++_, append-assoc}
 use native.Mathlib.Omega.{arith}
 use native.Mathlib.Nat.{add-zero, sub-zero}
-use lib.ListN.{drop, getD}
+use lib.ListN.{length, drop, getD}
 use lib.Seq.{drop-drop, getD-drop}
 use Rattle.context_block.specs.Fields.{DROP-FLAG, INTERFACE-NUMBER, ALTERNATE-SETTING, CONTEXT-ENTRIES}
 use Rattle.context_block.specs.FieldWrite.{FieldWrite, _:=_}
 use Rattle.context_block.specs.Blocks.{changed, wordDci, dropFlags}
 use Rattle.transfer.specs.Routes.{Queue, queues}
-use Rattle.context.specs.Place.{CONTROL, SLOT, inBlock, written}
-use Rattle.context.specs.Steps.{addAll, highestDci, wordDcis, contextEntries, configureWrites}
+use Rattle.context.specs.Place.{CONTROL, SLOT, inBlock, written, Spaced}
+use Rattle.context.specs.Steps.{addAll, highestDci, wordDcis, staying, contextEntries, configureWrites}
+use Rattle.context.specs.Promises.{Flagged}
 use Rattle.context.proofs.Laws.{written-append, in-block-append}
 use Rattle.context.proofs.Steps.{highest-least, configure-steps}
+use Rattle.context.proofs.Entries.{flagged-after, entries-made}
 use Rattle.course_steps.specs.Arrays.{dcisIn, ringsIn, queuesIn}
 use Rattle.course_steps.proofs.Laws.{dcis-in}
 use Rattle.record_settings.specs.Held.{heldIn, settingWords, heldWords}
@@ -40,16 +42,6 @@ unfolding highestDci wordDcis
 highest-append [] y = omega (arith, highest-least (wordDcis y))
 highest-append (w ∷ x) y = omega (arith, highest-append x y)
 
--- their context entries
-pub entries-append : (ds x y : List ℕ) → contextEntries ds (x ++ y) ≡ max (contextEntries ds x) (contextEntries ds y)
-unfolding contextEntries
-entries-append ds x y = omega (arith, highest-append x y)
-
--- at least as many as of no words
-pub entries-least : (ds x : List ℕ) → contextEntries ds [] ≤ contextEntries ds x
-unfolding contextEntries highestDci wordDcis
-entries-least ds x = omega (arith, highest-least (wordDcis x))
-
 -- The words of the held settings from number i on.
 abbrev pub wordsFrom : List ℕ → List ℕ → List ℕ → ℕ → ℕ → List ℕ
 wordsFrom list interfaces alternates n i = heldWords list (heldIn (n - i) (drop i interfaces) (drop i alternates))
@@ -61,11 +53,10 @@ pub add-start : (list interfaces alternates : List ℕ) (n s speed : ℕ) (qs : 
 add-start list interfaces alternates n s speed qs ctx = rw sub-zero
 
 -- none compared yet
-pub entries-start : (list interfaces alternates : List ℕ) (n m : ℕ) (ds : List ℕ) → m ≡ contextEntries ds [] →
-    contextEntries ds (heldWords list (heldIn n interfaces alternates))
-    ≡ max m (contextEntries ds (wordsFrom list interfaces alternates n 0))
-entries-start list interfaces alternates n m ds e =
-    rw sub-zero (omega (arith, entries-least ds (heldWords list (heldIn n interfaces alternates))))
+pub compare-start : (list interfaces alternates : List ℕ) (n m : ℕ) →
+    max m (highestDci (wordDcis (heldWords list (heldIn n interfaces alternates))))
+    ≡ max m (highestDci (wordDcis (wordsFrom list interfaces alternates n 0)))
+compare-start list interfaces alternates n m = rw sub-zero
 
 module _ (list interfaces alternates : List ℕ) (n i : ℕ) where
   rest : ℕ → List ℕ
@@ -95,19 +86,12 @@ module _ (list interfaces alternates : List ℕ) (n i : ℕ) where
     unfolding rest next
     add-next s speed qs ctx ctx′ e = rw (held-next h, add-all-append, written-append, e, ew)
 
-    -- compared: it has more entries
-    pub entries-more : (ds : List ℕ) (m m′ : ℕ) → m′ ≡ contextEntries ds words → m < m′ →
-        max m (contextEntries ds (wordsFrom list interfaces alternates n i))
-        ≡ max m′ (contextEntries ds (wordsFrom list interfaces alternates n (i + 1)))
+    -- compared
+    pub compare-next : (m m′ : ℕ) → m′ ≡ max m (highestDci (wordDcis words)) →
+        max m (highestDci (wordDcis (wordsFrom list interfaces alternates n i)))
+        ≡ max m′ (highestDci (wordDcis (wordsFrom list interfaces alternates n (i + 1))))
     unfolding rest next
-    entries-more ds m m′ e l = rw (held-next h, ← ew) (omega (arith, entries-append ds words (rest (i + 1))))
-
-    -- or not
-    pub entries-same : (ds : List ℕ) (m m′ : ℕ) → m′ ≡ contextEntries ds words → m′ ≤ m →
-        max m (contextEntries ds (wordsFrom list interfaces alternates n i))
-        ≡ max m (contextEntries ds (wordsFrom list interfaces alternates n (i + 1)))
-    unfolding rest next
-    entries-same ds m m′ e l = rw (held-next h, ← ew) (omega (arith, entries-append ds words (rest (i + 1))))
+    compare-next m m′ e = rw (held-next h, ← ew) (omega (arith, e, highest-append words (rest (i + 1))))
 
   module _ (h : n ≤ i) where
     held-end : rest i ≡ []
@@ -127,10 +111,9 @@ module _ (list interfaces alternates : List ℕ) (n i : ℕ) where
     add-end s speed qs ctx = rw held-end
 
     -- compared
-    entries-end : (ds : List ℕ) (m : ℕ) → contextEntries ds [] ≤ m →
-        max m (contextEntries ds (wordsFrom list interfaces alternates n i)) ≡ m
-    unfolding rest
-    entries-end ds m l = rw held-end (omega arith)
+    compare-end : (m : ℕ) → 1 ≤ m → max m (highestDci (wordDcis (wordsFrom list interfaces alternates n i))) ≡ m
+    unfolding rest highestDci wordDcis
+    compare-end m l = rw held-end (omega arith)
 
 none-added : (s speed : ℕ) (qs : List Queue) (ctx : List ℕ) → written s (addAll speed qs []) ctx ≡ ctx
 unfolding written addAll
@@ -144,7 +127,7 @@ module _ (s speed : ℕ) (words dcis ctx : List ℕ) where
   -- the steps of a Configure for no interface that only drops
   drop-steps :
       written s (configureWrites speed 0 0 words [] [] dcis) ctx
-      ≡ written s (inBlock SLOT ((CONTEXT-ENTRIES := contextEntries dcis []) ∷ []))
+      ≡ written s (inBlock SLOT ((CONTEXT-ENTRIES := contextEntries words dcis []) ∷ []))
       (written s (inBlock CONTROL (dropFlags words))
       (written s (inBlock CONTROL (changed ++ ((INTERFACE-NUMBER := 0) ∷ (ALTERNATE-SETTING := 0) ∷ []))) ctx))
   drop-steps = configure-steps s speed 0 0 words [] [] dcis ctx ∙ rw none-added
@@ -152,37 +135,46 @@ module _ (s speed : ℕ) (words dcis ctx : List ℕ) where
   -- and of one that only adds
   restore-steps : (qs : List Queue) →
       written s (configureWrites speed 0 0 [] words qs dcis) ctx
-      ≡ written s (inBlock SLOT ((CONTEXT-ENTRIES := contextEntries dcis words) ∷ []))
+      ≡ written s (inBlock SLOT ((CONTEXT-ENTRIES := contextEntries [] dcis words) ∷ []))
       (written s (addAll speed qs words)
       (written s (inBlock CONTROL (changed ++ ((INTERFACE-NUMBER := 0) ∷ (ALTERNATE-SETTING := 0) ∷ []))) ctx))
   restore-steps qs = configure-steps s speed 0 0 [] words qs dcis ctx ∙ rw none-dropped
 
 -- The context of a Configure, where the held settings' words are dropped or added one setting after the other.
 module _
-    (a : SettingsArgs) (list ctx begun done left : List ℕ) (i entries : ℕ) (h : a .held ≤ i)
+    (a : SettingsArgs) (list ctx begun done left : List ℕ) (i entries : ℕ) (h : a .held ≤ i) (spaced : Spaced (a .spacing) (length ctx))
     (begins :
     begun
     ≡ written (a .spacing) (inBlock CONTROL (changed ++ ((INTERFACE-NUMBER := 0) ∷ (ALTERNATE-SETTING := 0) ∷ []))) ctx)
-    (finishes : left ≡ written (a .spacing) (inBlock SLOT ((CONTEXT-ENTRIES := entries) ∷ [])) done) where
+    (finishes : left ≡ written (a .spacing) (inBlock SLOT ((CONTEXT-ENTRIES := entries) ∷ [])) done) (least : 1 ≤ entries) where
+  abbrev words : List ℕ
+  words = heldWords list (heldIn (a .held) (a .interfaces) (a .alternates))
+
   -- all dropped
   pub dropped :
-      written (a .spacing) (inBlock CONTROL (dropFlags (heldWords list (heldIn (a .held) (a .interfaces) (a .alternates))))) begun
+      written (a .spacing) (inBlock CONTROL (dropFlags words)) begun
       ≡ written (a .spacing) (inBlock CONTROL (dropFlags (wordsFrom list (a .interfaces) (a .alternates) (a .held) i))) done →
-      entries ≡ contextEntries (dcisIn (a .old)) [] → left ≡ dropContext (settingsOf a list) ctx
-  unfolding dropContext
+      ((dropped : List ℕ) → Flagged dropped done → entries ≡ highestDci (staying dropped (dcisIn (a .old)))) →
+      left ≡ dropContext (settingsOf a list) ctx
+  unfolding dropContext highestDci wordDcis
   dropped d e =
       let all = d ∙ drop-end list (a .interfaces) (a .alternates) (a .held) i h (a .spacing) done in
-      rw (drop-steps, dcis-in, ← begins, all, ← e) finishes
+      let flags = flagged-after (a .spacing) 0 0 words ctx begun done spaced begins (sym all) in
+      let made = entries-made words (dcisIn (a .old)) [] entries entries (e words flags) (omega (arith, least)) in
+      rw (drop-steps, dcis-in, ← begins, all, ← made) finishes
 
   -- all added again
-  pub added : (ds rs : List ℕ) →
-      written (a .spacing) (addAll (a .speed) (queues ds rs) (heldWords list (heldIn (a .held) (a .interfaces) (a .alternates)))) begun
+  pub added : (ds rs : List ℕ) (first : ℕ) →
+      written (a .spacing) (addAll (a .speed) (queues ds rs) words) begun
       ≡ written (a .spacing) (addAll (a .speed) (queues ds rs) (wordsFrom list (a .interfaces) (a .alternates) (a .held) i)) done →
-      contextEntries ds (heldWords list (heldIn (a .held) (a .interfaces) (a .alternates)))
-      ≡ max entries (contextEntries ds (wordsFrom list (a .interfaces) (a .alternates) (a .held) i)) →
-      contextEntries ds [] ≤ entries → ds ≡ dcisIn (a .old) → rs ≡ ringsIn (a .old) → left ≡ restoreContext (settingsOf a list) ctx
+      ((dropped : List ℕ) → Flagged dropped begun → first ≡ highestDci (staying dropped ds)) →
+      max first (highestDci (wordDcis words))
+      ≡ max entries (highestDci (wordDcis (wordsFrom list (a .interfaces) (a .alternates) (a .held) i))) →
+      ds ≡ dcisIn (a .old) → rs ≡ ringsIn (a .old) → left ≡ restoreContext (settingsOf a list) ctx
   unfolding restoreContext queuesIn
-  added ds rs w e m d r =
+  added ds rs first w e m d r =
       let all = w ∙ add-end list (a .interfaces) (a .alternates) (a .held) i h (a .spacing) (a .speed) (queues ds rs) done in
-      let most = e ∙ entries-end list (a .interfaces) (a .alternates) (a .held) i h ds entries m in
-      rw (restore-steps, dcis-in, ← d, ← r, ← begins, all, most) finishes
+      let flags = flagged-after (a .spacing) 0 0 [] ctx begun begun spaced begins (sym (none-dropped (a .spacing) begun)) in
+      let most = m ∙ compare-end list (a .interfaces) (a .alternates) (a .held) i h entries least in
+      let made = entries-made [] ds words first entries (e [] flags) (sym most) in
+      rw (restore-steps, dcis-in, ← d, ← r, ← begins, all, ← made) finishes

@@ -21,7 +21,7 @@ pub fn prepare_drop(ctx: &mut [u8], a: SettingsArgs, list: &[u32])
         i += 1;
     }
     let dcis = a.old.dcis;
-    let entries = context_writer::context_entries(&dcis[0..a.old.count], &[0u32; 0]);
+    let entries = context_writer::highest_staying(ctx, &dcis[0..a.old.count]);
     context_writer::finish_configure(ctx, a.spacing, entries);
 }
 
@@ -36,16 +36,13 @@ pub fn prepare_restore(ctx: &mut [u8], a: SettingsArgs, list: &[u32])
     let dcis = &old_dcis[0..a.old.count];
     let rings = &old_rings[0..a.old.count];
     context_writer::begin_configure(ctx, 0, 0);
-    let mut entries = context_writer::context_entries(dcis, &[0u32; 0]);
+    let mut entries = context_writer::highest_staying(ctx, dcis);
     let mut i = 0;
     while i < a.held {
         let words = record_settings::setting_words(list, a.interfaces[i], a.alternates[i]);
         context_writer::add_endpoints(ctx, a.spacing, a.speed, words, dcis, rings);
-        let of_setting = context_writer::context_entries(dcis, words);
+        entries = context_writer::highest_added(entries, words);
         i += 1;
-        if entries < of_setting {
-            entries = of_setting;
-        }
     }
     context_writer::finish_configure(ctx, a.spacing, entries);
 }

@@ -45,7 +45,8 @@ pub fn run_set_configuration(
     requires { ⌜ Room (a .spacing) (length (now ctx)) (a .old) (a .old) ⌝ }
     requires { ⌜ a .held ≤ HELD-ROOM ⌝ }
     requires { ⌜ n + 2 * a .old .count + 3 ≤ length (now log) ⌝ }
-    ensures { λ r. ⌜ courseLeaves r (now (ctx .exit)) (now (routes .exit)) (now (log .exit)) ≡ played (now (outcomes .entry)) n (setCourse (settingsOf a (now (list .entry))) (now (ctx .entry)) (now (routes .entry))) (now (log .entry)) ⌝ }
+    ensures { λ r. ⌜ courseLeaves r (now (ctx .exit)) (now (routes .exit)) (now (log .exit))
+        ≡ played (now (outcomes .entry)) n (setCourse (settingsOf a (now (list .entry))) (now (ctx .entry)) (now (routes .entry))) (now (log .entry)) ⌝ }
 {
     let stop = course_steps::stop_endpoints(log, outcomes, n, a.old);
     let s = stop.sent;
@@ -69,7 +70,9 @@ fn configure(
 ) -> CourseEnd
     requires { ⌜ Room (a .spacing) (length (now ctx)) (a .old) (a .old) ⌝ }
     requires { ⌜ (a .held ≤ HELD-ROOM) × (n + a .old .count + 3 ≤ length (now log)) ⌝ }
-    ensures { λ r. ⌜ courseLeaves r (now (ctx .exit)) (now (routes .exit)) (now (log .exit)) ≡ played (now (outcomes .entry)) n (setConfigure (settingsOf a (now (list .entry))) (now (ctx .entry)) (now (routes .entry))) (now (log .entry)) ⌝ }
+    ensures { λ r. ⌜ courseLeaves r (now (ctx .exit)) (now (routes .exit)) (now (log .exit))
+        ≡ played (now (outcomes .entry)) n (setConfigure (settingsOf a (now (list .entry))) (now (ctx .entry)) (now (routes .entry)))
+        (now (log .entry)) ⌝ }
 {
     held::prepare_drop(ctx, a, list);
     let dropped = command::send(log, outcomes, n, Command::Configure);
@@ -140,7 +143,9 @@ fn restore(
     requires { ⌜ Room (a .spacing) (length (now ctx)) (a .old) (a .old) ⌝ }
     requires { ⌜ a .held ≤ HELD-ROOM ⌝ }
     requires { ⌜ n + a .old .count + 1 ≤ length (now log) ⌝ }
-    ensures { λ r. ⌜ ((routes : List ℕ) → courseLeaves r (now (ctx .exit)) routes (now (log .exit)) ≡ played (now (outcomes .entry)) n (setRestore (settingsOf a (now (list .entry))) code (now (ctx .entry)) routes) (now (log .entry))) ⌝ }
+    ensures { λ r. ⌜ ((routes : List ℕ) →
+        courseLeaves r (now (ctx .exit)) routes (now (log .exit))
+        ≡ played (now (outcomes .entry)) n (setRestore (settingsOf a (now (list .entry))) code (now (ctx .entry)) routes) (now (log .entry))) ⌝ }
 {
     held::prepare_restore(ctx, a, list);
     let s = command::send(log, outcomes, n, Command::Configure);
@@ -175,7 +180,9 @@ fn publish(
 ) -> CourseEnd
     requires { ⌜ Room (a .spacing) (length (now ctx)) (a .old) (a .old) ⌝ }
     requires { ⌜ n + 1 ≤ length (now log) ⌝ }
-    ensures { λ r. ⌜ ((list : List ℕ) → courseLeaves r (now (ctx .exit)) (now (routes .exit)) (now (log .exit)) ≡ played (now (outcomes .entry)) n (setPublish (settingsOf a list) (now (ctx .entry)) (now (routes .entry))) (now (log .entry))) ⌝ }
+    ensures { λ r. ⌜ ((list : List ℕ) →
+        courseLeaves r (now (ctx .exit)) (now (routes .exit)) (now (log .exit))
+        ≡ played (now (outcomes .entry)) n (setPublish (settingsOf a list) (now (ctx .entry)) (now (routes .entry))) (now (log .entry))) ⌝ }
 {
     let none = course_steps::no_queues();
     let r = course_steps::publish_endpoint_routes(routes, a.slot, a.old, none);

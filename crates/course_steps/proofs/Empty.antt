@@ -5,7 +5,7 @@ use mathlib.Core.Bool.{false}
 use mathlib.Core.List.{[]}
 use lib.Dec.{lit<}
 use Rattle.laws.proofs.Tests.{not-both}
-use Rattle.context_block.specs.Promises.{someDci}
+use Rattle.context_block.specs.Blocks.{someDci}
 use Rattle.context.specs.Promises.{Endpoints}
 use Rattle.transfer.specs.Routes.{ringFor}
 

@@ -1,20 +1,21 @@
 -- Queues in arrays: their Dcis, how many they are, and what the phases ask of them.
 use Prim.Native.Nat.{ℕ, zero, suc, _+_, _-_, _<_, _≤_}
 use mathlib.Core.Path.{_≡_, refl, sym, ap, _∙_}
-use mathlib.Core.Bool.{Bool, true, false, cond}
+use mathlib.Core.Bool.{Bool, true, false, cond, _&&_}
 use mathlib.Core.List.{List, [], _∷_}
 use native.Mathlib.Omega.{arith}
-use borrow.Author.Tests.{leb-true}
-use lib.Dec.{eqb, leb}
+use borrow.Author.Tests.{leb-true, ltb-true}
+use lib.Dec.{eqb, leb, ltb}
 use lib.ListN.{length, drop, getD, length-take}
 use Rattle.laws.proofs.Computed.{all-below}
+use Rattle.laws.proofs.Tests.{and-left, and-right}
 use Rattle.command.specs.declared.Sent.the-variants.{Done}
 use Rattle.command.specs.declared.Swept.{Swept}
 use Rattle.command.specs.Course.{played}
 use Rattle.command.specs.Sweep.{stopEndpoints, resumeStoppedEndpoints, SweptAs}
 use Rattle.command.proofs.Sweeps.{stop-done-count, resume-count}
 use Rattle.context.specs.Place.{Spaced}
-use Rattle.context.specs.Steps.{highestDci}
+use Rattle.context.specs.Promises.{EndpointDcis}
 use Rattle.record_endpoint.specs.declared.pending.Queues.{Queues}
 use Rattle.record_endpoint.specs.EndpointMap.{gathered, queuesOf, queueDcis, queueRings, QueuesAs}
 use Rattle.record_endpoint.specs.Order.{dciAt}
@@ -73,27 +74,36 @@ module _ (q : Queues) (o ctx log left : List ℕ) (n : ℕ) (r : Swept) where
   pub resumed-count : SweptAs r left (played o n (resumeStoppedEndpoints ctx (dcisIn q)) log) → r .count ≤ n + q .count
   resumed-count a = omega (arith, resume-count o ctx (dcisIn q) log left n r a, few-in q)
 
--- the Dci of each place is at most 31
-dci-low : (place : ℕ) → place < 30 → dciAt place ≤ 31
+-- the Dci of each place is an endpoint's
+dci-placed : (place : ℕ) → place < 30 → (2 ≤ dciAt place) × (dciAt place < 32)
 unfolding dciAt
-dci-low place h = leb-true _ _ (all-below (λ p. leb (dciAt p) 31) 30 refl place h)
+dci-placed place h =
+    let t = all-below (λ p. leb 2 (dciAt p) && ltb (dciAt p) 32) 30 refl place h in
+    (leb-true _ _ (and-left _ _ t), ltb-true _ _ (and-right (leb 2 (dciAt place)) _ t))
 
-gathered-low : (f : ℕ → Queue) (rings : List ℕ) (k place : ℕ) → ((p : ℕ) → p < place + k → f p .dci ≤ 31) →
-    highestDci (queueDcis (gathered f rings k place)) ≤ 31
-unfolding gathered queueDcis highestDci
-gathered-low f rings zero place h = omega arith
-gathered-low f rings (suc k) place h =
-    go (eqb (getD rings place 0) 0) (gathered-low f rings k (place + 1) (λ p l. h p (omega arith))) (h place (omega arith))
+gathered-dcis : (f : ℕ → Queue) (rings : List ℕ) (k place : ℕ) → ((p : ℕ) → p < place + k → (2 ≤ f p .dci) × (f p .dci < 32)) →
+    EndpointDcis (queueDcis (gathered f rings k place))
+unfolding gathered queueDcis
+gathered-dcis f rings zero place h = λ i l. absurd (omega arith)
+gathered-dcis f rings (suc k) place h =
+    go (eqb (getD rings place 0) 0) (gathered-dcis f rings k (place + 1) (λ p l. h p (omega arith))) (h place (omega arith))
   where
-    go : (b : Bool) → highestDci (queueDcis (gathered f rings k (place + 1))) ≤ 31 → f place .dci ≤ 31 →
-        highestDci (queueDcis (cond b (gathered f rings k (place + 1)) (f place ∷ gathered f rings k (place + 1)))) ≤ 31
-    go true low d = low
-    go false low d = omega (arith, low, d)
+    rest : List Queue
+    rest = gathered f rings k (place + 1)
 
--- queues by place have Dcis up to 31
-pub highest-queues : (by : List ℕ) → highestDci (queueDcis (queuesOf by)) ≤ 31
+    go : (b : Bool) → EndpointDcis (queueDcis rest) → (2 ≤ f place .dci) × (f place .dci < 32) →
+        EndpointDcis (queueDcis (cond b rest (f place ∷ rest)))
+    go true r d = r
+    go false r d = first
+      where
+        first : EndpointDcis (queueDcis (f place ∷ rest))
+        first zero l = d
+        first (suc i) l = r i (omega arith)
+
+-- so are those of queues by place
+pub queue-dcis : (by : List ℕ) → EndpointDcis (queueDcis (queuesOf by))
 unfolding queuesOf
-highest-queues by = gathered-low _ by 30 0 (λ p l. dci-low p l)
+queue-dcis by = gathered-dcis _ by 30 0 (λ p l. dci-placed p l)
 
 -- what the phases ask, of arrays that hold the queues of some rings
 pub room-as : (spacing ctx : ℕ) (old all : Queues) (by whole : List ℕ) → Spaced spacing ctx → QueuesAs old by →
@@ -105,5 +115,9 @@ room-as spacing ctx old all by whole s o a =
       few = o .room;
       full = full-as old by o;
       few-all = a .room;
-      low = rw (a .dcis) (omega (arith, highest-queues whole));
+      dcis = rw (a .dcis) (queue-dcis whole);
     }
+
+-- and in a context of the same length
+pub room-same : (s m n : ℕ) (old all : Queues) → Room s m old all → n ≡ m → Room s n old all
+room-same s m n old all r e = rw e r

@@ -10,10 +10,9 @@ use denote.Enum.Declared.{tagOf}
 use lib.ListN.{length, getD, drop, take, set, length-take, drop-of-length-le}
 use lib.Seq.{drop-cons, take-suc, take-take, getD-take}
 use Rattle.command.proofs.Sent.{the-type}
-use Rattle.command.specs.declared.Command.the-variants as command
 use Rattle.command.specs.declared.Sent.{Sent}
 use Rattle.command.specs.declared.Sent.the-variants.{Done, Failed, Cut}
-use Rattle.command.specs.Command.{commandWord, outcomeAt}
+use Rattle.command.specs.Command.{commandWord, outcomeAt, stopCommand, resumeCommand}
 use Rattle.command.specs.Course.{ends, onSent, played}
 use Rattle.command.specs.Sweep.{swept, resumeFrom, resumeStoppedEndpoints, undoStops, stopFrom, stopEndpoints}
 use Rattle.command.proofs.Laws.{played-ends, played-sends}
@@ -46,7 +45,7 @@ module _ (q : Queues) (o log log′ ctx : List ℕ) (n i : ℕ) (s : Sent) (room
   next : n + (i + 1) ≡ n + i + 1
   next = omega arith
 
-  module _ (el : log′ ≡ set log (n + i) (commandWord (command.Resume (getD (q .dcis) i 0)))) where
+  module _ (el : log′ ≡ set log (n + i) (commandWord (resumeCommand (getD (q .dcis) i 0)))) where
     resume-turn : played o (n + i) (resumeFrom ctx i (drop i (dcisIn q))) log ≡
         played o (n + i + 1)
         (onSent s (resumeFrom ctx (i + 1) (drop (i + 1) (dcisIn q))) (λ code. ends (swept (Failed code) i)) (ends (swept Cut i)))
@@ -74,7 +73,7 @@ module _ (q : Queues) (o log log′ ctx : List ℕ) (n i : ℕ) (s : Sent) (room
         go (Failed code) t = played-ends _ _ _ _
         go Cut t = played-ends _ _ _ _
 
-  module _ (el : log′ ≡ set log (n + i) (commandWord (command.Stop (getD (q .dcis) i 0)))) where
+  module _ (el : log′ ≡ set log (n + i) (commandWord (stopCommand (getD (q .dcis) i 0)))) where
     stop-turn : played o (n + i) (stopFrom ctx (take i (dcisIn q)) (drop i (dcisIn q))) log ≡
         played o (n + i + 1)
         (onSent s (stopFrom ctx (take (i + 1) (dcisIn q)) (drop (i + 1) (dcisIn q))) (undoStops ctx (take i (dcisIn q))) (ends (swept Cut 0)))

@@ -1,11 +1,11 @@
 -- Queues that lie in arrays beside their count, and what a phase leaves.
-use Prim.Native.Nat.{ℕ, _≤_, _<_}
+use Prim.Native.Nat.{ℕ, _≤_}
 use mathlib.Core.Path.{_≡_}
 use mathlib.Core.List.{List}
 use lib.ListN.{length, take}
 use Rattle.command.specs.Course.{Played}
 use Rattle.context.specs.Place.{Spaced}
-use Rattle.context.specs.Steps.{highestDci}
+use Rattle.context.specs.Promises.{EndpointDcis}
 use Rattle.record_endpoint.specs.Order.{PLACES}
 use Rattle.record_endpoint.specs.declared.pending.Queues.{Queues}
 use Rattle.transfer.specs.Routes.{Queue, queues}
@@ -30,10 +30,10 @@ courseLeaves r ctx routes log =
       log = log;
     }
 
--- What every phase asks: a context of this spacing, and counts that fit their arrays.
+-- What every phase asks: a context of this spacing, counts that fit their arrays, and Dcis of endpoints.
 pub record Room (spacing ctx : ℕ) (old all : Queues) : Type 0 where
   pub spaced : Spaced spacing ctx
   pub few : old .count ≤ PLACES
   pub full : length (queuesIn old) ≡ old .count
   pub few-all : all .count ≤ PLACES
-  pub low : highestDci (dcisIn all) < 255
+  pub dcis : EndpointDcis (dcisIn all)

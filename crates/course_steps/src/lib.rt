@@ -3,6 +3,7 @@ use answer::Answer;
 use command::Command;
 use command::Sent;
 use command::Swept;
+use def::Dci;
 use def::SlotId;
 use record_endpoint::PLACES;
 use record_endpoint::Queues;
@@ -16,7 +17,8 @@ ghost use Rattle.record_endpoint.specs.Order.{PLACES};
 ghost use Rattle.command.specs.Course.{played};
 ghost use Rattle.command.specs.Sweep.{stopEndpoints, resumeStoppedEndpoints, SweptAs};
 ghost use Rattle.context.specs.Place.{written, Spaced};
-ghost use Rattle.context.specs.Steps.{configureWrites, highestDci};
+ghost use Rattle.context.specs.Steps.{configureWrites};
+ghost use Rattle.context.specs.Promises.{EndpointDcis};
 ghost use Rattle.transfer.specs.Routes.{queues, replaced, withReplaced};
 ghost use Rattle.course_steps.specs.End.{answerOf, configureFailed};
 ghost use Rattle.course_steps.specs.Arrays.{dcisIn, queuesIn};
@@ -37,7 +39,7 @@ pub fn resume_stopped_endpoints(log: &mut [u32], outcomes: &[u8], n: usize, q: Q
     let mut i = 0;
     while i < q.count {
         let at = n + i;
-        let sent = command::send(log, outcomes, at, Command::Resume(q.dcis[i]));
+        let sent = command::send(log, outcomes, at, Command::Resume(Dci(q.dcis[i])));
         match sent {
             Sent::Done => {
                 i += 1;
@@ -66,7 +68,7 @@ pub fn stop_endpoints(log: &mut [u32], outcomes: &[u8], n: usize, q: Queues) -> 
     let mut i = 0;
     while i < q.count {
         let at = n + i;
-        match command::send(log, outcomes, at, Command::Stop(q.dcis[i])) {
+        match command::send(log, outcomes, at, Command::Stop(Dci(q.dcis[i]))) {
             Sent::Done => {
                 i += 1;
             }
@@ -105,7 +107,8 @@ pub fn publish_endpoint_routes(
     new: Queues,
 ) -> Replaced
     requires { ⌜ (old .count ≤ PLACES) × (new .count ≤ PLACES) ⌝ }
-    ensures { λ r. ⌜ (r ≡ replaced (now (routes .entry)) (slot .0) (queuesIn old) (queuesIn new)) × (now (routes .exit) ≡ withReplaced (now (routes .entry)) (slot .0) (queuesIn old) (queuesIn new)) ⌝ }
+    ensures { λ r. ⌜ (r ≡ replaced (now (routes .entry)) (slot .0) (queuesIn old) (queuesIn new))
+        × (now (routes .exit) ≡ withReplaced (now (routes .entry)) (slot .0) (queuesIn old) (queuesIn new)) ⌝ }
 {
     let old_dcis = old.dcis;
     let old_rings = old.rings;
@@ -144,7 +147,7 @@ pub fn prepare_configure(
     all: Queues,
 )
     requires { ⌜ Spaced spacing (length (now ctx)) ⌝ }
-    requires { ⌜ (q .count ≤ PLACES) × (all .count ≤ PLACES) × (highestDci (dcisIn all) < 255) ⌝ }
+    requires { ⌜ (q .count ≤ PLACES) × (all .count ≤ PLACES) × EndpointDcis (dcisIn all) ⌝ }
     ensures { λ r. ⌜ now (ctx .exit) ≡ written spacing (configureWrites speed interface alternate (now (dropped .entry)) (now (added .entry)) (queuesIn q) (dcisIn all)) (now (ctx .entry)) ⌝ }
 {
     let dcis = q.dcis;

@@ -6,5 +6,5 @@ abbrev pub packed : ℕ → ℕ → ℕ → ℕ → ℕ
 packed bits used width w = w / 2 ^ (bits - used - width) % 2 ^ width
 
 -- What stands below its `used` highest bits.
-abbrev pub below : ℕ → ℕ → ℕ → ℕ
-below bits used w = w % 2 ^ (bits - used)
+abbrev pub restBelow : ℕ → ℕ → ℕ → ℕ
+restBelow bits used w = w % 2 ^ (bits - used)

@@ -10,7 +10,7 @@ use borrow.Author.Tests.{le-leb, lt-leb, eqb-true, eqb-false, not-true}
 use lib.Count.{leadingZeros}
 use lib.Dec.{eqb, leb}
 use Rattle.laws.proofs.Computed.{all, all-below}
-use Rattle.laws.proofs.Tests.{and-left, and-right, not-both}
+use Rattle.laws.proofs.Tests.{and-left, and-right}
 use Rattle.def.specs.Speed.{FULL, HIGH, SUPER-PLUS}
 use Rattle.descriptor.specs.Endpoint.{dciOf, endpointType, halvings, heldExponent, periodicInterval, isochronousInterval, xhciInterval, isPeriodic, periodicBurst, esitPayload}
 use Rattle.descriptor.specs.Word.{ENDPOINT, kind, directionIn, endpointNumber, typeNumber, transferType, endpointDescriptor, endpointOk, wordOk}
@@ -69,47 +69,50 @@ pub dci-small : (address : ℕ) → address < 256 → dciOf address < 32
 unfolding dciOf
 dci-small address h = omega arith
 
--- What a valid list refuses of an endpoint word: number 0, type 0 and IN 15, whose Dci is 31.
+-- What a valid list refuses of an endpoint word: number 0 and type 0.
 pub record EndpointWord (w : ℕ) : Type 0 where
   pub number : 1 ≤ endpointNumber w
   pub type : 1 ≤ typeNumber w
-  pub last : 2 * endpointNumber w + directionIn w ≤ 30
 
 nonzero : (n : ℕ) → not (eqb n 0) ≡ true → 1 ≤ n
 nonzero n h = let e : n ≢ 0 = eqb-false n 0 (not-true (eqb n 0) h) in omega arith
-
-not-last : (i n : ℕ) → i < 2 → n < 16 → not (eqb i 1 && eqb n 15) ≡ true → 2 * n + i ≤ 30
-not-last i n hi hn h = go (decLt (2 * n + i) 31)
-  where
-    go : Dec (2 * n + i < 31) → 2 * n + i ≤ 30
-    go (yes l) = omega arith
-    go (no l) =
-        let i1 : i ≡ 1 = omega arith in
-        let n15 : n ≡ 15 = omega arith in
-        not-both true refl (sym (rw (i1, n15) at h))
 
 pub endpoint-word : (w : ℕ) → kind w ≡ ENDPOINT → wordOk w ≡ true → EndpointWord w
 unfolding wordOk endpointOk
 endpoint-word w k h =
     let number = not (eqb (endpointNumber w) 0) in
     let type = not (eqb (typeNumber w) 0) in
-    let last = not (eqb (directionIn w) 1 && eqb (endpointNumber w) 15) in
-    let ok : (number && (type && last)) ≡ true = and-left (number && (type && last)) _ (rw k at h) in
-    let rest : (type && last) ≡ true = and-right number (type && last) ok in
-    let fit = fields-fit w in
-    record {
-      number = nonzero (endpointNumber w) (and-left number (type && last) ok);
-      type = nonzero (typeNumber w) (and-left type last rest);
-      last = not-last (directionIn w) (endpointNumber w) (fit .direction) (fit .number) (and-right type last rest);
-    }
+    let ok : (number && type) ≡ true = and-left (number && type) _ (rw k at h) in
+    record { number = nonzero (endpointNumber w) (and-left number type ok); type = nonzero (typeNumber w) (and-right number type ok) }
 
--- The Dci of an endpoint word in a valid list is neither control's nor 31.
+-- The Dci of an endpoint word in a valid list is not control's.
 pub dci-range :
     (w : ℕ) →
     kind w ≡ ENDPOINT →
     wordOk w ≡ true →
-    (2 ≤ dciOf ((endpointDescriptor w) .address)) × (dciOf ((endpointDescriptor w) .address) ≤ 30)
-dci-range w k h = let e = endpoint-word w k h in rw (dci-word w) (omega arith, e .last)
+    (2 ≤ dciOf ((endpointDescriptor w) .address)) × (dciOf ((endpointDescriptor w) .address) ≤ 31)
+dci-range w k h =
+    let fit = fields-fit w in
+    rw (dci-word w) (omega (arith, endpoint-word w k h .number), omega (arith, fit .direction, fit .number))
+
+-- Each Dci from 2 to 31 is that of a word which may stand in a valid list, 31 being that of IN 15.
+bulkWord : ℕ → ℕ
+bulkWord d = 2 ^ 31 + d % 2 * 2 ^ 29 + d / 2 * 2 ^ 25 + 2 ^ 24
+
+abbrev bulkOk : ℕ → Bool
+bulkOk d =
+    let w = bulkWord d in
+    eqb (kind w) ENDPOINT && (wordOk w && eqb (dciOf ((endpointDescriptor w) .address)) d)
+
+pub every-dci :
+    (d : ℕ) → 2 ≤ d → d < 32 → (w : ℕ) × (kind w ≡ ENDPOINT) × (wordOk w ≡ true) × (dciOf ((endpointDescriptor w) .address) ≡ d)
+unfolding kind wordOk endpointOk endpointNumber typeNumber directionIn endpointDescriptor dciOf bulkWord
+every-dci d two h =
+    let w = bulkWord d in
+    let back : d - 2 + 2 ≡ d = omega arith in
+    let t = rw back at (all-below (λ k. bulkOk (k + 2)) 30 refl (d - 2) (omega arith)) in
+    let rest = and-right (eqb (kind w) ENDPOINT) _ t in
+    (w, eqb-true _ _ (and-left _ _ t), and-left (wordOk w) _ rest, eqb-true _ _ (and-right (wordOk w) _ rest))
 
 typed : (t : ℕ) → 1 ≤ t → t < 4 → transferType t ≡ Control → _≡_ {A = ℕ} 0 1
 unfolding transferType

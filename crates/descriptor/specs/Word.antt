@@ -4,7 +4,7 @@
 use Prim.Native.Nat.{ℕ, _+_, _*_}
 use mathlib.Core.Bool.{Bool, false, not, cond, _&&_}
 use lib.Dec.{eqb}
-use Rattle.def.specs.Packed.{packed, below}
+use Rattle.def.specs.Packed.{packed, restBelow}
 use Rattle.descriptor.specs.declared.EndpointDescriptor.{EndpointDescriptor}
 use Rattle.descriptor.specs.declared.TransferType.{TransferType}
 use Rattle.descriptor.specs.declared.TransferType.the-variants.{Control, Isochronous, Bulk, Interrupt}
@@ -54,15 +54,13 @@ endpointDescriptor w =
       interval = packed 32 22 8 w;
     }
 
--- Number 0, type 0 and IN 15 are refused.
+-- Number 0 and type 0 are refused.
 unfoldable pub endpointOk : ℕ → Bool
-endpointOk w =
-    not (eqb (endpointNumber w) 0)
-    && (not (eqb (typeNumber w) 0) && not (eqb (directionIn w) 1 && eqb (endpointNumber w) 15))
+endpointOk w = not (eqb (endpointNumber w) 0) && not (eqb (typeNumber w) 0)
 
 -- A word that may stand in a valid list: no kind 3, no unused bit set.
 unfoldable pub wordOk : ℕ → Bool
 wordOk w =
-    cond (eqb (kind w) CONFIGURATION) (eqb (below 32 10 w) 0)
-    (cond (eqb (kind w) ALTERNATE) (eqb (below 32 18 w) 0)
-    (cond (eqb (kind w) ENDPOINT) (endpointOk w && eqb (below 32 30 w) 0) false))
+    cond (eqb (kind w) CONFIGURATION) (eqb (restBelow 32 10 w) 0)
+    (cond (eqb (kind w) ALTERNATE) (eqb (restBelow 32 18 w) 0)
+    (cond (eqb (kind w) ENDPOINT) (endpointOk w && eqb (restBelow 32 30 w) 0) false))

@@ -47,8 +47,6 @@ pub const PACKETS_LSB: u32 = 0x400;
 
 pub const INTERVAL_LSB: u32 = 0x4;
 
-const IN_15: u32 = 31;
-
 pub fn word_kind(w: u32) -> u8
     ensures { λ r. ⌜ r ≡ kind w ⌝ }
 {
@@ -112,10 +110,6 @@ pub fn word_ok(w: u32) -> bool
         return false;
     }
     if w / TYPE_LSB % 4 == 0 {
-        return false;
-    }
-    // the bit of IN stands before the number
-    if w / NUMBER_LSB % 32 == IN_15 {
         return false;
     }
     w % INTERVAL_LSB == 0

@@ -11,7 +11,8 @@ use lib.ListN.{length, getD, drop, length-drop}
 use lib.Seq.{getD-drop}
 use Rattle.laws.proofs.Tests.{and-left, and-right, not-both}
 use Rattle.laws.proofs.Cases.{Decided, decided, false-if, or-left, or-right, or-cases}
-use Rattle.laws.proofs.Distinct.{elem, distinct, elem-none, elem-here, elem-there, elem-cases, distinct-cons, distinct-fits}
+use Rattle.laws.specs.Distinct.{elem, distinct}
+use Rattle.laws.proofs.Distinct.{elem-none, elem-here, elem-there, elem-cases, distinct-cons, distinct-fits}
 use Rattle.descriptor.specs.Word.{kind, interfaceNumber, wordOk, ALTERNATE, ENDPOINT}
 use Rattle.descriptor_list.specs.declared.Found.{Found}
 use Rattle.descriptor_list.specs.declared.Found.the-variants.{Endpoints, NotFound}

@@ -3,7 +3,7 @@ use Prim.Native.Nat.{ℕ}
 use mathlib.Core.Path.{_≡_, refl}
 use mathlib.Core.Bool.{Bool, true, false}
 use mathlib.Core.List.{List, [], _∷_, _++_}
-use Rattle.laws.proofs.Distinct.{elem}
+use Rattle.laws.specs.Distinct.{elem}
 use Rattle.descriptor.specs.Word.{kind, configurationValue, interfaceNumber, alternateSetting, directionIn, endpointNumber, typeNumber, transferType, endpointDescriptor, endpointOk, wordOk}
 use Rattle.descriptor_list.specs.Lookup.{endpointRun, ofInterface}
 use Rattle.descriptor_list.specs.Valid.{beginsWithConfiguration, wordsOk, runFits, runsFit, configurations, hasInterface, lastAlternate, interfaces, validList}

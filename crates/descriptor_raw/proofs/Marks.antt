@@ -10,7 +10,7 @@ use lib.Dec.{eqb}
 use lib.ListN.{length, getD, set, replicate}
 use lib.Seq.{getD-set-same, getD-set-other}
 use Rattle.laws.proofs.Cases.{Decided, decided}
-use Rattle.laws.proofs.Distinct.{elem}
+use Rattle.laws.specs.Distinct.{elem}
 use Rattle.descriptor_raw.specs.Claims.{distinctCount}
 
 -- How many distinct numbers of a list have no mark.

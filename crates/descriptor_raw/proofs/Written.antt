@@ -9,6 +9,7 @@ use borrow.Author.Tests.{eqb-true, eqb-false, eq-eqb, ne-eqb}
 use lib.Dec.{eqb}
 use lib.ListN.{length, take, length-append}
 use lib.Seq.{take-at}
+use Rattle.laws.specs.Bounds.{Below}
 use Rattle.laws.proofs.Tests.{and-left, and-right}
 use Rattle.laws.proofs.Cases.{Decided, decided}
 use Rattle.descriptor.specs.Word.{CONFIGURATION, ALTERNATE, ENDPOINT, kind, configurationValue, interfaceNumber, alternateSetting, typeNumber, endpointDescriptor, wordOk}
@@ -18,7 +19,6 @@ use Rattle.descriptor_raw.specs.Descriptor.{CONFIGURATION-TYPE, LENGTH, 
 use Rattle.descriptor_raw.specs.Claims.{bytesAfter, interfacesAfter, endpointsAfter}
 use Rattle.descriptor_raw.specs.Read.{cut, descriptors, whole, borneOut, allWhole, allBorneOut, wellFormed, wordsOf, allWords, readWords}
 use Rattle.descriptor_raw.specs.Write.{configurationDescriptor, interfaceDescriptor, endpointBytes, wordPackets, descriptorOf, allDescriptors, joined, writtenBytes, packetsGiven}
-use Rattle.descriptor_raw.specs.Promises.{Below}
 use Rattle.descriptor_raw.proofs.Valid.{endpoint-kind, packets-first, packets-rest}
 use Rattle.descriptor_raw.proofs.Made.{made-configuration, made-interface, made-endpoint, made-length}
 use Rattle.descriptor_raw.proofs.Back.{packet-back, configuration-back, alternate-back, endpoint-back}

@@ -10,6 +10,7 @@ use borrow.Author.Tests.{eqb-false, ne-eqb, not-true}
 use lib.Dec.{eqb}
 use lib.ListN.{length, take, length-take, List·getD-eq-default}
 use lib.Seq.{getD-take}
+use Rattle.laws.specs.Bounds.{Below}
 use Rattle.laws.proofs.Tests.{and-left, and-right}
 use Rattle.laws.proofs.Cases.{Decided, decided}
 use Rattle.descriptor.specs.Word.{ENDPOINT, kind, endpointDescriptor}
@@ -17,7 +18,6 @@ use Rattle.descriptor_raw.specs.Descriptor.{CONFIGURATION-VALUE, INTERFA
 use Rattle.descriptor_raw.specs.Words.{configurationWord, alternateWord, endpointWord}
 use Rattle.descriptor_raw.specs.Read.{cut, borneOut, allBorneOut, wordsOf, allWords}
 use Rattle.descriptor_raw.specs.Write.{packetsGiven}
-use Rattle.descriptor_raw.specs.Promises.{Below}
 
 pub record Fine (l : List ℕ) : Type 0 where
   pub small : Below (2 ^ 32) l

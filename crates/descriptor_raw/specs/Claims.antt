@@ -4,7 +4,7 @@ use Prim.Native.Nat.{ℕ, suc, _+_}
 use mathlib.Core.Bool.{Bool, cond, _||_}
 use mathlib.Core.List.{List, [], _∷_}
 use lib.ListN.{length}
-use Rattle.laws.proofs.Distinct.{elem}
+use Rattle.laws.specs.Distinct.{elem}
 use Rattle.descriptor_raw.specs.Descriptor.{INTERFACE-NUMBER, byteAt, isConfiguration, isInterface, isEndpoint}
 
 -- The descriptors before the first that passes a test.

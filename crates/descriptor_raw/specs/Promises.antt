@@ -5,16 +5,13 @@ use mathlib.Core.Bool.{true, false}
 use mathlib.Core.List.{List, []}
 use lib.ListN.{length, getD}
 use lib.Seq.{sets}
+use Rattle.laws.specs.Bounds.{Below}
 use Rattle.descriptor_list.specs.Valid.{validList}
 use Rattle.descriptor_raw.specs.declared.RawAnswer.the-variants.{Accepted}
 use Rattle.descriptor_raw.specs.Answer.{Left, countOf, accepts}
 use Rattle.descriptor_raw.specs.Descriptor.{isConfiguration, isInterface, isEndpoint}
 use Rattle.descriptor_raw.specs.Read.{descriptors, wellFormed, readWords, readDescriptors}
 use Rattle.descriptor_raw.specs.Write.{packetsGiven, writtenBytes, writeDescriptors}
-
--- The numbers of a list are below a bound: bytes are below 2 ^ 8, words below 2 ^ 32.
-abbrev pub Below : ℕ → List ℕ → Type 0
-Below bound l = (k : ℕ) → k < length l → getD l k 0 < bound
 
 -- The writer accepts a list and writes 2,304 bytes at most, and the reader of these gives the list back.
 pub record ComesBack (list lent words : List ℕ) : Type 0 where

@@ -12,8 +12,8 @@ use Rattle.descriptor_raw.specs.Descriptor.{CONFIGURATION-TYPE, INTERFAC
 use Rattle.descriptor_raw.specs.Claims.{bytesAfter, interfacesAfter, endpointsAfter}
 
 -- A descriptor of a type, with every other byte 0.
-abbrev pub blank : ℕ → List ℕ
-blank type = set (set (replicate (sizeOf type) 0) LENGTH (sizeOf type)) TYPE type
+abbrev pub blankDescriptor : ℕ → List ℕ
+blankDescriptor type = set (set (replicate (sizeOf type) 0) LENGTH (sizeOf type)) TYPE type
 
 abbrev pub withByte : ℕ → ℕ → List ℕ → List ℕ
 withByte place value d = set d place value
@@ -30,18 +30,18 @@ configurationDescriptor total interfaces value =
     withByte CONFIGURATION-ATTRIBUTES RESERVED-ONE
     (withByte CONFIGURATION-VALUE value
     (withByte NUM-INTERFACES interfaces
-    (withTwoBytes TOTAL-LENGTH total (blank CONFIGURATION-TYPE))))
+    (withTwoBytes TOTAL-LENGTH total (blankDescriptor CONFIGURATION-TYPE))))
 
 unfoldable pub interfaceDescriptor : ℕ → ℕ → ℕ → List ℕ
 interfaceDescriptor interface alternate endpoints =
     withByte NUM-ENDPOINTS endpoints
-    (withByte ALTERNATE-SETTING alternate (withByte INTERFACE-NUMBER interface (blank INTERFACE-TYPE)))
+    (withByte ALTERNATE-SETTING alternate (withByte INTERFACE-NUMBER interface (blankDescriptor INTERFACE-TYPE)))
 
 unfoldable pub endpointBytes : ℕ → ℕ → ℕ → ℕ → List ℕ
 endpointBytes address type packet interval =
     withByte INTERVAL interval
     (withTwoBytes MAX-PACKET-SIZE packet
-    (withByte ENDPOINT-ATTRIBUTES type (withByte ENDPOINT-ADDRESS address (blank ENDPOINT-TYPE))))
+    (withByte ENDPOINT-ATTRIBUTES type (withByte ENDPOINT-ADDRESS address (blankDescriptor ENDPOINT-TYPE))))
 
 -- The packet size field of a word.
 unfoldable pub wordPackets : ℕ → ℕ

@@ -19,6 +19,7 @@ use Rattle.record_endpoint.specs.declared.endpoint_map.Owner.the-variants.{Inte
 use Rattle.record_endpoint.specs.EndpointMap.{ownedRings, queuesOf, queueDcis}
 use Rattle.record_settings.specs.Held.{isHeld, alternateOf, settingWords, heldWords}
 use Rattle.record_checks.specs.Think.{thinkValue}
+use Rattle.course_steps.proofs.Laws.{queue-dcis}
 use Rattle.course_release.specs.Release.{releaseContext}
 use Rattle.course_release.proofs.Contexts.{release-configure-reads}
 use Rattle.course_claim.specs.Claim.{claimContext, undoContext}
@@ -32,7 +33,7 @@ use Rattle.device.specs.Claim.{pendingOf, claimIn}
 use Rattle.device.specs.Release.{releaseIn}
 use Rattle.device.specs.SetConfiguration.{settingsIn}
 use Rattle.device.proofs.Facts.{SoundFacts}
-use Rattle.device.proofs.Fit.{placed-none, placed-setting, placed-if, placed-held, placed-endpoints, entries-fit, alternate-byte, pending-below, owned-below, queuesOf-below, offered-reads}
+use Rattle.device.proofs.Fit.{placed-setting, placed-if, placed-held, placed-endpoints, alternate-byte, pending-below, owned-below, queuesOf-below, offered-reads}
 
 -- A sound record, and a context of its spacing.
 module _ (d : Device) (f : SoundFacts d) (ctx : List ℕ) (sp : Spaced (d .spacing) (length ctx)) where
@@ -61,8 +62,7 @@ module _ (d : Device) (f : SoundFacts d) (ctx : List ℕ) (sp : Spaced (d .spaci
           newWords = placed-endpoints new p;
           old = λ x. owned-below (2 ^ 64) x (Interface i) (endpointMapIn d) (lit< tt) own;
           pending = λ x. pending-below (2 ^ 64) x new rings (lit< tt) offered;
-          oldEntries = entries-fit (listOf d) (heldOf d) (endpointMapIn d) (f .list) (f .endpoints) old q;
-          newEntries = entries-fit (listOf d) (heldOf d) (endpointMapIn d) (f .list) (f .endpoints) new p;
+          dcis = queue-dcis ((endpointMapIn d) .rings);
         }
 
     -- Its Configure: each new word with the ring offered for it.
@@ -89,7 +89,7 @@ module _ (d : Device) (f : SoundFacts d) (ctx : List ℕ) (sp : Spaced (d .spaci
       let a = alternateOf i (heldOf d) in
       release-configure-reads (releaseIn d i) ctx sp byte (alternate-byte (listOf d) (heldOf d) (f .settings) i)
       (placed-endpoints (settingWords (listOf d) i a) (placed-setting (listOf d) (f .list) i a))
-      (entries-fit (listOf d) (heldOf d) (endpointMapIn d) (f .list) (f .endpoints) [] placed-none)
+      (queue-dcis ((endpointMapIn d) .rings))
 
   -- A set configuration: its Configure, the one that undoes it, and the last Evaluate.
   module _ (value : ℕ) where
@@ -100,7 +100,7 @@ module _ (d : Device) (f : SoundFacts d) (ctx : List ℕ) (sp : Spaced (d .spaci
     unfolding settingsIn
     drop-reads =
         set-configure-reads (settingsIn d value) ctx sp (placed-endpoints held (placed-held (listOf d) (f .list) (heldOf d)))
-        (entries-fit (listOf d) (heldOf d) (endpointMapIn d) (f .list) (f .endpoints) [] placed-none)
+        (queue-dcis ((endpointMapIn d) .rings))
 
     pub restore-reads : ((k : ℕ) → getD ((endpointMapIn d) .rings) k 0 < 2 ^ 64) →
         ConfigureReads (d .spacing) (d .«port_speed») 0 0 [] held (queuesOf ((endpointMapIn d) .rings)) dcis ctx (restoreContext (settingsIn d value) ctx)
@@ -109,7 +109,7 @@ module _ (d : Device) (f : SoundFacts d) (ctx : List ℕ) (sp : Spaced (d .spaci
         let p = placed-held (listOf d) (f .list) (heldOf d) in
         set-restore-reads (settingsIn d value) ctx sp (placed-endpoints held p)
         (λ x. queuesOf-below (2 ^ 64) x ((endpointMapIn d) .rings) (lit< tt) own)
-        (entries-fit (listOf d) (heldOf d) (endpointMapIn d) (f .list) (f .endpoints) held p)
+        (queue-dcis ((endpointMapIn d) .rings))
 
     pub value-reads : value < 2 ^ 8 → ConfigurationReads (d .spacing) value ctx (valueContext (settingsIn d value) ctx)
     unfolding settingsIn

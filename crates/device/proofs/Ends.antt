@@ -21,7 +21,7 @@ abbrev pub handed : CourseEnd → Device → Called
 handed e d = record { device = marked (e .answer) d; answer = e .answer; count = e .count }
 
 -- rings put in quarantine before the endpoints are written
-quarantine-first : (b : Bool) (l : EndpointMap) (rings : List ℕ) (d : Device) →
+pub quarantine-first : (b : Bool) (l : EndpointMap) (rings : List ℕ) (d : Device) →
     withEndpoints l (cond b (withQuarantined rings d) d) ≡ cond b (withQuarantined rings (withEndpoints l d)) (withEndpoints l d)
 unfolding withEndpoints withQuarantined quarantinedOf
 quarantine-first true l rings d = refl

@@ -1,4 +1,4 @@
--- What a sound record gives to the promises on contexts: Dcis from 2 to 30, entries that fit their field, alternates that are bytes.
+-- What a sound record gives to the promises on contexts: words of endpoints, alternates that are bytes, rings that fit.
 use Prim.Native.Nat.{ℕ, zero, suc, _+_, _^_, _<_, _≤_}
 use mathlib.Core.Path.{_≡_, refl, sym, _∙_}
 use mathlib.Core.Bool.{Bool, true, false, cond}
@@ -7,53 +7,46 @@ use mathlib.Core.Logic.{_⊎_, inl, inr, ⊎-elim}
 use native.Mathlib.Nat.{mod-lt}
 use native.Mathlib.Decide.{decLt}
 use native.Mathlib.Omega.{arith}
-use borrow.Author.Tests.{eqb-true, eqb-false, eq-eqb, ne-eqb}
+use borrow.Author.Tests.{eqb-true}
 use lib.Dec.{eqb}
 use lib.ListN.{length, getD, drop, List·getD-eq-default}
 use Rattle.laws.proofs.Tests.{and-right, not-both}
 use Rattle.laws.proofs.Cases.{Decided, decided, or-cases}
-use Rattle.descriptor.specs.Word.{endpointDescriptor, alternateSetting}
-use Rattle.descriptor.specs.Endpoint.{dciOf}
+use Rattle.descriptor.specs.Word.{alternateSetting}
 use Rattle.descriptor.proofs.Laws.{endpoint-word, dci-word}
 use Rattle.descriptor_list.specs.Lookup.{findEndpoints, isAlternate, ofInterface}
 use Rattle.descriptor_list.specs.Valid.{validList}
 use Rattle.descriptor_list.proofs.Laws.{found-alternate}
 use Rattle.transfer.specs.Routes.{Queue, queues, ringFor}
-use Rattle.context_block.specs.Blocks.{wordDci}
-use Rattle.context_block.specs.Promises.{someDci}
-use Rattle.context.specs.Steps.{addWrites, addAll, highestDci, wordDcis, contextEntries}
+use Rattle.context_block.specs.Blocks.{wordDci, someDci}
+use Rattle.context.specs.Steps.{addWrites, addAll, wordDcis}
 use Rattle.context.specs.Promises.{Endpoints, ConfigureReads}
+use Rattle.context.proofs.Control.{word-dci-small}
 use Rattle.record_endpoint.specs.declared.endpoint_map.EndpointMap.{EndpointMap}
 use Rattle.record_endpoint.specs.declared.endpoint_map.Owner.{Owner}
-use Rattle.record_endpoint.specs.declared.endpoint_map.Owner.the-variants.{Interface}
-use Rattle.record_endpoint.specs.Order.{dciAt, placeOf}
-use Rattle.record_endpoint.specs.EndpointMap.{gathered, isOwned, owns, ownedRings, queuesOf, queueDcis, pendingRings}
-use Rattle.record_endpoint.proofs.Laws.{place-dci, queues-ring, owned-at, owned-length, pending-length}
+use Rattle.record_endpoint.specs.Order.{dciAt}
+use Rattle.record_endpoint.specs.EndpointMap.{gathered, isOwned, ownedRings, queuesOf, pendingRings}
+use Rattle.record_endpoint.proofs.Laws.{queues-ring, owned-at, owned-length, pending-length}
 use Rattle.record_settings.specs.Held.{Held, isHeld, alternateOf, settingWords, heldWords, settingsSound}
-use Rattle.record_settings.specs.Match.{endpointsMatch}
-use Rattle.record_settings.proofs.Laws.{setting-word, setting-place, place-word, match-facts, held-found, sound-found, found-at, alternate-none}
+use Rattle.record_settings.proofs.Laws.{setting-word, held-found, sound-found, found-at, alternate-none}
 use Rattle.theorem_routing.proofs.Laws.{EndpointWords, each-dci, words-ring}
 
--- Words of endpoints that have a block of their own, below the last one.
+-- Words of endpoints.
 unfoldable pub Placed : List ℕ → Type 0
 Placed [] = Unit {0}
-Placed (w ∷ ws) = (2 ≤ wordDci w) × (wordDci w ≤ 30) × Placed ws
+Placed (w ∷ ws) = (2 ≤ wordDci w) × Placed ws
 
 placed-of : (ws : List ℕ) → EndpointWords ws → Placed ws
 unfolding Placed wordDci
 placed-of [] h = tt
 placed-of (w ∷ ws) h =
     let t = h 0 (omega arith) in
-    let e = endpoint-word w (t .0) (t .1) in (
-      omega (arith, dci-word w, e .number),
-      omega (arith, dci-word w, e .last),
-      placed-of ws (λ k l. h (suc k) (omega arith)),
-    )
+    (omega (arith, dci-word w, endpoint-word w (t .0) (t .1) .number), placed-of ws (λ k l. h (suc k) (omega arith)))
 
 placed-append : (x y : List ℕ) → Placed x → Placed y → Placed (x ++ y)
 unfolding Placed
 placed-append [] y p q = q
-placed-append (w ∷ ws) y p q = (p .0, p .1, placed-append ws y (p .2) q)
+placed-append (w ∷ ws) y p q = (p .0, placed-append ws y (p .1) q)
 
 module _ (list : List ℕ) (v : validList list ≡ true) where
   -- those of a setting
@@ -78,53 +71,8 @@ pub placed-endpoints : (ws : List ℕ) → Placed ws → Endpoints ws
 unfolding Placed someDci
 placed-endpoints [] p d e = not-both false e refl
 placed-endpoints (w ∷ ws) p d e =
-    ⊎-elim (λ s. rw (← eqb-true (wordDci w) d s) (p .0)) (λ s. placed-endpoints ws (p .2) d s)
+    ⊎-elim (λ s. rw (← eqb-true (wordDci w) d s) (p .0)) (λ s. placed-endpoints ws (p .1) d s)
     (or-cases (eqb (wordDci w) d) (someDci d ws) e)
-
-placed-highest : (ws : List ℕ) → Placed ws → highestDci (wordDcis ws) ≤ 30
-unfolding Placed wordDcis highestDci
-placed-highest [] p = omega arith
-placed-highest (w ∷ ws) p = omega (arith, p .1, placed-highest ws (p .2))
-
--- Of rings by place none of which is at the last place the Dcis are below 31.
-low-gathered :
-    (rings : List ℕ) → ((p : ℕ) → p < 30 → (getD rings p 0 ≡ 0 → ⊥) → dciAt p ≤ 30) → (k a : ℕ) → a + k ≤ 30 →
-    highestDci (queueDcis (gathered (λ p. record { dci = dciAt p; ring = getD rings p 0 }) rings k a)) ≤ 30
-unfolding gathered queueDcis highestDci
-low-gathered rings h zero a l = omega arith
-low-gathered rings h (suc k) a l = go (decided (eqb (getD rings a 0) 0)) (low-gathered rings h k (a + 1) (omega arith))
-  where
-    at : ℕ → Queue
-    at p = record { dci = dciAt p; ring = getD rings p 0 }
-
-    go : Decided (eqb (getD rings a 0) 0) → highestDci (queueDcis (gathered at rings k (a + 1))) ≤ 30 →
-        highestDci (queueDcis (cond (eqb (getD rings a 0) 0) (gathered at rings k (a + 1)) (at a ∷ gathered at rings k (a + 1)))) ≤ 30
-    go (inl e) r = rw e r
-    go (inr e) r = rw e (omega (arith, h a (omega arith) (eqb-false (getD rings a 0) 0 e), r))
-
-module _ (list : List ℕ) (hs : List Held) (c : EndpointMap) (v : validList list ≡ true) (m : endpointsMatch list hs c ≡ true) where
-  owned-here : (p : ℕ) → (getD (c .rings) p 0 ≡ 0 → ⊥) → isOwned (Interface (getD (c .owners) p 0)) c p ≡ true
-  unfolding isOwned owns
-  owned-here p z = rw (ne-eqb (getD (c .rings) p 0) 0 z, eq-eqb (getD (c .owners) p 0) (getD (c .owners) p 0) refl)
-
-  -- every endpoint of a sound record is of a word of its list
-  low-dci : (p : ℕ) → p < 30 → (getD (c .rings) p 0 ≡ 0 → ⊥) → dciAt p ≤ 30
-  low-dci p h z =
-      let f = match-facts list hs c m in
-      let i = getD (c .owners) p 0 in
-      let ws = settingWords list i (alternateOf i hs) in
-      let t = place-word p ws (sym (f .owned i p (f .held p h z) h) ∙ owned-here p z) in
-      let w = getD ws (t .0) 0 in
-      let s = setting-word list v i (alternateOf i hs) (t .0) (t .1) in
-      let d : dciAt (placeOf ((endpointDescriptor w) .address)) ≡ dciOf ((endpointDescriptor w) .address) =
-      place-dci ((endpointDescriptor w) .address) (setting-place list v i (alternateOf i hs) (t .0) (t .1)) in
-      let e : dciAt p ≡ dciOf ((endpointDescriptor w) .address) = rw (t .2) at d in
-      omega (arith, e, dci-word w, endpoint-word w (s .0) (s .1) .last)
-
-  -- so the entries fit their five bits
-  pub entries-fit : (ws : List ℕ) → Placed ws → contextEntries (queueDcis (queuesOf (c .rings))) ws < 2 ^ 5
-  unfolding contextEntries queuesOf
-  entries-fit ws p = omega (arith, placed-highest ws p, low-gathered (c .rings) low-dci 30 0 (omega arith))
 
 -- The alternate that an interface holds is a byte.
 alternate-below : (w : ℕ) → alternateSetting w < 2 ^ 8
@@ -198,17 +146,17 @@ add-same : (speed : ℕ) (qs rs : List Queue) (ws : List ℕ) → Placed ws →
     ((d : ℕ) → 2 ≤ d → d < 32 → ringFor d qs 0 ≡ ringFor d rs 0) → addAll speed qs ws ≡ addAll speed rs ws
 unfolding Placed addAll addWrites
 add-same speed qs rs [] p h = refl
-add-same speed qs rs (w ∷ ws) p h = rw (h (wordDci w) (p .0) (omega (arith, p .1)), add-same speed qs rs ws (p .2) h)
+add-same speed qs rs (w ∷ ws) p h = rw (h (wordDci w) (p .0) (word-dci-small w), add-same speed qs rs ws (p .1) h)
 
 placed-front : (xs ys : List ℕ) → Placed (xs ++ ys) → Placed xs
 unfolding Placed
 placed-front [] ys p = tt
-placed-front (x ∷ xs) ys p = (p .0, p .1, placed-front xs ys (p .2))
+placed-front (x ∷ xs) ys p = (p .0, placed-front xs ys (p .1))
 
-placed-at : (xs ys : List ℕ) (w : ℕ) → Placed (xs ++ (w ∷ ys)) → (2 ≤ wordDci w) × (wordDci w < 32)
+placed-at : (xs ys : List ℕ) (w : ℕ) → Placed (xs ++ (w ∷ ys)) → 2 ≤ wordDci w
 unfolding Placed
-placed-at [] ys w p = (p .0, omega (arith, p .1))
-placed-at (x ∷ xs) ys w p = placed-at xs ys w (p .2)
+placed-at [] ys w p = p .0
+placed-at (x ∷ xs) ys w p = placed-at xs ys w (p .1)
 
 pub offered-reads : (s speed i a : ℕ) (dropped added rings dcis was ctx : List ℕ) → Placed added →
     ConfigureReads s speed i a dropped added (queuesOf (pendingRings added rings)) dcis was ctx →
@@ -217,6 +165,7 @@ offered-reads s speed i a dropped added rings dcis was ctx p r =
     record {
       control = r .control;
       slot = r .slot;
+      entries = r .entries;
       endpoint = λ xs ys w e n m. rw (← ring xs ys w e) (r .endpoint xs ys w e n m);
       last = λ xs ys w e m.
           rw (← add-same speed _ _ xs (placed-front xs (w ∷ ys) (rw e at p)) (ring-same added rings), ← ring xs ys w e) (r .last xs ys w e m);
@@ -226,7 +175,7 @@ offered-reads s speed i a dropped added rings dcis was ctx p r =
   where
     ring : (xs ys : List ℕ) (w : ℕ) → added ≡ xs ++ (w ∷ ys) →
         ringFor (wordDci w) (queuesOf (pendingRings added rings)) 0 ≡ ringFor (wordDci w) (queues (wordDcis added) rings) 0
-    ring xs ys w e = let t = placed-at xs ys w (rw e at p) in ring-same added rings (wordDci w) (t .0) (t .1)
+    ring xs ys w e = ring-same added rings (wordDci w) (placed-at xs ys w (rw e at p)) (word-dci-small w)
 
 -- Those of an owner among a record's.
 pub owned-below : (b d : ℕ) (who : Owner) (c : EndpointMap) → 0 < b → ((k : ℕ) → getD (c .rings) k 0 < b) →
@@ -242,11 +191,6 @@ owned-below b d who c l h = queuesOf-below b d (ownedRings who c) l (λ k. go k 
     go k (no m) =
         let past : length (ownedRings who c) ≤ k = omega (arith, owned-length who c) in
         rw (List·getD-eq-default (ownedRings who c) 0 past) l
-
--- No words.
-pub placed-none : Placed []
-unfolding Placed
-placed-none = tt
 
 -- Those offered for words, by place.
 pub pending-below : (b d : ℕ) (ws rings : List ℕ) → 0 < b → ((k : ℕ) → getD rings k 0 < b) → ringFor d (queuesOf (pendingRings ws rings)) 0 < b

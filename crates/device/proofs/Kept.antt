@@ -1,12 +1,17 @@
 -- What claim, release, set configuration and hub update make of a record.
-use Prim.Native.Nat.{ℕ, _<_}
-use mathlib.Core.Path.{_≡_, refl, ap, _∙_}
+use Prim.Native.Nat.{ℕ, _≤_, _<_}
+use mathlib.Core.Path.{_≡_, refl, sym, ap, _∙_}
 use mathlib.Core.Logic.{_⊎_, inl, inr, ⊎-elim}
 use mathlib.Core.Bool.{Bool, true, false, cond}
-use mathlib.Core.List.{List, [], _++_}
+use mathlib.Core.List.{List, []}
 use native.Mathlib.Omega.{arith}
-use lib.ListN.{length, getD, replicate, getD-replicate}
-use Rattle.laws.proofs.Cases.{decided}
+use borrow.Author.Tests.{leb-true}
+use lib.Dec.{leb}
+use lib.ListN.{length, getD, take, replicate, getD-replicate}
+use Rattle.laws.specs.Distinct.{elem}
+use Rattle.laws.proofs.Cases.{decided, false-if}
+use Rattle.laws.proofs.Tests.{not-both}
+use Rattle.laws.proofs.Distinct.{elem-place}
 use Rattle.answer.specs.declared.Answer.{Answer}
 use Rattle.answer.specs.declared.Answer.the-variants as answer
 use Rattle.answer.specs.declared.Check.{Check}
@@ -14,11 +19,14 @@ use Rattle.answer.specs.declared.Check.the-variants.{Pass}
 use Rattle.answer.specs.Answer.{number, isAccepted, isBroken, isLost}
 use Rattle.command.specs.Course.{Played}
 use Rattle.descriptor_list.specs.Lookup.{findEndpoints}
-use Rattle.record_ring.specs.Rings.{offerOk}
-use Rattle.record_ring.proofs.Laws.{ring-at, ring-nonzero, Offered, offered}
+use Rattle.record_ring.specs.Rings.{ringsOk, disjoint, entered}
+use Rattle.record_ring.specs.Store.{givenOk, lowest, freeRings}
+use Rattle.record_ring.proofs.Promises.{drawn-promise, drawn-given}
+use Rattle.record_ring.proofs.Laws.{ring-at, ring-nonzero, disjoint-elem, disjoint-from, Offered, offered}
 use Rattle.record_endpoint.specs.declared.endpoint_map.EndpointMap.{EndpointMap}
 use Rattle.record_endpoint.specs.declared.endpoint_map.Owner.{Owner}
 use Rattle.record_endpoint.specs.declared.endpoint_map.Owner.the-variants.{Any, Interface}
+use Rattle.record_endpoint.specs.Endpoint.{ringsOf}
 use Rattle.record_endpoint.specs.EndpointMap.{noEndpoints, queuesOf, queueRings, pendingRings, claimedEndpoints, withActive}
 use Rattle.record_endpoint.proofs.Laws.{active-rings, active-owners}
 use Rattle.record_endpoint.proofs.Clean.{clean-none, clean-claimed}
@@ -26,50 +34,89 @@ use Rattle.record_settings.specs.Held.{Held, withSetting, withoutSetting, setti
 use Rattle.record_settings.specs.Match.{addressesFree}
 use Rattle.record_settings.proofs.Laws.{sound-with, sound-without, sound-none, pending-place, match-claimed, match-released, match-none}
 use Rattle.course_steps.specs.End.{End}
-use Rattle.record_checks.proofs.Laws.{apart-none, apart-offered, offered-live, apart-claimed, apart-released}
+use Rattle.record_checks.proofs.Together.{rings-ok-elem}
+use Rattle.record_checks.proofs.Laws.{ring-live, apart-none, apart-offered, apart-claimed, apart-released}
 use Rattle.device.specs.declared.record.Device.{Device}
-use Rattle.device.specs.Device.{listOf, endpointMapIn, heldOf, quarantinedOf, withEndpoints, withHeld, withConfiguration, unusable}
-use Rattle.device.specs.Sound.{sound}
+use Rattle.device.specs.Device.{listOf, endpointMapIn, heldOf, quarantinedOf, givenOf, freeOf, withEndpoints, withHeld, withConfiguration, unusable}
+use Rattle.device.specs.Sound.{liveRings, sound}
 use Rattle.device.specs.Left.{refused, marked, ended}
 use Rattle.device.specs.Check.{recordCheck, hubCheck}
 use Rattle.device.specs.Calls.{onCheck, hubLeft, hubUpdate}
-use Rattle.device.specs.Claim.{claimCheck, pendingOf, quarantines, claimRecord, claim}
+use Rattle.device.specs.Claim.{claimCheck, drawn, pendingOf, quarantines, claimRecord, claim}
 use Rattle.device.specs.Release.{releaseCheck, releaseRecord, release}
 use Rattle.device.specs.SetConfiguration.{bare, setRecord, setConfiguration}
-use Rattle.device.proofs.Facts.{SoundFacts, none-quarantined}
+use Rattle.device.proofs.Facts.{SoundFacts, sound-facts}
 use Rattle.device.proofs.Laws.{passed, pass-if}
 use Rattle.device.proofs.Marks.{on-pass}
 use Rattle.device.proofs.Updates.{with-quarantined-quarantined}
-use Rattle.device.proofs.Made.{Made, sound-clean, sound-apart, marked-made, held-made, configured-made, active-made, quarantined-made}
+use Rattle.device.proofs.Made.{Made, sound-clean, sound-apart, marked-made, held-made, configured-made, pending-entered, active-made, quarantined-made}
 
 -- What a passed check of a claim says.
-pub record ClaimPassed (d : Device) (i a : ℕ) (rings : List ℕ) : Type 0 where
+pub record ClaimPassed (d : Device) (i a : ℕ) : Type 0 where
   pub found : isFound (findEndpoints (listOf d) i a) ≡ true
   pub free : addressesFree (settingWords (listOf d) i a) i (endpointMapIn d) ≡ true
-  pub offer : Offered (length (settingWords (listOf d) i a)) rings ((endpointMapIn d) .rings) (d .control) (quarantinedOf d)
+  pub enough : length (settingWords (listOf d) i a) ≤ length (freeOf d)
+  pub offer : Offered (length (settingWords (listOf d) i a)) (drawn d i a) ((endpointMapIn d) .rings) (d .control) (quarantinedOf d)
+  pub from-given : (x : ℕ) → elem x (drawn d i a) ≡ true → elem x (givenOf d) ≡ true
 
-pub claim-passed : (d : Device) (i a : ℕ) (rings : List ℕ) → claimCheck d i a rings Pass ≡ Pass → ClaimPassed d i a rings
-unfolding claimCheck
-claim-passed d i a rings e =
+-- Rings that are not the arrays' stand at no place.
+place-disjoint :
+    (d : Device) → sound d ≡ true → (rings : List ℕ) → ringsOk rings ≡ true → disjoint rings (ringsOf (take (d .«ep_count») (d .eps))) ≡ true →
+    disjoint rings ((endpointMapIn d) .rings) ≡ true
+unfolding endpointMapIn liveRings
+place-disjoint d s rings ok apart =
+    let f = sound-facts d s in
+    let live = ringsOf (take (d .«ep_count») (d .eps)) in
+    disjoint-from rings ((endpointMapIn d) .rings)
+    (λ x h.
+    false-if (elem x ((endpointMapIn d) .rings))
+    (λ g.
+    let t = elem-place x ((endpointMapIn d) .rings) g in
+    let n : t .0 < 30 = omega (arith, t .1, sound-clean d s .whole .rings) in
+    let there = ring-live (d .«ep_count») (d .eps) (d .«ep_interfaces») (d .control) (f .rings .live-ok) (f .addresses-fit) (t .0) n
+    (λ z. ring-nonzero x (rings-ok-elem rings ok x h) (sym (t .2) ∙ z)) in
+    not-both (elem x live) (rw (← t .2) there) (disjoint-elem rings live apart x h)))
+
+-- The rings drawn are such as 01 asks of rings offered, and given.
+pub claim-passed : (d : Device) (i a : ℕ) → sound d ≡ true → claimCheck d i a Pass ≡ Pass → ClaimPassed d i a
+unfolding claimCheck drawn freeOf
+claim-passed d i a s e =
     let words = settingWords (listOf d) i a in
     let f : (isFound (findEndpoints (listOf d) i a) ≡ true) × _ = pass-if _ _ _ e in
     let g : (addressesFree words i (endpointMapIn d) ≡ true) × _ = pass-if _ _ _ (f .1) in
-    let h : (offerOk (length words) rings ((endpointMapIn d) .rings) (d .control) (quarantinedOf d) ≡ true) × _ = pass-if _ _ _ (g .1) in
+    let live = ringsOf (take (d .«ep_count») (d .eps)) in
+    let free = freeRings (givenOf d) live (d .control) (quarantinedOf d) in
+    let h : (leb (length words) (length free) ≡ true) × _ = pass-if _ _ _ (g .1) in
+    let enough : length words ≤ length free = leb-true (length words) (length free) (h .0) in
+    let fit : givenOk (givenOf d) ≡ true = sound-facts d s .store .fit in
+    let o = offered (length words) (lowest (length words) free) live (d .control) (quarantinedOf d)
+    (drawn-promise (length words) (givenOf d) live (d .control) (quarantinedOf d) fit enough) in
     record {
       found = f .0;
       free = g .0;
-      offer = offered (length words) rings ((endpointMapIn d) .rings) (d .control) (quarantinedOf d) (h .0);
+      enough = enough;
+      offer =
+          record {
+            counted = o .counted;
+            ok = o .ok;
+            apart = o .apart;
+            not-live = place-disjoint d s (lowest (length words) free) (o .ok) (o .not-live);
+            not-control = o .not-control;
+            not-quarantined = o .not-quarantined;
+          };
+      from-given = drawn-given (length words) (givenOf d) live (d .control) (quarantinedOf d) fit;
     }
 
 -- A claim that moves its settings.
 pub claim-moves :
-    (d : Device) (ctx routes log i a : ℕ) (rings : List ℕ) → recordCheck d ctx routes log (claimCheck d i a rings Pass) ≡ Pass →
+    (d : Device) (ctx routes log i a : ℕ) → recordCheck d ctx routes log (claimCheck d i a Pass) ≡ Pass →
     (e : End) → e .moved ≡ true →
-    Made d (claimRecord d i a rings e) (withSetting i a (heldOf d)) (claimedEndpoints i (pendingOf d i a rings) (endpointMapIn d)) (isLost (e .answer))
+    Made d (claimRecord d i a (drawn d i a) e) (withSetting i a (heldOf d)) (claimedEndpoints i (pendingOf d i a (drawn d i a)) (endpointMapIn d)) (isLost (e .answer))
 unfolding claimRecord pendingOf
-claim-moves d ctx routes log i a rings k e m =
-    let t = passed d ctx routes log (claimCheck d i a rings Pass) k in
-    let p : ClaimPassed d i a rings = claim-passed d i a rings (t .1) in
+claim-moves d ctx routes log i a k e m =
+    let t = passed d ctx routes log (claimCheck d i a Pass) k in
+    let rings = drawn d i a in
+    let p : ClaimPassed d i a = claim-passed d i a (t .0 .is-sound) (t .1) in
     let f : SoundFacts d = t .0 .facts in
     let words = settingWords (listOf d) i a in
     let pending = pendingRings words rings in
@@ -82,23 +129,22 @@ claim-moves d ctx routes log i a rings k e m =
     (sound-with (listOf d) (heldOf d) (f .settings) i a (p .found))
     (match-claimed (listOf d) (heldOf d) i pending (endpointMapIn d) (f .settings) (f .endpoints) a (p .free)
     (λ q h. pending-place words rings q h nonzero))
-    (apart-claimed i words rings (endpointMapIn d) (d .control) (quarantinedOf d) clean (p .offer) (sound-apart d (t .0 .is-sound))))
+    (apart-claimed i words rings (endpointMapIn d) (d .control) (quarantinedOf d) (givenOf d) clean (p .offer) (p .from-given) (sound-apart d (t .0 .is-sound))))
 
 -- A claim that does not.
 pub claim-stays :
-    (d : Device) (ctx routes log i a : ℕ) (rings : List ℕ) → recordCheck d ctx routes log (claimCheck d i a rings Pass) ≡ Pass →
+    (d : Device) (ctx routes log i a : ℕ) → recordCheck d ctx routes log (claimCheck d i a Pass) ≡ Pass →
     (e : End) → e .moved ≡ false →
-    Made d (claimRecord d i a rings e) (heldOf d) (withActive (Interface i) (e .active) (endpointMapIn d)) (isLost (e .answer))
+    Made d (claimRecord d i a (drawn d i a) e) (heldOf d) (withActive (Interface i) (e .active) (endpointMapIn d)) (isLost (e .answer))
 unfolding claimRecord pendingOf
-claim-stays d ctx routes log i a rings k e m =
-    let t = passed d ctx routes log (claimCheck d i a rings Pass) k in
-    let o = claim-passed d i a rings (t .1) .offer in
+claim-stays d ctx routes log i a k e m =
+    let t = passed d ctx routes log (claimCheck d i a Pass) k in
+    let rings = drawn d i a in
+    let p = claim-passed d i a (t .0 .is-sound) (t .1) in
     let words = settingWords (listOf d) i a in
-    let live = (endpointMapIn d) .rings in
     rw m
     (quarantined-made d (t .0 .usable) (t .0 .is-sound) (Interface i) (e .active) (pendingRings words rings)
-    (apart-offered words rings live (d .control) (quarantinedOf d) o)
-    (offered-live words rings live (d .control) (quarantinedOf d) o (sound-clean d (t .0 .is-sound) .whole .rings)) (e .answer))
+    (apart-offered words rings ((endpointMapIn d) .rings) (d .control) (quarantinedOf d) (givenOf d) (p .offer) (p .from-given)) (e .answer))
 
 -- A release that moves its setting.
 pub release-moves :
@@ -113,7 +159,7 @@ release-moves d ctx routes log i k e m =
     (clean-claimed i (replicate 30 0) (endpointMapIn d) (sound-clean d (t .0 .is-sound)))
     (sound-without (listOf d) (heldOf d) (f .settings) i)
     (match-released (listOf d) (heldOf d) i (replicate 30 0) (endpointMapIn d) (f .settings) (f .endpoints) (λ p h. getD-replicate 30 p 0 0 h))
-    (apart-released i (endpointMapIn d) (d .control) (sound-apart d (t .0 .is-sound))))
+    (apart-released i (endpointMapIn d) (d .control) (givenOf d) (sound-apart d (t .0 .is-sound))))
 
 -- A release that does not.
 pub release-stays :
@@ -128,9 +174,9 @@ bare-made : (d : Device) → d .usable ≡ true → sound d ≡ true → (value 
     Made d (marked a (cond b (withConfiguration value (withHeld [] (withEndpoints noEndpoints d))) (withHeld [] (withEndpoints noEndpoints d)))) [] noEndpoints (isLost a)
 unfolding noEndpoints
 bare-made d u s value a true =
-    configured-made d u s value [] noEndpoints a clean-none (sound-none (listOf d)) (match-none (listOf d)) (apart-none (d .control))
+    configured-made d u s value [] noEndpoints a clean-none (sound-none (listOf d)) (match-none (listOf d)) (apart-none (d .control) (givenOf d))
 bare-made d u s value a false =
-    held-made d u s [] noEndpoints a clean-none (sound-none (listOf d)) (match-none (listOf d)) (apart-none (d .control))
+    held-made d u s [] noEndpoints a clean-none (sound-none (listOf d)) (match-none (listOf d)) (apart-none (d .control) (givenOf d))
 
 -- A set configuration that ends the held settings.
 pub set-moves :
@@ -159,19 +205,30 @@ stays-rings {d} who n m = (
   ap (λ (c : EndpointMap). c .owners) (m .endpoints) ∙ active-owners who (endpointMapIn d) n,
 )
 
--- After 14 the pending rings of a claim are quarantined.
+-- The pending rings of a claim all enter quarantine, in their order: none is there, and none is twice among them.
+pub claim-entered :
+    (d : Device) (ctx routes log i a : ℕ) → recordCheck d ctx routes log (claimCheck d i a Pass) ≡ Pass →
+    entered (quarantinedOf d) (queueRings (queuesOf (pendingOf d i a (drawn d i a)))) ≡ queueRings (queuesOf (pendingOf d i a (drawn d i a)))
+unfolding pendingOf
+claim-entered d ctx routes log i a k =
+    let t = passed d ctx routes log (claimCheck d i a Pass) k in
+    let words = settingWords (listOf d) i a in
+    let rings = drawn d i a in
+    let p = claim-passed d i a (t .0 .is-sound) (t .1) in
+    pending-entered d (t .0 .usable) (t .0 .is-sound) (pendingRings words rings)
+    (apart-offered words rings ((endpointMapIn d) .rings) (d .control) (quarantinedOf d) (givenOf d) (p .offer) (p .from-given))
+
+-- After 14 they are quarantined.
 pub claim-quarantined :
-    (d : Device) (ctx routes log i a : ℕ) (rings : List ℕ) → recordCheck d ctx routes log (claimCheck d i a rings Pass) ≡ Pass →
+    (d : Device) (ctx routes log i a : ℕ) → recordCheck d ctx routes log (claimCheck d i a Pass) ≡ Pass →
     (e : End) → e .moved ≡ false → isBroken (e .answer) ≡ true →
-    quarantinedOf (claimRecord d i a rings e) ≡ queueRings (queuesOf (pendingOf d i a rings))
+    quarantinedOf (claimRecord d i a (drawn d i a) e) ≡ queueRings (queuesOf (pendingOf d i a (drawn d i a)))
 unfolding claimRecord marked quarantines unusable withEndpoints quarantinedOf
-claim-quarantined d ctx routes log i a rings k e m b =
-    let t = passed d ctx routes log (claimCheck d i a rings Pass) k in
+claim-quarantined d ctx routes log i a k e m b =
     let c = withActive (Interface i) (e .active) (endpointMapIn d) in
-    let by = queueRings (queuesOf (pendingOf d i a rings)) in
     rw (m, b)
-    (with-quarantined-quarantined by (withEndpoints c d)
-    ∙ ap (λ (l : List ℕ). l ++ by) (none-quarantined d (t .0 .usable) (t .0 .is-sound)))
+    (with-quarantined-quarantined (queueRings (queuesOf (pendingOf d i a (drawn d i a)))) (withEndpoints c d)
+    ∙ claim-entered d ctx routes log i a k)
 
 -- An accepted set configuration keeps its value.
 pub set-value :
@@ -202,13 +259,12 @@ returned d k made p ctx routes log f g =
 
 -- A claim returns the record as it came, or a sound one.
 pub claim-sound :
-    (d : Device) (ctx routes log outcomes : List ℕ) (i a : ℕ) (rings : List ℕ) →
-    Returned d ((claim d ctx routes log outcomes i a rings) .device)
+    (d : Device) (ctx routes log outcomes : List ℕ) (i a : ℕ) → Returned d ((claim d ctx routes log outcomes i a) .device)
 unfolding claim
-claim-sound d ctx routes log outcomes i a rings =
-    returned d (recordCheck d (length ctx) (length routes) (length log) (claimCheck d i a rings Pass)) (claimRecord d i a rings) _ ctx routes log
-    (λ k e m. inr (claim-moves d _ _ _ i a rings k e m .is-sound))
-    (λ k e m. inr (claim-stays d _ _ _ i a rings k e m .is-sound))
+claim-sound d ctx routes log outcomes i a =
+    returned d (recordCheck d (length ctx) (length routes) (length log) (claimCheck d i a Pass)) (claimRecord d i a (drawn d i a)) _ ctx routes log
+    (λ k e m. inr (claim-moves d _ _ _ i a k e m .is-sound))
+    (λ k e m. inr (claim-stays d _ _ _ i a k e m .is-sound))
 
 -- A release does.
 pub release-sound :

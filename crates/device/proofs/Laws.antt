@@ -20,7 +20,7 @@ pub record Passed (d : Device) (ctx routes log : ℕ) : Type 0 where
   pub usable : d .usable ≡ true
   pub is-sound : sound d ≡ true
   pub context : ctx ≡ 33 * d .spacing
-  pub table : routes ≡ 32 * (d .n + 1)
+  pub table : routes ≡ 32 * (d .«max_slots» + 1)
   pub room : 64 ≤ log
   pub facts : SoundFacts d
   pub spaced : Spaced (d .spacing) ctx
@@ -37,7 +37,7 @@ unfolding recordCheck
 passed d ctx routes log next e =
     let s : ((d .usable && sound d) ≡ true) × _ = pass-if _ _ _ e in
     let c : (eqb ctx (33 * d .spacing) ≡ true) × _ = pass-if _ _ _ (s .1) in
-    let r : (eqb routes (32 * (d .n + 1)) ≡ true) × _ = pass-if _ _ _ (c .1) in
+    let r : (eqb routes (32 * (d .«max_slots» + 1)) ≡ true) × _ = pass-if _ _ _ (c .1) in
     let l : (leb 64 log ≡ true) × _ = pass-if _ _ _ (r .1) in
     let right : sound d ≡ true = and-right (d .usable) (sound d) (s .0) in
     let f : SoundFacts d = sound-facts d right in
@@ -72,7 +72,7 @@ unfolding recordCheck andThen
 check-then d ctx routes log next =
     then-if (d .usable && sound d) _ _ answer.Unusable next
     (then-if (eqb ctx (33 * d .spacing)) _ _ answer.ContextLength next
-    (then-if (eqb routes (32 * (d .n + 1))) _ _ answer.RoutesLength next
+    (then-if (eqb routes (32 * (d .«max_slots» + 1))) _ _ answer.RoutesLength next
     (then-if (leb 64 log) _ _ answer.LogTooShort next refl)))
 
 -- what it says that the record's own checks passed

@@ -1,6 +1,11 @@
+pub mod AskAnswers
+pub mod AskLaws
+pub mod AskPromises
 pub mod ClaimLaws
 pub mod Contexts
 pub mod Counts
+pub mod DisconnectLaws
+pub mod Disconnected
 pub mod Ends
 pub mod Exits
 pub mod Facts

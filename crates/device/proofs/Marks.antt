@@ -12,7 +12,7 @@ use Rattle.answer.proofs.Numbers.{tag-number, AnyBut, other-answer}
 use Rattle.answer.specs.declared.Answer.{Answer}
 use Rattle.answer.specs.declared.Check.{Check}
 use Rattle.answer.specs.declared.Check.the-variants.{Pass, Refuse}
-use Rattle.answer.specs.Answer.{isLost}
+use Rattle.answer.specs.Answer.{isAccepted, isLost}
 use Rattle.device.specs.declared.record.Device.{Device}
 use Rattle.device.specs.Device.{unusable}
 use Rattle.device.specs.Left.{Left, refused, marked}
@@ -35,13 +35,17 @@ marked-one a d = go (isLost a)
 -- 14 and 15 mark it
 pub marked-lost : (a : Answer) (d : Device) → OneOf (14 ∷ 15 ∷ []) (tagOf the-type a) → unusable d ≡ marked a d
 unfolding marked
-marked-lost a d (inl e) = rw (sym (tag-number a) ∙ e)
-marked-lost a d (inr e) = rw (sym (tag-number a) ∙ e)
+marked-lost a d (inl e) = rw (tag-number a 14 e)
+marked-lost a d (inr e) = rw (tag-number a 15 e)
 
 -- and no other does
 pub marked-kept : (a : Answer) (d : Device) → AnyBut (14 ∷ 15 ∷ []) a → d ≡ marked a d
 unfolding marked
 marked-kept a d h = rw (other-answer (14 ∷ 15 ∷ []) 14 a refl h, other-answer (14 ∷ 15 ∷ []) 15 a refl h)
+
+-- only an accepted one sets a value
+pub not-configured : (a : Answer) (d : Device) (moved : Bool) (made : Device) → moved ≡ true → AnyBut (0 ∷ []) a → d ≡ cond moved (cond (isAccepted a) made d) d
+not-configured a d moved made m h = rw (m, other-answer (0 ∷ []) 0 a refl h)
 
 -- what holds of a call that runs after its checks, and of each refusal, holds of the call
 pub on-pass : (P : Left → Type 0) (k : Check) (run : Left) (refuse : Answer → Left) → (k ≡ Pass → P run) →

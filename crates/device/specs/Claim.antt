@@ -1,4 +1,4 @@
--- The claim of an interface's alternate setting, with the rings offered for its endpoint words.
+-- The claim of an interface's alternate setting, with free rings drawn for its endpoint words.
 use Prim.Native.Nat.{ℕ}
 use mathlib.Core.Bool.{cond}
 use mathlib.Core.List.{List, []}
@@ -11,22 +11,27 @@ use Rattle.command.specs.Course.{played}
 use Rattle.record_endpoint.specs.declared.endpoint_map.Owner.the-variants.{Interface}
 use Rattle.record_endpoint.specs.EndpointMap.{ownedRings, queuesOf, queueDcis, queueRings, pendingRings, claimedEndpoints, withActive}
 use Rattle.record_settings.specs.Held.{isHeld, alternateOf, settingWords, withSetting}
-use Rattle.record_checks.specs.Offer.{offerCheck}
+use Rattle.record_ring.specs.Store.{lowest}
+use Rattle.record_checks.specs.Draw.{drawCheck}
 use Rattle.course_steps.specs.End.{End}
 use Rattle.course_claim.specs.declared.ClaimArgs.{ClaimArgs}
 use Rattle.course_claim.specs.Claim.{Claim, claimCourse}
 use Rattle.device.specs.declared.record.Device.{Device}
-use Rattle.device.specs.Device.{listOf, endpointMapIn, heldOf, quarantinedOf, withEndpoints, withHeld, withQuarantined}
+use Rattle.device.specs.Device.{listOf, endpointMapIn, heldOf, freeOf, withEndpoints, withHeld, withQuarantined}
 use Rattle.device.specs.Left.{Left, refused, marked, ended}
 use Rattle.device.specs.Check.{recordCheck}
 use Rattle.device.specs.Calls.{onCheck}
 
--- 8, 9, 10, and then what follows.
-unfoldable pub claimCheck : Device → ℕ → ℕ → List ℕ → Check → Check
-claimCheck d interface alternate rings next =
-    offerCheck (listOf d) interface alternate (endpointMapIn d) rings (d .control) (quarantinedOf d) next
+-- 8, 9, 21, and then what follows.
+unfoldable pub claimCheck : Device → ℕ → ℕ → Check → Check
+claimCheck d interface alternate next =
+    drawCheck (listOf d) interface alternate (endpointMapIn d) (length (freeOf d)) next
 
--- The rings offered for the words of an alternate, by place.
+-- The lowest free rings, one for each endpoint word of an alternate in list order.
+unfoldable pub drawn : Device → ℕ → ℕ → List ℕ
+drawn d interface alternate = lowest (length (settingWords (listOf d) interface alternate)) (freeOf d)
+
+-- The rings for the words of an alternate, by place.
 unfoldable pub pendingOf : Device → ℕ → ℕ → List ℕ → List ℕ
 pendingOf d interface alternate rings = pendingRings (settingWords (listOf d) interface alternate) rings
 
@@ -73,8 +78,8 @@ abbrev pub claimRun : Device → List ℕ → List ℕ → List ℕ → List ℕ
 claimRun d ctx routes log outcomes interface alternate rings =
     ended (claimRecord d interface alternate rings) (played outcomes 0 (claimCourse (claimIn d interface alternate rings) ctx routes) log)
 
-unfoldable pub claim : Device → List ℕ → List ℕ → List ℕ → List ℕ → ℕ → ℕ → List ℕ → Left
-claim d ctx routes log outcomes interface alternate rings =
-    onCheck (recordCheck d (length ctx) (length routes) (length log) (claimCheck d interface alternate rings Pass))
-    (claimRun d ctx routes log outcomes interface alternate rings)
+unfoldable pub claim : Device → List ℕ → List ℕ → List ℕ → List ℕ → ℕ → ℕ → Left
+claim d ctx routes log outcomes interface alternate =
+    onCheck (recordCheck d (length ctx) (length routes) (length log) (claimCheck d interface alternate Pass))
+    (claimRun d ctx routes log outcomes interface alternate (drawn d interface alternate))
     (λ a. refused d a ctx routes log)

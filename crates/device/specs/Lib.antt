@@ -1,7 +1,10 @@
+pub mod Ask
+pub mod AskPromises
 pub mod Calls
 pub mod Check
 pub mod Claim
 pub mod Device
+pub mod Disconnect
 pub mod Left
 pub mod Release
 pub mod SetConfiguration

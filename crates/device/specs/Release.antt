@@ -9,7 +9,7 @@ use Rattle.record_endpoint.specs.Order.{PLACES}
 use Rattle.record_endpoint.specs.declared.endpoint_map.Owner.the-variants.{Interface}
 use Rattle.record_endpoint.specs.EndpointMap.{ownedRings, queuesOf, queueDcis, claimedEndpoints, withActive}
 use Rattle.record_settings.specs.Held.{alternateOf, settingWords, withoutSetting}
-use Rattle.record_checks.specs.Offer.{heldCheck}
+use Rattle.record_checks.specs.Draw.{heldCheck}
 use Rattle.course_steps.specs.End.{End}
 use Rattle.course_release.specs.Release.{Release, releaseCourse}
 use Rattle.device.specs.declared.record.Device.{Device}

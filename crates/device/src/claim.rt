@@ -14,23 +14,24 @@ use record_endpoint::Owner;
 use record_endpoint::PLACES;
 use record_endpoint::Queues;
 ghost use mathlib.Core.Path.{_≡_};
-ghost use mathlib.Core.List.{List, []};
+ghost use mathlib.Core.List.{List};
 ghost use Prim.Native.Nat.{ℕ, _≤_};
-ghost use lib.ListN.{length};
+ghost use lib.ListN.{length, take};
 ghost use Rattle.answer.specs.declared.Check.the-variants.{Pass};
 ghost use Rattle.descriptor_list.specs.declared.Found.the-variants.{Endpoints};
 ghost use Rattle.descriptor_list.specs.Lookup.{findEndpoints};
+ghost use Rattle.record_ring.specs.Rings.{entered};
 ghost use Rattle.record_endpoint.specs.EndpointMap.{QueuesAs};
 ghost use Rattle.record_settings.specs.Held.{HELD-ROOM, withSetting};
-ghost use Rattle.record_checks.specs.Offer.{CheckedAs};
+ghost use Rattle.record_checks.specs.Draw.{CheckedAs};
 ghost use Rattle.course_steps.specs.Arrays as arrays;
 ghost use Rattle.device.specs.Device.{listOf, endpointMapIn, heldOf, quarantinedOf};
 ghost use Rattle.device.specs.Check.{recordCheck};
 ghost use Rattle.device.specs.Left.{leaves, ended};
-ghost use Rattle.device.specs.Claim.{claimCheck, pendingOf, argsIn, claimRecord, claimRun, claim};
+ghost use Rattle.device.specs.Claim.{claimCheck, drawn, pendingOf, argsIn, claimRecord, claimRun, claim};
 
 impl Device {
-    // The old endpoints are stopped and dropped, those of the setting added with the rings offered, and the device switched.
+    // The old endpoints are stopped and dropped, those of the setting added with rings drawn from the free ones, and the device switched.
     pub fn claim(
         mut self,
         ctx: &mut [u8],
@@ -39,9 +40,9 @@ impl Device {
         outcomes: &[u8],
         interface: u8,
         alternate: u8,
-        rings: &[u64],
     ) -> Called
-        ensures { λ r. ⌜ leaves r (now (ctx .exit)) (now (routes .exit)) (now (log .exit)) ≡ claim self (now (ctx .entry)) (now (routes .entry)) (now (log .entry)) (now (outcomes .entry)) interface alternate (now (rings .entry)) ⌝ }
+        ensures { λ r. ⌜ leaves r (now (ctx .exit)) (now (routes .exit)) (now (log .exit))
+            ≡ claim self (now (ctx .entry)) (now (routes .entry)) (now (log .entry)) (now (outcomes .entry)) interface alternate ⌝ }
     {
         let checked = claim_check(
             self,
@@ -50,7 +51,6 @@ impl Device {
             log.len(),
             interface,
             alternate,
-            rings,
         );
         match checked {
             Checked::Words { start, count } => run_claim(
@@ -63,24 +63,22 @@ impl Device {
                 alternate,
                 start,
                 count,
-                rings,
             ),
             Checked::Refuse(a) => update::refused(self, a),
         }
     }
 }
 
-// 12, 1, 2, 3, and then 8, 9, 10: it needs the lengths of what is lent, and hands on where the setting's endpoint words stand.
-fn claim_check(
+// 12, 1, 2, 3, and then 8, 9, 21: it needs the lengths of what is lent, and hands on where the setting's endpoint words stand.
+pub fn claim_check(
     d: Device,
     ctx: usize,
     routes: usize,
     log: usize,
     interface: u8,
     alternate: u8,
-    rings: &[u64],
 ) -> Checked
-    ensures { λ r. ⌜ CheckedAs r (recordCheck d ctx routes log (claimCheck d interface alternate (now (rings .entry)) Pass)) (findEndpoints (listOf d) interface alternate) ⌝ }
+    ensures { λ r. ⌜ CheckedAs r (recordCheck d ctx routes log (claimCheck d interface alternate Pass)) (findEndpoints (listOf d) interface alternate) ⌝ }
 {
     let check = d.record_check(ctx, routes, log);
     if let Check::Refuse(a) = check {
@@ -89,19 +87,12 @@ fn claim_check(
     let list = d.list;
     let c = endpoint_map::endpoint_map_in(d);
     // A usable record has no ring in quarantine.
-    record_checks::offer_check(
-        &list[..d.list_len],
-        interface,
-        alternate,
-        c,
-        rings,
-        d.control,
-        &[0u64; 0],
-    )
+    let free = d.given_count - d.ep_count - 1;
+    record_checks::draw_check(&list[..d.list_len], interface, alternate, c, free)
 }
 
-// The course of a claim whose checks have passed, with some rings for the setting's endpoint words, which stand at start in the list.
-fn run_claim(
+// The course of a claim whose checks have passed; the setting's endpoint words stand at start in the list.
+pub fn run_claim(
     d: Device,
     ctx: &mut [u8],
     routes: &mut [u64],
@@ -111,11 +102,11 @@ fn run_claim(
     alternate: u8,
     start: usize,
     count: usize,
-    rings: &[u64],
 ) -> Called
-    requires { ⌜ recordCheck d (length (now ctx)) (length (now routes)) (length (now log)) (claimCheck d interface alternate (now rings) Pass) ≡ Pass ⌝ }
+    requires { ⌜ recordCheck d (length (now ctx)) (length (now routes)) (length (now log)) (claimCheck d interface alternate Pass) ≡ Pass ⌝ }
     requires { ⌜ findEndpoints (listOf d) interface alternate ≡ Endpoints start count ⌝ }
-    ensures { λ r. ⌜ leaves r (now (ctx .exit)) (now (routes .exit)) (now (log .exit)) ≡ claimRun d (now (ctx .entry)) (now (routes .entry)) (now (log .entry)) (now (outcomes .entry)) interface alternate (now (rings .entry)) ⌝ }
+    ensures { λ r. ⌜ leaves r (now (ctx .exit)) (now (routes .exit)) (now (log .exit))
+        ≡ claimRun d (now (ctx .entry)) (now (routes .entry)) (now (log .entry)) (now (outcomes .entry)) interface alternate (drawn d interface alternate) ⌝ }
 {
     let list = d.list;
     let args = claim_args(d, interface, alternate);
@@ -126,7 +117,16 @@ fn run_claim(
         &words[0..0]
     };
     let new_words = &words[start..start + count];
-    let pending = record_endpoint::pending_rings(new_words, rings);
+    let given = d.given;
+    let eps = d.eps;
+    let pending = record_checks::drawn_rings(
+        given,
+        d.given_count,
+        eps,
+        d.ep_count,
+        d.control,
+        new_words,
+    );
     let c = endpoint_map::endpoint_map_in(d);
     let all = c.rings;
     let own = record_endpoint::owned_rings(Owner::Interface(interface), c);
@@ -140,7 +140,7 @@ fn run_claim(
     claim_end(d, c, interface, alternate, pending, plan.pending, e)
 }
 
-fn claim_args(d: Device, interface: u8, alternate: u8) -> ClaimArgs
+pub fn claim_args(d: Device, interface: u8, alternate: u8) -> ClaimArgs
     requires { ⌜ d .«held_count» ≤ HELD-ROOM ⌝ }
     ensures { λ r. ⌜ r ≡ argsIn d interface alternate ⌝ }
 {
@@ -174,8 +174,9 @@ fn claim_end(
     e: CourseEnd,
 ) -> Called
     requires { ⌜ (d .«held_count» ≤ HELD-ROOM) × (length (withSetting interface alternate (heldOf d)) ≤ HELD-ROOM) ⌝ }
-    requires { ⌜ (c ≡ endpointMapIn d) × (quarantinedOf d ≡ []) × QueuesAs q pending ⌝ }
-    ensures { λ r. ⌜ ((ctx routes log rings : List ℕ) → pending ≡ pendingOf d interface alternate rings → leaves r ctx routes log ≡ ended (claimRecord d interface alternate rings) (arrays.courseLeaves e ctx routes log)) ⌝ }
+    requires { ⌜ (c ≡ endpointMapIn d) × (entered (quarantinedOf d) (take (q .count) (q .rings)) ≡ take (q .count) (q .rings)) × QueuesAs q pending ⌝ }
+    ensures { λ r. ⌜ ((ctx routes log rings : List ℕ) → pending ≡ pendingOf d interface alternate rings →
+        leaves r ctx routes log ≡ ended (claimRecord d interface alternate rings) (arrays.courseLeaves e ctx routes log)) ⌝ }
 {
     let interfaces = d.interfaces;
     let alternates = d.alternates;

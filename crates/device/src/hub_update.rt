@@ -20,7 +20,8 @@ impl Device {
         multi: bool,
         ns: u32,
     ) -> Called
-        ensures { λ r. ⌜ leaves r (now (ctx .exit)) (now (routes .exit)) (now (log .exit)) ≡ hubUpdate self (now (ctx .entry)) (now (routes .entry)) (now (log .entry)) (now (outcomes .entry)) ports multi ns ⌝ }
+        ensures { λ r. ⌜ leaves r (now (ctx .exit)) (now (routes .exit)) (now (log .exit))
+            ≡ hubUpdate self (now (ctx .entry)) (now (routes .entry)) (now (log .entry)) (now (outcomes .entry)) ports multi ns ⌝ }
     {
         let check = self.record_check(ctx.len(), routes.len(), log.len());
         if let Check::Refuse(a) = check {

@@ -5,6 +5,7 @@ use descriptor_list::LIST_ROOM;
 use record_endpoint::Endpoint;
 use record_endpoint::Handle;
 use record_endpoint::PLACES;
+use record_ring::GIVEN_ROOM;
 use record_ring::RING_ROOM;
 use record_settings::HELD_ROOM;
 ghost use mathlib.Core.Path.{_≡_};
@@ -13,9 +14,11 @@ ghost use Rattle.device.specs.Device.{noDevice};
 pub struct Device {
     // 01's mark: false after 14, 15 and every refused bring-up.
     pub usable: bool,
+    // true from an accepted bring-up to an accepted unplugging
+    pub up: bool,
     pub slot: SlotId,
     // N, the number of slots that the route table serves
-    pub n: u8,
+    pub max_slots: u8,
     pub spacing: usize,
     pub port_speed: u8,
     // whether a configuration value was read or set
@@ -33,6 +36,9 @@ pub struct Device {
     pub control_handle: Handle,
     pub quarantined: [u64; RING_ROOM],
     pub quarantined_count: usize,
+    // the rings given at bring-up
+    pub given: [u64; GIVEN_ROOM],
+    pub given_count: usize,
 }
 
 // What a call hands back: the record, the answer, and how many words it logged.
@@ -53,8 +59,9 @@ pub fn no_device() -> Device
     };
     Device {
         usable: false,
+        up: false,
         slot: SlotId(0),
-        n: 0,
+        max_slots: 0,
         spacing: 0,
         port_speed: 0,
         configured: false,
@@ -71,5 +78,7 @@ pub fn no_device() -> Device
         control_handle: Handle::Active,
         quarantined: [0; RING_ROOM],
         quarantined_count: 0,
+        given: [0; GIVEN_ROOM],
+        given_count: 0,
     }
 }

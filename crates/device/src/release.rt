@@ -21,7 +21,8 @@ impl Device {
         outcomes: &[u8],
         interface: u8,
     ) -> Called
-        ensures { λ r. ⌜ leaves r (now (ctx .exit)) (now (routes .exit)) (now (log .exit)) ≡ release self (now (ctx .entry)) (now (routes .entry)) (now (log .entry)) (now (outcomes .entry)) interface ⌝ }
+        ensures { λ r. ⌜ leaves r (now (ctx .exit)) (now (routes .exit)) (now (log .exit))
+            ≡ release self (now (ctx .entry)) (now (routes .entry)) (now (log .entry)) (now (outcomes .entry)) interface ⌝ }
     {
         let check = self.record_check(ctx.len(), routes.len(), log.len());
         if let Check::Refuse(a) = check {

@@ -46,7 +46,8 @@ impl Device {
         outcomes: &[u8],
         value: u8,
     ) -> Called
-        ensures { λ r. ⌜ leaves r (now (ctx .exit)) (now (routes .exit)) (now (log .exit)) ≡ setConfiguration self (now (ctx .entry)) (now (routes .entry)) (now (log .entry)) (now (outcomes .entry)) value ⌝ }
+        ensures { λ r. ⌜ leaves r (now (ctx .exit)) (now (routes .exit)) (now (log .exit))
+            ≡ setConfiguration self (now (ctx .entry)) (now (routes .entry)) (now (log .entry)) (now (outcomes .entry)) value ⌝ }
     {
         let check = self.record_check(ctx.len(), routes.len(), log.len());
         if let Check::Refuse(a) = check {

@@ -14,10 +14,17 @@ impl Device {
         let eps = self.eps;
         let owners = self.ep_interfaces;
         let quarantined = self.quarantined;
-        if !record_checks::slot_sound(self.slot.0, self.n, self.spacing, self.port_speed) {
+        let given = self.given;
+        if !record_checks::slot_sound(self.slot.0, self.max_slots, self.spacing, self.port_speed) {
             return false;
         }
-        if !record_checks::counts_fit(self.list_len, n, self.held_count, self.quarantined_count) {
+        if !record_checks::counts_fit(
+            self.list_len,
+            n,
+            self.held_count,
+            self.quarantined_count,
+            self.given_count,
+        ) {
             return false;
         }
         if !record_checks::lists_sound(
@@ -39,6 +46,8 @@ impl Device {
             self.control,
             quarantined,
             self.quarantined_count,
+            given,
+            self.given_count,
         )
     }
 }

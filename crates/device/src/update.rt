@@ -47,7 +47,12 @@ pub fn at_end(
     moved: EndpointMap,
     held: Settings,
 ) -> Called
-    ensures { λ r. ⌜ ((hs : List Held) → SettingsAs held hs → r ≡ record { device = marked (e .answer) (cond (e .moved) (withHeld hs (withEndpoints moved d)) (withEndpoints (withActive who (e .active) c) d)); answer = e .answer; count = e .count }) ⌝ }
+    ensures { λ r. ⌜ ((hs : List Held) → SettingsAs held hs →
+        r ≡ record {
+          device = marked (e .answer) (cond (e .moved) (withHeld hs (withEndpoints moved d)) (withEndpoints (withActive who (e .active) c) d));
+          answer = e .answer;
+          count = e .count;
+        }) ⌝ }
 {
     let mut left = moved;
     if e.moved {

@@ -13,7 +13,8 @@ use Rattle.laws.proofs.Tests.{not-both, and-left}
 use Rattle.def.specs.Speed.{speedKnown, exponentOk}
 use Rattle.descriptor_list.specs.Valid.{configurations, validList}
 use Rattle.hub.specs.Chain.{chainOk}
-use Rattle.record_ring.specs.Rings.{ringOk}
+use Rattle.record_ring.specs.Store.{givenOk}
+use Rattle.record_ring.proofs.Laws.{ring-nonzero}
 use Rattle.transfer.specs.Routes.{routeIndex, routeOf, withRoute, OutsideSlot}
 use Rattle.transfer.proofs.Laws.{index-inside}
 use Rattle.answer.specs.declared.Answer.{Answer}
@@ -26,16 +27,16 @@ use Rattle.command.proofs.Done.{AllDone}
 use Rattle.context.specs.Place.{spacingOf}
 use Rattle.record_endpoint.specs.EndpointMap.{noEndpoints}
 use Rattle.device.specs.declared.record.Device.{Device}
-use Rattle.device.specs.Device.{listOf, endpointMapIn, heldOf, quarantinedOf, noDevice}
+use Rattle.device.specs.Device.{listOf, endpointMapIn, heldOf, quarantinedOf, givenOf, noDevice}
 use Rattle.device.specs.Left.{Left, refused}
 use Rattle.device.specs.Sound.{sound}
 use Rattle.device.specs.Calls.{onCheck}
-use Rattle.course_init.specs.Reading.{BringUp, Brought}
+use Rattle.course_init.specs.Reading.{BringUp, controlRing, Brought}
 use Rattle.course_init.proofs.Laws.{EndFacts, address-facts, address-done, address-words}
 use Rattle.device_bring_up.specs.BringUp.{slotCheck, deviceCheck, queueCheck, bringUpCheck, bringUpCourse, broughtRecord, broughtLeft, bringUp}
 use Rattle.device.proofs.Laws.{pass-if}
 use Rattle.device_bring_up.proofs.Checks.{Passed, passed}
-use Rattle.device_bring_up.proofs.Accepted.{record-held, record-map, record-quarantined, record-list, record-usable, usable-accepted, record-sound}
+use Rattle.device_bring_up.proofs.Accepted.{control-ok, record-given, record-held, record-map, record-quarantined, record-list, record-usable, usable-accepted, record-sound}
 
 -- An answer before any command: neither accepted nor 14 nor 15.
 pub record Refusal (x : Answer) : Type 0 where
@@ -56,14 +57,14 @@ refuses-if false x next r h = r
 check-refuses : (a : BringUp) (ctx : ℕ) (routes : List ℕ) (log : ℕ) → Refuses (bringUpCheck a ctx routes log)
 unfolding bringUpCheck slotCheck deviceCheck queueCheck Refuses number
 check-refuses a ctx routes log =
-    refuses-if (leb 1 (a .slot) && (leb (a .slot) (a .n) && leb (a .n) 255)) answer.SlotLimitReached _ (record { accepted = refl; broken = refl; cut = refl })
+    refuses-if (leb 1 (a .slot) && (leb (a .slot) (a .«max_slots») && leb (a .«max_slots») 255)) answer.SlotLimitReached _ (record { accepted = refl; broken = refl; cut = refl })
     (refuses-if (eqb ctx 1056 || eqb ctx 2112) answer.ContextLength _ (record { accepted = refl; broken = refl; cut = refl })
-    (refuses-if (eqb (length routes) (32 * (a .n + 1))) answer.RoutesLength _ (record { accepted = refl; broken = refl; cut = refl })
+    (refuses-if (eqb (length routes) (32 * (a .«max_slots» + 1))) answer.RoutesLength _ (record { accepted = refl; broken = refl; cut = refl })
     (refuses-if (leb 64 log) answer.LogTooShort _ (record { accepted = refl; broken = refl; cut = refl })
     (refuses-if (speedKnown (a .speed)) answer.Speed _ (record { accepted = refl; broken = refl; cut = refl })
     (refuses-if (validList (a .list)) answer.DescriptorList _ (record { accepted = refl; broken = refl; cut = refl })
     (refuses-if (chainOk (a .hubs) (a .hasParent) (a .parent)) answer.HubChain _ (record { accepted = refl; broken = refl; cut = refl })
-    (refuses-if (ringOk (a .ring)) answer.Rings _ (record { accepted = refl; broken = refl; cut = refl })
+    (refuses-if (givenOk (a .rings)) answer.Rings _ (record { accepted = refl; broken = refl; cut = refl })
     (refuses-if (eqb (routeOf routes (a .slot) 1) 0) answer.QueueFull Pass (record { accepted = refl; broken = refl; cut = refl }) tt))))))))
 
 -- A refused bring-up.
@@ -110,18 +111,19 @@ module _ (a : BringUp) (ctx routes log outcomes : List ℕ) where
 pub record BroughtUp (a : BringUp) (ctx routes log : List ℕ) (l : Left) : Type 0 where
   pub pass : Passed a (length ctx) (length routes) (length log)
   pub free : routeOf routes (a .slot) 1 ≡ 0
-  pub table : l .routes ≡ withRoute routes (a .slot) 1 (a .ring)
+  pub table : l .routes ≡ withRoute routes (a .slot) 1 (controlRing a)
   pub usable : l .device .usable ≡ true
   pub is-sound : sound (l .device) ≡ true
   pub slot : l .device .slot .0 ≡ a .slot
-  pub n : l .device .n ≡ a .n
+  pub «max_slots» : l .device .«max_slots» ≡ a .«max_slots»
   pub spacing : l .device .spacing ≡ spacingOf (length ctx)
   pub speed : l .device .«port_speed» ≡ a .speed
   pub list : listOf (l .device) ≡ a .list
-  pub control : l .device .control ≡ a .ring
+  pub control : l .device .control ≡ controlRing a
   pub held : heldOf (l .device) ≡ []
   pub endpoints : endpointMapIn (l .device) ≡ noEndpoints
   pub quarantined : quarantinedOf (l .device) ≡ []
+  pub given : givenOf (l .device) ≡ a .rings
 
 module _ (a : BringUp) (ctx routes log outcomes : List ℕ) where
   spacing : ℕ
@@ -130,9 +132,9 @@ module _ (a : BringUp) (ctx routes log outcomes : List ℕ) where
   end : Brought
   end = result outcomes 0 (bringUpCourse a spacing ctx routes)
 
-  facts : EndFacts a (withRoute routes (a .slot) 1 (a .ring)) end
+  facts : EndFacts a (withRoute routes (a .slot) 1 (controlRing a)) end
   unfolding end bringUpCourse
-  facts = address-facts a (withRoute routes (a .slot) 1 (a .ring)) spacing outcomes ctx 0
+  facts = address-facts a (withRoute routes (a .slot) 1 (controlRing a)) spacing outcomes ctx 0
 
   abbrev Run : Left → Type 0
   Run = Ran a ctx routes log outcomes
@@ -149,7 +151,7 @@ module _ (a : BringUp) (ctx routes log outcomes : List ℕ) where
         usable = record-usable a spacing end e;
         is-sound = record-sound a (length ctx) (length routes) (length log) p end w;
         slot = refl;
-        n = refl;
+        «max_slots» = refl;
         spacing = refl;
         speed = refl;
         list = record-list a spacing end ∙ w;
@@ -157,6 +159,7 @@ module _ (a : BringUp) (ctx routes log outcomes : List ℕ) where
         held = record-held a spacing end;
         endpoints = record-map a spacing end;
         quarantined = record-quarantined a spacing end;
+        given = record-given a spacing end;
       }
 
   run-answer : (run a ctx routes log outcomes) .answer ≡ end .answer
@@ -167,7 +170,7 @@ module _ (a : BringUp) (ctx routes log outcomes : List ℕ) where
   unfolding spacing end run broughtLeft played
   run-device = refl
 
-  run-table : (run a ctx routes log outcomes) .routes ≡ withRoute routes (a .slot) 1 (a .ring)
+  run-table : (run a ctx routes log outcomes) .routes ≡ withRoute routes (a .slot) 1 (controlRing a)
   unfolding spacing end run broughtLeft played
   run-table = facts .table
 
@@ -197,16 +200,20 @@ module _ (a : BringUp) (ctx routes log outcomes : List ℕ) where
   pub bring-up-full : (routeOf routes (a .slot) 1 ≡ 0 → ⊥) → Refused ctx routes log (bringUp a ctx routes log outcomes)
   bring-up-full h = full-of (bringUp a ctx routes log outcomes) (bring-up-cases a ctx routes log outcomes) h
 
-  table-of : (l : Left) → Refused ctx routes log l ⊎ Run l →
-      (l .routes ≡ routes) ⊎ (l .routes ≡ withRoute routes (a .slot) 1 (a .ring))
+  -- one that ran has registered control's route
+  pub ran-table : (l : Left) → Run l → l .routes ≡ withRoute routes (a .slot) 1 (controlRing a)
   unfolding run
+  ran-table l r = ap (λ x. x .routes) (r .left) ∙ run-table
+
+  table-of : (l : Left) → Refused ctx routes log l ⊎ Run l →
+      (l .routes ≡ routes) ⊎ (l .routes ≡ withRoute routes (a .slot) 1 (controlRing a))
   table-of l (inl r) = inl (r .table)
-  table-of l (inr r) = inr (ap (λ x. x .routes) (r .left) ∙ run-table)
+  table-of l (inr r) = inr (ran-table l r)
 
   -- the table: as it was, or with control's route
   pub bring-up-table :
       ((bringUp a ctx routes log outcomes) .routes ≡ routes)
-      ⊎ ((bringUp a ctx routes log outcomes) .routes ≡ withRoute routes (a .slot) 1 (a .ring))
+      ⊎ ((bringUp a ctx routes log outcomes) .routes ≡ withRoute routes (a .slot) 1 (controlRing a))
   bring-up-table = table-of (bringUp a ctx routes log outcomes) (bring-up-cases a ctx routes log outcomes)
 
   -- its length
@@ -214,9 +221,9 @@ module _ (a : BringUp) (ctx routes log outcomes : List ℕ) where
   unfolding withRoute
   bring-up-length = go ((bringUp a ctx routes log outcomes) .routes) bring-up-table
     where
-      go : (r : List ℕ) → (r ≡ routes) ⊎ (r ≡ withRoute routes (a .slot) 1 (a .ring)) → length r ≡ length routes
+      go : (r : List ℕ) → (r ≡ routes) ⊎ (r ≡ withRoute routes (a .slot) 1 (controlRing a)) → length r ≡ length routes
       go r (inl e) = ap length e
-      go r (inr e) = ap length e ∙ length-set routes (routeIndex (a .slot) 1) (a .ring)
+      go r (inr e) = ap length e ∙ length-set routes (routeIndex (a .slot) 1) (controlRing a)
 
   -- and every word that is none of the slot's
   pub bring-up-outside : (k : ℕ) → OutsideSlot (a .slot) k →
@@ -224,11 +231,11 @@ module _ (a : BringUp) (ctx routes log outcomes : List ℕ) where
   unfolding withRoute
   bring-up-outside k h = go ((bringUp a ctx routes log outcomes) .routes) bring-up-table
     where
-      go : (r : List ℕ) → (r ≡ routes) ⊎ (r ≡ withRoute routes (a .slot) 1 (a .ring)) → getD r k 0 ≡ getD routes k 0
+      go : (r : List ℕ) → (r ≡ routes) ⊎ (r ≡ withRoute routes (a .slot) 1 (controlRing a)) → getD r k 0 ≡ getD routes k 0
       go r (inl e) = ap (λ x. getD x k 0) e
       go r (inr e) =
           ap (λ x. getD x k 0) e
-          ∙ getD-set-other routes (routeIndex (a .slot) 1) k (a .ring) 0 (λ p. index-inside (a .slot) 1 k (omega arith) h (sym p))
+          ∙ getD-set-other routes (routeIndex (a .slot) 1) k (controlRing a) 0 (λ p. index-inside (a .slot) 1 k (omega arith) h (sym p))
 
   sound-of : (l : Left) → Refused ctx routes log l ⊎ Run l → (l .device .usable ≡ false) ⊎ (sound (l .device) ≡ true)
   unfolding run broughtLeft noDevice
@@ -252,30 +259,29 @@ module _ (a : BringUp) (ctx routes log outcomes : List ℕ) where
   pub bring-up-done : bringUpCheck a (length ctx) routes (length log) ≡ Pass → a .header ≡ 8 → exponentOk (a .speed) (a .packet) ≡ true →
       AllDone outcomes 0 (8 + configurations (a .list)) → (bringUp a ctx routes log outcomes) .answer ≡ answer.Accepted
   unfolding bringUp onCheck broughtLeft played bringUpCourse
-  bring-up-done p e f h = rw p (address-done a (spacingOf (length ctx)) (withRoute routes (a .slot) 1 (a .ring)) outcomes h ctx e f)
+  bring-up-done p e f h = rw p (address-done a (spacingOf (length ctx)) (withRoute routes (a .slot) 1 (controlRing a)) outcomes h ctx e f)
 
 -- the slot's own words after an accepted bring-up
 module _ (a : BringUp) (ctx routes log : List ℕ) (l : Left) (b : BroughtUp a ctx routes log l) where
   -- control's
-  pub brought-control : routeOf (l .routes) (a .slot) 1 ≡ a .ring
+  pub brought-control : routeOf (l .routes) (a .slot) 1 ≡ controlRing a
   unfolding routeOf withRoute routeIndex
   brought-control =
-      rw (b .table) (getD-set-same routes (32 * a .slot + 1) (a .ring) 0 (omega (arith, b .pass .table, b .pass .slot-high)))
+      rw (b .table) (getD-set-same routes (32 * a .slot + 1) (controlRing a) 0 (omega (arith, b .pass .table, b .pass .slot-high)))
 
   -- and the others
   pub brought-others : (d : ℕ) → (d ≡ 1 → ⊥) → routeOf (l .routes) (a .slot) d ≡ routeOf routes (a .slot) d
   unfolding routeOf withRoute routeIndex
   brought-others d n =
-      rw (b .table) (getD-set-other routes (32 * a .slot + 1) (32 * a .slot + d) (a .ring) 0 (λ p. n (omega arith)))
+      rw (b .table) (getD-set-other routes (32 * a .slot + 1) (32 * a .slot + d) (controlRing a) 0 (λ p. n (omega arith)))
 
   -- control's ring is none that is 0
-  pub brought-ring : a .ring ≡ 0 → ⊥
-  unfolding ringOk
-  brought-ring e = not-both (eqb (a .ring) 0) (eq-eqb (a .ring) 0 e) (not-true (eqb (a .ring) 0) (and-left _ _ (b .pass .ring)))
+  pub brought-ring : controlRing a ≡ 0 → ⊥
+  brought-ring = ring-nonzero (controlRing a) (control-ok a (b .pass .rings))
 
 -- the words that the course logs: at most eight, and one for each configuration
 pub bring-up-words :
     (a : BringUp) (spacing : ℕ) (ctx routes o : List ℕ) →
     length (words o 0 (bringUpCourse a spacing ctx routes)) ≤ 8 + configurations (a .list)
 unfolding bringUpCourse
-bring-up-words a spacing ctx routes o = address-words a spacing (withRoute routes (a .slot) 1 (a .ring)) o ctx
+bring-up-words a spacing ctx routes o = address-words a spacing (withRoute routes (a .slot) 1 (controlRing a)) o ctx

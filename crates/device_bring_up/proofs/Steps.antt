@@ -9,7 +9,8 @@ use lib.Dec.{eqb}
 use lib.ListN.{length}
 use Rattle.def.specs.Speed.{speedKnown}
 use Rattle.hub.specs.Chain.{chainOk}
-use Rattle.record_ring.specs.Rings.{ringOk}
+use Rattle.record_ring.specs.Store.{givenOk}
+use Rattle.record_ring.proofs.Promises.{given-promise}
 use Rattle.descriptor_list.specs.Valid.{validList}
 use Rattle.descriptor_list.proofs.Laws.{valid-length}
 use Rattle.transfer.specs.declared.Registered.the-variants as register
@@ -20,7 +21,7 @@ use Rattle.answer.specs.declared.Check.{Check}
 use Rattle.answer.specs.declared.Check.the-variants.{Pass, Refuse}
 use Rattle.command.specs.Course.{Played, played}
 use Rattle.context.specs.Place.{Spaced, spacingOf}
-use Rattle.course_init.specs.Reading.{BringUp, Brought}
+use Rattle.course_init.specs.Reading.{BringUp, controlRing, Brought}
 use Rattle.course_init.specs.Init.{bringUpAddress}
 use Rattle.device.specs.declared.record.Device.{Device}
 use Rattle.device.specs.Device.{noDevice}
@@ -58,19 +59,19 @@ module _ (a : BringUp) (routes : List ℕ) where
   unfolding registered queueCheck
   queue-free e = free-test (eqb (routeOf routes (a .slot) 1) 0) e
 
-  queue-pass : queueCheck a routes ≡ Pass → withRegistered routes (a .slot) 1 (a .ring) ≡ withRoute routes (a .slot) 1 (a .ring)
+  queue-pass : queueCheck a routes ≡ Pass → withRegistered routes (a .slot) 1 (controlRing a) ≡ withRoute routes (a .slot) 1 (controlRing a)
   unfolding withRegistered queueCheck
-  queue-pass e = pass-test (eqb (routeOf routes (a .slot) 1) 0) (withRoute routes (a .slot) 1 (a .ring)) routes e
+  queue-pass e = pass-test (eqb (routeOf routes (a .slot) 1) 0) (withRoute routes (a .slot) 1 (controlRing a)) routes e
 
-  queue-refuse : (x : Answer) → queueCheck a routes ≡ Refuse x → withRegistered routes (a .slot) 1 (a .ring) ≡ routes
+  queue-refuse : (x : Answer) → queueCheck a routes ≡ Refuse x → withRegistered routes (a .slot) 1 (controlRing a) ≡ routes
   unfolding withRegistered queueCheck
-  queue-refuse x e = refuse-test (eqb (routeOf routes (a .slot) 1) 0) (withRoute routes (a .slot) 1 (a .ring)) routes x e
+  queue-refuse x e = refuse-test (eqb (routeOf routes (a .slot) 1) 0) (withRoute routes (a .slot) 1 (controlRing a)) routes x e
 
 -- What the checks answer, and the table that they leave.
 abbrev Entered : BringUp → ℕ → List ℕ → ℕ → Check → List ℕ → Type 0
 Entered a ctx routes log r left =
     (r ≡ bringUpCheck a ctx routes log)
-    × (r ≡ Pass → left ≡ withRoute routes (a .slot) 1 (a .ring))
+    × (r ≡ Pass → left ≡ withRoute routes (a .slot) 1 (controlRing a))
     × ((x : Answer) → r ≡ Refuse x → left ≡ routes)
 
 -- what a test in the code says of what it tests
@@ -101,15 +102,15 @@ module _ (a : BringUp) (ctx : ℕ) (routes : List ℕ) (log : ℕ) where
     chain-refused e f g = not-entered answer.HubChain (sym (base ∙ rw (e, f, g)))
 
     pub ring-refused : speedKnown (a .speed) ≡ true → validList (a .list) ≡ true → chainOk (a .hubs) (a .hasParent) (a .parent) ≡ true →
-        ringOk (a .ring) ≡ false → Entered a ctx routes log (Refuse answer.Rings) routes
+        givenOk (a .rings) ≡ false → Entered a ctx routes log (Refuse answer.Rings) routes
     unfolding deviceCheck
     ring-refused e f g h = not-entered answer.Rings (sym (base ∙ rw (e, f, g, h)))
 
     -- they pass, and 17 decides
     pub entered :
         speedKnown (a .speed) ≡ true → validList (a .list) ≡ true → chainOk (a .hubs) (a .hasParent) (a .parent) ≡ true →
-        ringOk (a .ring) ≡ true → (r : Check) (left : List ℕ) → r ≡ queueCheck a routes →
-        left ≡ withRegistered routes (a .slot) 1 (a .ring) → Entered a ctx routes log r left
+        givenOk (a .rings) ≡ true → (r : Check) (left : List ℕ) → r ≡ queueCheck a routes →
+        left ≡ withRegistered routes (a .slot) 1 (controlRing a) → Entered a ctx routes log r left
     unfolding deviceCheck
     entered e f g h r left q l = (
       q ∙ sym (base ∙ rw (e, f, g, h)),
@@ -147,5 +148,5 @@ module _
   spacing-taken spacing s = s ∙ facts .taken
 
   -- and the record
-  pub record-room : (a .n ≤ 255) × (length (a .list) ≤ 256)
-  record-room = (facts .n-high, valid-length (a .list) (facts .list))
+  pub record-room : (a .«max_slots» ≤ 255) × ((length (a .list) ≤ 256) × (length (a .rings) ≤ 64))
+  record-room = (facts .n-high, (valid-length (a .list) (facts .list), given-promise (a .rings) .0 (facts .rings) .room))

@@ -8,7 +8,7 @@ use Rattle.def.specs.Speed.{speedKnown}
 use Rattle.descriptor_list.specs.Valid.{LIST-ROOM, validList}
 use Rattle.hub.specs.Chain.{chainOk}
 use Rattle.transfer.specs.Routes.{routeOf, withRoute}
-use Rattle.record_ring.specs.Rings.{ringOk}
+use Rattle.record_ring.specs.Store.{GIVEN-ROOM, givenOk}
 use Rattle.answer.specs.declared.Answer.the-variants as answer
 use Rattle.answer.specs.declared.Check.{Check}
 use Rattle.answer.specs.declared.Check.the-variants.{Pass}
@@ -19,7 +19,7 @@ use Rattle.command.specs.Course.{Course, Played, played}
 use Rattle.context.specs.Place.{spacingOf}
 use Rattle.record_endpoint.specs.declared.entry.Handle.the-variants.{Active}
 use Rattle.record_endpoint.specs.Endpoint.{padded}
-use Rattle.course_init.specs.Reading.{BringUp, Brought}
+use Rattle.course_init.specs.Reading.{BringUp, controlRing, Brought}
 use Rattle.course_init.specs.Init.{bringUpAddress}
 use Rattle.device.specs.declared.record.Device.{Device}
 use Rattle.device.specs.Device.{keep, put, rebuilt, noDevice}
@@ -29,9 +29,9 @@ use Rattle.device.specs.Calls.{onCheck}
 -- 11, 1, 2, 3, then what follows.
 unfoldable pub slotCheck : BringUp → ℕ → ℕ → ℕ → Check → Check
 slotCheck a ctx routes log next =
-    unless (leb 1 (a .slot) && (leb (a .slot) (a .n) && leb (a .n) 255)) answer.SlotLimitReached
+    unless (leb 1 (a .slot) && (leb (a .slot) (a .«max_slots») && leb (a .«max_slots») 255)) answer.SlotLimitReached
     (unless (eqb ctx 1056 || eqb ctx 2112) answer.ContextLength
-    (unless (eqb routes (32 * (a .n + 1))) answer.RoutesLength
+    (unless (eqb routes (32 * (a .«max_slots» + 1))) answer.RoutesLength
     (unless (leb LOG-ROOM log) answer.LogTooShort next)))
 
 -- 6, 4, 5, 10, then what follows.
@@ -40,7 +40,7 @@ deviceCheck a next =
     unless (speedKnown (a .speed)) answer.Speed
     (unless (validList (a .list)) answer.DescriptorList
     (unless (chainOk (a .hubs) (a .hasParent) (a .parent)) answer.HubChain
-    (unless (ringOk (a .ring)) answer.Rings next)))
+    (unless (givenOk (a .rings)) answer.Rings next)))
 
 -- 17: the word of Dci 1 is not 0.
 unfoldable pub queueCheck : BringUp → List ℕ → Check
@@ -52,7 +52,7 @@ bringUpCheck a ctx routes log = slotCheck a ctx (length routes) log (deviceCheck
 
 -- Control's route is registered first.
 unfoldable pub bringUpCourse : BringUp → ℕ → List ℕ → List ℕ → Course Brought
-bringUpCourse a spacing ctx routes = bringUpAddress a spacing ctx (withRoute routes (a .slot) 1 (a .ring))
+bringUpCourse a spacing ctx routes = bringUpAddress a spacing ctx (withRoute routes (a .slot) 1 (controlRing a))
 
 -- The record of a device that holds no setting.
 unfoldable pub broughtRecord : BringUp → ℕ → Brought → Device
@@ -62,16 +62,19 @@ broughtRecord a spacing e =
     (put
     (record {
       slot = a .slot;
-      n = a .n;
+      «max_slots» = a .«max_slots»;
       spacing = spacing;
       speed = a .speed;
       list = padded LIST-ROOM 0 (e .read .list);
       listLength = length (e .read .list);
-      control = a .ring;
+      control = controlRing a;
+      given = padded GIVEN-ROOM 0 (a .rings);
+      givenCount = length (a .rings);
     }))
     (put
     (record {
       usable = isAccepted (e .answer);
+      up = isAccepted (e .answer);
       configured = e .read .configured;
       value = e .read .value;
       handle = Active;

@@ -19,13 +19,27 @@ pub fn bring_up(
     log: &mut [u32],
     outcomes: &[u8],
     a: BringUpArgs,
+    rings: &[u64],
     hubs: &[u64],
     list: &[u32],
 ) -> Called
-    ensures { λ r. ⌜ leaves r (now (ctx .exit)) (now (routes .exit)) (now (log .exit)) ≡ bringUp (bringUpOf a (now (hubs .entry)) (now (list .entry))) (now (ctx .entry)) (now (routes .entry)) (now (log .entry)) (now (outcomes .entry)) ⌝ }
+    ensures { λ r. ⌜ leaves r (now (ctx .exit)) (now (routes .exit)) (now (log .exit))
+        ≡ bringUp (bringUpOf a (now (rings .entry)) (now (hubs .entry)) (now (list .entry))) (now (ctx .entry)) (now (routes .entry)) (now (log .entry))
+        (now (outcomes .entry)) ⌝ }
 {
     let spacing = spacing_of(ctx.len());
-    let check = check::enter(routes, a, spacing, ctx.len(), log.len(), hubs, list);
+    let ring = record_ring::least(rings);
+    let check = check::enter(
+        routes,
+        a,
+        spacing,
+        ctx.len(),
+        log.len(),
+        ring,
+        rings,
+        hubs,
+        list,
+    );
     if let Check::Refuse(x) = check {
         return Called {
             device: device::no_device(),
@@ -33,8 +47,8 @@ pub fn bring_up(
             count: 0,
         };
     }
-    let e = course_init::address(ctx, routes, log, outcomes, a, spacing, hubs, list);
-    record::brought(a, spacing, e, list)
+    let e = course_init::address(ctx, routes, log, outcomes, a, spacing, ring, hubs, list);
+    record::brought(a, spacing, e, ring, rings, list)
 }
 
 // The spacing of a context's blocks, by its length; a length that is none of a context is refused.

@@ -9,6 +9,7 @@ use borrow.Author.Tests.{eq-eqb}
 use mir.Val.{boolByte}
 use lib.ListN.{length, getD, take}
 use lib.Seq.{sets}
+use Rattle.laws.specs.Bounds.{Below}
 use Rattle.laws.proofs.Tests.{and-true}
 use Rattle.record_endpoint.specs.EndpointMap.{tabulated}
 use Rattle.record_endpoint.specs.Endpoint.{blank}
@@ -17,17 +18,18 @@ use Rattle.record_endpoint.specs.declared.entry.Handle.the-variants.{Active, Re
 use Rattle.device.specs.declared.record.Device.{Device}
 use Rattle.descriptor_list.specs.Valid.{LIST-ROOM}
 use Rattle.record_ring.specs.Rings.{RING-ROOM}
+use Rattle.record_ring.specs.Store.{GIVEN-ROOM}
 use Rattle.record_endpoint.specs.Order.{PLACES}
 use Rattle.record_settings.specs.Held.{HELD-ROOM}
-use Rattle.device_image.specs.Layout.{USABLE, CONFIGURED, CONTROL-REVOKED, EP-REVOKED, SLOT, N, PORT-SPEED, CURRENT-CONFIG-VALUE, EP-ADDRESSES, EP-INTERFACES, INTERFACES, ALTERNATES, LIST, SPACING, LIST-LEN, EP-COUNT, HELD-COUNT, QUARANTINED-COUNT, CONTROL, EP-RINGS, QUARANTINED, WORDS}
+use Rattle.device_image.specs.Layout.{USABLE, CONFIGURED, CONTROL-REVOKED, EP-REVOKED, SLOT, MAX-SLOTS, PORT-SPEED, CURRENT-CONFIG-VALUE, EP-ADDRESSES, EP-INTERFACES, INTERFACES, ALTERNATES, LIST, SPACING, LIST-LEN, EP-COUNT, HELD-COUNT, QUARANTINED-COUNT, CONTROL, EP-RINGS, QUARANTINED, UP, GIVEN-COUNT, GIVEN, WORDS}
 use Rattle.device_image.specs.Image.{flag, revoked, handleWord, addressWord, ringWord, parts, encode, isSet, handleIn, numberAt, endpointIn, read, decode, stored, below, isImage}
-use Rattle.device_image.specs.Fits.{Below, Fits}
-use Rattle.device_image.proofs.Steps.{mapped, length-mapped, image-flag, image-byte, image-word}
+use Rattle.device_image.specs.Fits.{Fits}
+use Rattle.device_image.proofs.Steps.{mapped, length-mapped, image-flag, image-byte, image-word, image-up}
 use Rattle.device_image.proofs.Steps as steps
 use Rattle.device_image.proofs.Parts.{sum, map-size, laid-cuts, lay, length-joined, at-part, tabulated-list, tabulated-same, tabulated-map, tabulated-length, tabulated-at, cuts, cuts-joined, number-list, below-run, below-add}
 
 abbrev SIZES : List ℕ
-SIZES = 3 ∷ PLACES ∷ 4 ∷ PLACES ∷ PLACES ∷ HELD-ROOM ∷ HELD-ROOM ∷ LIST-ROOM ∷ 6 ∷ PLACES ∷ RING-ROOM ∷ []
+SIZES = 3 ∷ PLACES ∷ 4 ∷ PLACES ∷ PLACES ∷ HELD-ROOM ∷ HELD-ROOM ∷ LIST-ROOM ∷ 6 ∷ PLACES ∷ RING-ROOM ∷ 2 ∷ GIVEN-ROOM ∷ []
 
 flag-back : (b : Bool) → isSet (flag b) ≡ b
 unfolding isSet flag
@@ -66,11 +68,14 @@ abbrev flagsOf : Device → List ℕ
 flagsOf d = flag (d .usable) ∷ flag (d .configured) ∷ revoked (d .«control_handle») ∷ []
 
 abbrev bytesOf : Device → List ℕ
-bytesOf d = d .slot .0 ∷ d .n ∷ d .«port_speed» ∷ d .«current_config_value» ∷ []
+bytesOf d = d .slot .0 ∷ d .«max_slots» ∷ d .«port_speed» ∷ d .«current_config_value» ∷ []
 
 abbrev countsOf : Device → List ℕ
 countsOf d =
     d .spacing ∷ d .«list_len» ∷ d .«ep_count» ∷ d .«held_count» ∷ d .«quarantined_count» ∷ d .control ∷ []
+
+abbrev upOf : Device → List ℕ
+upOf d = flag (d .up) ∷ d .«given_count» ∷ []
 
 flag-byte : (b : Bool) → boolByte b ≡ flag b
 unfolding flag
@@ -91,7 +96,7 @@ module _ (d : Device) (fits : Fits d) where
   sizes : map length (parts d) ≡ SIZES
   unfolding parts
   sizes =
-      rw (length-mapped handleWord (d .eps) (fits .eps .0), length-mapped addressWord (d .eps) (fits .eps .0), length-mapped ringWord (d .eps) (fits .eps .0), fits .owners .0, fits .interfaces .0, fits .alternates .0, fits .list .0, fits .quarantined)
+      rw (length-mapped handleWord (d .eps) (fits .eps .0), length-mapped addressWord (d .eps) (fits .eps .0), length-mapped ringWord (d .eps) (fits .eps .0), fits .owners .0, fits .interfaces .0, fits .alternates .0, fits .list .0, fits .quarantined, fits .given)
 
   -- Word i of part j of an image.
   at :
@@ -108,20 +113,24 @@ module _ (d : Device) (fits : Fits d) where
 
   -- What is left where each part is written over a buffer.
   pub encoded :
-      (l : List ℕ) → length l ≡ WORDS → {l1 l2 l3 l4 : List ℕ} {w : ℕ} → l1 ≡ sets l LIST (d .list) →
+      (l : List ℕ) → length l ≡ WORDS → {l1 l2 l3 l4 l5 : List ℕ} {w : ℕ} → l1 ≡ sets l LIST (d .list) →
       l2
       ≡ sets (sets (sets (sets l1 EP-REVOKED (map handleWord (d .eps))) EP-ADDRESSES (map addressWord (d .eps))) EP-INTERFACES (d .«ep_interfaces»)) EP-RINGS
       (map ringWord (d .eps)) →
       l3 ≡ sets (sets l2 INTERFACES (d .interfaces)) ALTERNATES (d .alternates) → l4 ≡ sets l3 QUARANTINED (d .quarantined) →
+      l5 ≡ sets l4 GIVEN (d .given) →
       w ≡ revoked (d .«control_handle») →
-      sets (sets (sets l4 USABLE (boolByte (d .usable) ∷ boolByte (d .configured) ∷ w ∷ [])) SLOT (bytesOf d)) SPACING (countsOf d)
+      sets (sets (sets (sets l5 USABLE (boolByte (d .usable) ∷ boolByte (d .configured) ∷ w ∷ [])) SLOT (bytesOf d)) SPACING (countsOf d)) UP
+      (boolByte (d .up) ∷ d .«given_count» ∷ [])
       ≡ stored d l
   unfolding encode parts stored sum cuts
-  encoded l e a b c f g =
-      rw (eq-eqb (length l) WORDS e, g, flag-byte (d .usable), flag-byte (d .configured), f, c, b, a)
+  encoded l e a b c f h g =
+      rw (eq-eqb (length l) WORDS e, g, flag-byte (d .usable), flag-byte (d .configured), flag-byte (d .up), h, f, c, b, a)
+      (lay 11 (upOf d) refl
       (lay 8 (countsOf d) refl
       (lay 2 (bytesOf d) refl
       (lay 0 (flagsOf d) refl
+      (lay 12 (d .given) (fits .given)
       (lay 10 (d .quarantined) (fits .quarantined)
       (lay 6 (d .alternates) (fits .alternates .0)
       (lay 5 (d .interfaces) (fits .interfaces .0)
@@ -129,7 +138,7 @@ module _ (d : Device) (fits : Fits d) where
       (lay 4 (d .«ep_interfaces») (fits .owners .0)
       (lay 3 (map addressWord (d .eps)) (length-mapped addressWord (d .eps) (fits .eps .0))
       (lay 1 (map handleWord (d .eps)) (length-mapped handleWord (d .eps) (fits .eps .0))
-      (lay 7 (d .list) (fits .list .0) (laid-cuts SIZES l e))))))))))) .joined)
+      (lay 7 (d .list) (fits .list .0) (laid-cuts SIZES l e))))))))))))) .joined)
 
   module _ (j k a : ℕ) (p : List ℕ) (ek : getD SIZES j 0 ≡ k) (ea : sum (take j SIZES) ≡ a) (ep : getD (parts d) j [] ≡ p) where
     word : (i : ℕ) → i < k → getD (encode d) (a + i) 0 ≡ getD p i 0
@@ -186,6 +195,18 @@ module _ (d : Device) (fits : Fits d) where
   unfolding sum parts
   count-at i h = word 8 6 SPACING (countsOf d) refl refl refl i h
 
+  up-at : getD (encode d) UP 0 ≡ flag (d .up)
+  unfolding sum parts
+  up-at = word 11 2 UP (upOf d) refl refl refl 0 (omega arith)
+
+  given-count-at : getD (encode d) GIVEN-COUNT 0 ≡ d .«given_count»
+  unfolding sum parts
+  given-count-at = word 11 2 UP (upOf d) refl refl refl 1 (omega arith)
+
+  given-back : tabulated (numberAt (encode d)) GIVEN-ROOM GIVEN ≡ d .given
+  unfolding sum parts
+  given-back = back 12 GIVEN-ROOM GIVEN (d .given) refl refl refl (fits .given)
+
   list-back : tabulated (numberAt (encode d)) LIST-ROOM LIST ≡ d .list
   unfolding sum parts
   list-back = back 7 LIST-ROOM LIST (d .list) refl refl refl (fits .list .0)
@@ -206,10 +227,11 @@ module _ (d : Device) (fits : Fits d) where
   unfolding read
   read-encode =
       let usable : isSet (getD (encode d) USABLE 0) ≡ d .usable = ap isSet (flag-at 0 (omega arith)) ∙ flag-back (d .usable) in
+      let up : isSet (getD (encode d) UP 0) ≡ d .up = ap isSet up-at ∙ flag-back (d .up) in
       let configured : isSet (getD (encode d) CONFIGURED 0) ≡ d .configured = ap isSet (flag-at 1 (omega arith)) ∙ flag-back (d .configured) in
       let handle : handleIn (getD (encode d) CONTROL-REVOKED 0) ≡ d .«control_handle» = ap handleIn (flag-at 2 (omega arith)) ∙ handle-back (d .«control_handle») in
       let slot : getD (encode d) SLOT 0 ≡ d .slot .0 = byte-at 0 (omega arith) in
-      let n : getD (encode d) N 0 ≡ d .n = byte-at 1 (omega arith) in
+      let n : getD (encode d) MAX-SLOTS 0 ≡ d .«max_slots» = byte-at 1 (omega arith) in
       let speed : getD (encode d) PORT-SPEED 0 ≡ d .«port_speed» = byte-at 2 (omega arith) in
       let value : getD (encode d) CURRENT-CONFIG-VALUE 0 ≡ d .«current_config_value» = byte-at 3 (omega arith) in
       let spacing : getD (encode d) SPACING 0 ≡ d .spacing = count-at 0 (omega arith) in
@@ -218,7 +240,7 @@ module _ (d : Device) (fits : Fits d) where
       let held : getD (encode d) HELD-COUNT 0 ≡ d .«held_count» = count-at 3 (omega arith) in
       let rings : getD (encode d) QUARANTINED-COUNT 0 ≡ d .«quarantined_count» = count-at 4 (omega arith) in
       let control : getD (encode d) CONTROL 0 ≡ d .control = count-at 5 (omega arith) in
-      rw (usable, configured, handle, slot, n, speed, value, spacing, words, endpoints, held, rings, control, list-back, endpoints-back, owners-back, interfaces-back, alternates-back, quarantined-back)
+      rw (usable, up, configured, handle, slot, n, speed, value, spacing, words, endpoints, held, rings, control, list-back, endpoints-back, owners-back, interfaces-back, alternates-back, quarantined-back, given-count-at, given-back)
       refl
 
   handles : Below 2 (map handleWord (d .eps))
@@ -240,7 +262,7 @@ module _ (d : Device) (fits : Fits d) where
       (and-true _ _
       (below-add 256 4 (LIST - EP-ADDRESSES) SLOT (encode d)
       (run 2 4 SLOT (bytesOf d) refl refl refl 256 refl
-      (cons-below 256 (d .slot .0) (d .n ∷ d .«port_speed» ∷ d .«current_config_value» ∷ []) (fits .slot) (three-below 256 _ _ _ (fits .n) (fits .speed) (fits .value))))
+      (cons-below 256 (d .slot .0) (d .«max_slots» ∷ d .«port_speed» ∷ d .«current_config_value» ∷ []) (fits .slot) (three-below 256 _ _ _ (fits .«max_slots») (fits .speed) (fits .value))))
       (below-add 256 PLACES (LIST - EP-INTERFACES) EP-ADDRESSES (encode d)
       (run 3 PLACES EP-ADDRESSES (map addressWord (d .eps)) refl refl refl 256 (length-mapped addressWord (d .eps) (fits .eps .0)) (fits .eps .1))
       (below-add 256 PLACES (LIST - INTERFACES) EP-INTERFACES (encode d)
@@ -248,7 +270,8 @@ module _ (d : Device) (fits : Fits d) where
       (below-add 256 HELD-ROOM HELD-ROOM INTERFACES (encode d)
       (run 5 HELD-ROOM INTERFACES (d .interfaces) refl refl refl 256 (fits .interfaces .0) (fits .interfaces .1))
       (run 6 HELD-ROOM ALTERNATES (d .alternates) refl refl refl 256 (fits .alternates .0) (fits .alternates .1))))))
-      (run 7 LIST-ROOM LIST (d .list) refl refl refl 4294967296 (fits .list .0) (fits .list .1))))
+      (and-true _ _ (run 7 LIST-ROOM LIST (d .list) refl refl refl 4294967296 (fits .list .0) (fits .list .1))
+      (below-run 2 1 UP (encode d) (λ i h. let z : i ≡ 0 = omega arith in rw (z, up-at) (flag-below (d .up)))))))
 
   -- The record is what its image says.
   pub decode-encode : decode (encode d) ≡ d
@@ -284,9 +307,13 @@ module _ (l : List ℕ) (image : isImage l ≡ true) where
       rw (flag-word (getD l USABLE 0) (image-flag l image USABLE (omega arith)), flag-word (getD l CONFIGURED 0) (image-flag l image CONFIGURED (omega arith)), handle-word (getD l CONTROL-REVOKED 0) (image-flag l image CONTROL-REVOKED (omega arith)))
       refl
 
+  up-cut : upOf (read l) ≡ tabulated (numberAt l) 2 UP
+  unfolding read tabulated numberAt
+  up-cut = rw (flag-word (getD l UP 0) (image-up l image)) refl
+
   parts-cut : parts (read l) ≡ cuts SIZES 0 l
   unfolding parts read cuts tabulated numberAt
-  parts-cut = rw (flags-cut, handles-cut, addresses-cut l, rings-cut l) refl
+  parts-cut = rw (flags-cut, handles-cut, addresses-cut l, rings-cut l, up-cut) refl
 
   pub image-length : length l ≡ WORDS
   image-length = steps.image-length l image
@@ -313,7 +340,7 @@ module _ (l : List ℕ) (byte : (i : ℕ) → SLOT ≤ i → i < LIST → getD l
   fits-read =
       record {
         slot = byte SLOT (omega arith) (omega arith);
-        n = byte N (omega arith) (omega arith);
+        «max_slots» = byte MAX-SLOTS (omega arith) (omega arith);
         speed = byte PORT-SPEED (omega arith) (omega arith);
         value = byte CURRENT-CONFIG-VALUE (omega arith) (omega arith);
         list = narrow 4294967296 LIST-ROOM LIST (λ i q. word (LIST + i) (omega arith) (omega arith));
@@ -322,6 +349,7 @@ module _ (l : List ℕ) (byte : (i : ℕ) → SLOT ≤ i → i < LIST → getD l
         interfaces = bytes HELD-ROOM INTERFACES (omega arith) (omega arith);
         alternates = bytes HELD-ROOM ALTERNATES (omega arith) (omega arith);
         quarantined = tabulated-length (numberAt l) RING-ROOM QUARANTINED;
+        given = tabulated-length (numberAt l) GIVEN-ROOM GIVEN;
       }
 
 pub fits-decode : (l : List ℕ) → Fits (decode l)

@@ -14,6 +14,7 @@ use native.Mathlib.Omega.{arith}
 use borrow.Author.Tests.{lt-ltb, le-ltb, eqb-true, ltb-true}
 use lib.ListN.{length, getD, set, take, drop, length-set, length-drop, drop-of-length-le}
 use lib.Seq.{take-suc-set, take-all, drop-cons, set-comm, sets}
+use Rattle.laws.specs.Bounds.{Below}
 use Rattle.laws.proofs.Tests.{and-left, and-right}
 use Rattle.record_endpoint.specs.EndpointMap.{tabulated}
 use Rattle.record_endpoint.specs.declared.entry.Handle.{Handle}
@@ -24,11 +25,11 @@ use Rattle.record_endpoint.specs.Endpoint.{blank}
 use Rattle.device.specs.declared.record.Device.{Device}
 use Rattle.descriptor_list.specs.Valid.{LIST-ROOM}
 use Rattle.record_ring.specs.Rings.{RING-ROOM}
+use Rattle.record_ring.specs.Store.{GIVEN-ROOM}
 use Rattle.record_endpoint.specs.Order.{PLACES}
 use Rattle.record_settings.specs.Held.{HELD-ROOM}
-use Rattle.device_image.specs.Layout.{USABLE, CONTROL-REVOKED, EP-REVOKED, SLOT, EP-ADDRESSES, EP-INTERFACES, INTERFACES, ALTERNATES, LIST, SPACING, EP-RINGS, QUARANTINED, WORDS}
+use Rattle.device_image.specs.Layout.{USABLE, CONTROL-REVOKED, EP-REVOKED, SLOT, EP-ADDRESSES, EP-INTERFACES, INTERFACES, ALTERNATES, LIST, SPACING, EP-RINGS, QUARANTINED, UP, GIVEN-COUNT, GIVEN, WORDS}
 use Rattle.device_image.specs.Image.{handleWord, addressWord, ringWord, handleIn, numberAt, endpointsIn, numbered, read, below, isImage, decode}
-use Rattle.device_image.specs.Fits.{Below}
 use Rattle.device_image.proofs.Parts.{below-in}
 
 tabulated-snoc : {A : Type 0} (f : ℕ → A) (k a : ℕ) → tabulated f (suc k) a ≡ tabulated f k a ++ (f (a + k) ∷ [])
@@ -216,12 +217,18 @@ below-none bound k i l h = let e : k - i ≡ 0 = omega arith in rw e
 
 -- What an image is.
 module _ (l : List ℕ) (e : isImage l ≡ true) where
-  bounds : (below 2 (SLOT - USABLE) USABLE l && (below 256 (LIST - SLOT) SLOT l && below 4294967296 (SPACING - LIST) LIST l)) ≡ true
+  bounds :
+      (below 2 (SLOT - USABLE) USABLE l
+      && (below 256 (LIST - SLOT) SLOT l && (below 4294967296 (SPACING - LIST) LIST l && below 2 (GIVEN-COUNT - UP) UP l)))
+      ≡ true
   unfolding isImage
   bounds = and-right (eqb (length l) WORDS) _ e
 
-  numbers : (below 256 (LIST - SLOT) SLOT l && below 4294967296 (SPACING - LIST) LIST l) ≡ true
+  numbers : (below 256 (LIST - SLOT) SLOT l && (below 4294967296 (SPACING - LIST) LIST l && below 2 (GIVEN-COUNT - UP) UP l)) ≡ true
   numbers = and-right (below 2 (SLOT - USABLE) USABLE l) _ bounds
+
+  words : (below 4294967296 (SPACING - LIST) LIST l && below 2 (GIVEN-COUNT - UP) UP l) ≡ true
+  words = and-right (below 256 (LIST - SLOT) SLOT l) _ numbers
 
   pub image-length : length l ≡ WORDS
   unfolding isImage
@@ -237,15 +244,18 @@ module _ (l : List ℕ) (e : isImage l ≡ true) where
   image-byte i g h = below-in 256 (LIST - SLOT) SLOT l (and-left (below 256 (LIST - SLOT) SLOT l) _ numbers) i g (omega arith)
 
   pub image-word : (i : ℕ) → LIST ≤ i → i < SPACING → getD l i 0 < 4294967296
-  image-word i g h = below-in 4294967296 (SPACING - LIST) LIST l (and-right (below 256 (LIST - SLOT) SLOT l) _ numbers) i g (omega arith)
+  image-word i g h = below-in 4294967296 (SPACING - LIST) LIST l (and-left (below 4294967296 (SPACING - LIST) LIST l) _ words) i g (omega arith)
+
+  pub image-up : getD l UP 0 < 2
+  image-up = below-in 2 (GIVEN-COUNT - UP) UP l (and-right (below 4294967296 (SPACING - LIST) LIST l) _ words) UP (omega arith) (omega arith)
 
 -- A record of what was read.
 pub read-of :
-    (l : List ℕ) {list interfaces alternates quarantined : List ℕ} {e : Endpoints} {handle : Handle} →
+    (l : List ℕ) {list interfaces alternates quarantined given : List ℕ} {e : Endpoints} {handle : Handle} →
     list ≡ tabulated (numberAt l) LIST-ROOM LIST → e ≡ endpointsIn l → interfaces ≡ tabulated (numberAt l) HELD-ROOM INTERFACES →
     alternates ≡ tabulated (numberAt l) HELD-ROOM ALTERNATES → handle ≡ handleIn (getD l CONTROL-REVOKED 0) →
-    quarantined ≡ tabulated (numberAt l) RING-ROOM QUARANTINED → isImage l ≡ true →
-    numbered l list e interfaces alternates handle quarantined ≡ decode l
+    quarantined ≡ tabulated (numberAt l) RING-ROOM QUARANTINED → given ≡ tabulated (numberAt l) GIVEN-ROOM GIVEN → isImage l ≡ true →
+    numbered l list e interfaces alternates handle quarantined given ≡ decode l
 unfolding decode read
-read-of l list e interfaces alternates handle quarantined image =
-    rw (image, list, e, interfaces, alternates, handle, quarantined)
+read-of l list e interfaces alternates handle quarantined given image =
+    rw (image, list, e, interfaces, alternates, handle, quarantined, given)

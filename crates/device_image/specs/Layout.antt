@@ -18,8 +18,8 @@ EP-REVOKED = 3
 abbrev pub SLOT : ℕ
 SLOT = 33
 
-abbrev pub N : ℕ
-N = 34
+abbrev pub MAX-SLOTS : ℕ
+MAX-SLOTS = 34
 
 abbrev pub PORT-SPEED : ℕ
 PORT-SPEED = 35
@@ -68,6 +68,17 @@ EP-RINGS = 423
 abbrev pub QUARANTINED : ℕ
 QUARANTINED = 453
 
+-- A flag.
+abbrev pub UP : ℕ
+UP = 514
+
+-- Words of 64 bits.
+abbrev pub GIVEN-COUNT : ℕ
+GIVEN-COUNT = 515
+
+abbrev pub GIVEN : ℕ
+GIVEN = 516
+
 -- How many there are.
 abbrev pub WORDS : ℕ
-WORDS = 514
+WORDS = 580

@@ -11,7 +11,7 @@ pub const EP_REVOKED: usize = 3;
 // Bytes.
 pub const SLOT: usize = 33;
 
-pub const N: usize = 34;
+pub const MAX_SLOTS: usize = 34;
 
 pub const PORT_SPEED: usize = 35;
 
@@ -45,5 +45,13 @@ pub const EP_RINGS: usize = 423;
 
 pub const QUARANTINED: usize = 453;
 
+// A flag.
+pub const UP: usize = 514;
+
+// Words of 64 bits.
+pub const GIVEN_COUNT: usize = 515;
+
+pub const GIVEN: usize = 516;
+
 // How many there are.
-pub const WORDS: usize = 514;
+pub const WORDS: usize = 580;

@@ -8,6 +8,7 @@ use record_endpoint::Endpoint;
 use record_endpoint::Endpoints;
 use record_endpoint::Handle;
 use record_endpoint::PLACES;
+use record_ring::GIVEN_ROOM;
 use record_ring::RING_ROOM;
 use record_settings::HELD_ROOM;
 ghost use mathlib.Core.Path.{_≡_};
@@ -15,9 +16,10 @@ ghost use mathlib.Core.Bool.{true};
 ghost use Prim.Native.Nat.{_+_, _≤_};
 ghost use Rattle.descriptor_list.specs.Valid.{LIST-ROOM};
 ghost use Rattle.record_ring.specs.Rings.{RING-ROOM};
+ghost use Rattle.record_ring.specs.Store.{GIVEN-ROOM};
 ghost use Rattle.record_endpoint.specs.EndpointMap.{tabulated};
 ghost use Rattle.record_settings.specs.Held.{HELD-ROOM};
-ghost use Rattle.device_image.specs.Layout.{SLOT, LIST, QUARANTINED};
+ghost use Rattle.device_image.specs.Layout.{SLOT, LIST, QUARANTINED, GIVEN};
 ghost use Rattle.device_image.specs.Image.{numberAt, endpointsIn, isImage, decode};
 
 fn list_in(image: &[u64]) -> [u32; LIST_ROOM]
@@ -93,6 +95,19 @@ fn quarantined_in(image: &[u64]) -> [u64; RING_ROOM]
     rings
 }
 
+fn given_in(image: &[u64]) -> [u64; GIVEN_ROOM]
+    requires { ⌜ isImage (now image) ≡ true ⌝ }
+    ensures { λ r. ⌜ r ≡ tabulated (numberAt (now (image .entry))) GIVEN-ROOM GIVEN ⌝ }
+{
+    let mut rings = [0u64; GIVEN_ROOM];
+    let mut i = 0;
+    while i < GIVEN_ROOM {
+        rings[i] = image[layout::GIVEN + i];
+        i += 1;
+    }
+    rings
+}
+
 // Words that are no image say no device.
 pub fn decode(image: &[u64]) -> Device
     ensures { λ r. ⌜ r ≡ decode (now (image .entry)) ⌝ }
@@ -111,7 +126,7 @@ pub fn decode(image: &[u64]) -> Device
     Device {
         usable: image[layout::USABLE] != 0,
         slot: SlotId(image[layout::SLOT] as u8),
-        n: image[layout::N] as u8,
+        max_slots: image[layout::MAX_SLOTS] as u8,
         spacing: image[layout::SPACING] as usize,
         port_speed: image[layout::PORT_SPEED] as u8,
         configured: image[layout::CONFIGURED] != 0,
@@ -128,5 +143,8 @@ pub fn decode(image: &[u64]) -> Device
         control_handle: control_handle,
         quarantined: quarantined_in(image),
         quarantined_count: image[layout::QUARANTINED_COUNT] as usize,
+        up: image[layout::UP] != 0,
+        given: given_in(image),
+        given_count: image[layout::GIVEN_COUNT] as usize,
     }
 }

@@ -32,5 +32,8 @@ pub fn is_image(image: &[u64]) -> bool
     if !all_below(image, 256, layout::SLOT, layout::LIST) {
         return false;
     }
-    all_below(image, 4294967296, layout::LIST, layout::SPACING)
+    if !all_below(image, 4294967296, layout::LIST, layout::SPACING) {
+        return false;
+    }
+    all_below(image, 2, layout::UP, layout::GIVEN_COUNT)
 }

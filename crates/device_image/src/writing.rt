@@ -5,19 +5,21 @@ use device::Device;
 use record_endpoint::Endpoint;
 use record_endpoint::Handle;
 use record_endpoint::PLACES;
+use record_ring::GIVEN_ROOM;
 use record_ring::RING_ROOM;
 use record_settings::HELD_ROOM;
 ghost use mathlib.Core.Path.{_≡_};
 ghost use mathlib.Core.List.{map};
 ghost use lib.ListN.{length};
 ghost use lib.Seq.{sets};
-ghost use Rattle.device_image.specs.Layout.{EP-REVOKED, EP-ADDRESSES, EP-INTERFACES, INTERFACES, ALTERNATES, EP-RINGS, QUARANTINED, WORDS};
+ghost use Rattle.device_image.specs.Layout.{EP-REVOKED, EP-ADDRESSES, EP-INTERFACES, INTERFACES, ALTERNATES, EP-RINGS, QUARANTINED, GIVEN, WORDS};
 ghost use Rattle.device_image.specs.Image.{handleWord, addressWord, ringWord, stored};
 ghost use Rattle.device_image.specs.Fits.{Fits};
 
 fn put_endpoints(image: &mut [u64], eps: [Endpoint; PLACES], owners: [u8; PLACES])
     requires { ⌜ length (now image) ≡ WORDS ⌝ }
-    ensures { λ r. ⌜ now (image .exit) ≡ sets (sets (sets (sets (now (image .entry)) EP-REVOKED (map handleWord eps)) EP-ADDRESSES (map addressWord eps)) EP-INTERFACES owners) EP-RINGS (map ringWord eps) ⌝ }
+    ensures { λ r. ⌜ now (image .exit) ≡ sets (sets (sets (sets (now (image .entry))
+        EP-REVOKED (map handleWord eps)) EP-ADDRESSES (map addressWord eps)) EP-INTERFACES owners) EP-RINGS (map ringWord eps) ⌝ }
 {
     let mut i = 0;
     while i < PLACES {
@@ -58,6 +60,17 @@ fn put_quarantined(image: &mut [u64], rings: [u64; RING_ROOM])
     }
 }
 
+fn put_given(image: &mut [u64], rings: [u64; GIVEN_ROOM])
+    requires { ⌜ length (now image) ≡ WORDS ⌝ }
+    ensures { λ r. ⌜ now (image .exit) ≡ sets (now (image .entry)) GIVEN rings ⌝ }
+{
+    let mut i = 0;
+    while i < GIVEN_ROOM {
+        image[layout::GIVEN + i] = rings[i];
+        i += 1;
+    }
+}
+
 // A buffer of another length is left as it is. The image holds the record whole, since its numbers are of their types.
 pub fn encode(d: Device, image: &mut [u64])
     ensures { λ r. ⌜ (now (image .exit) ≡ stored d (now (image .entry))) × (length (now (image .entry)) ≡ WORDS → Fits d) ⌝ }
@@ -75,9 +88,11 @@ pub fn encode(d: Device, image: &mut [u64])
     let interfaces = d.interfaces;
     let alternates = d.alternates;
     let quarantined = d.quarantined;
+    let given = d.given;
     put_endpoints(image, eps, owners);
     put_settings(image, interfaces, alternates);
     put_quarantined(image, quarantined);
+    put_given(image, given);
     let handle = d.control_handle;
     let revoked: u64 = match handle {
         Handle::Active => 0,
@@ -87,7 +102,7 @@ pub fn encode(d: Device, image: &mut [u64])
     image[layout::CONFIGURED] = d.configured as u64;
     image[layout::CONTROL_REVOKED] = revoked;
     image[layout::SLOT] = d.slot.0 as u64;
-    image[layout::N] = d.n as u64;
+    image[layout::MAX_SLOTS] = d.max_slots as u64;
     image[layout::PORT_SPEED] = d.port_speed as u64;
     image[layout::CURRENT_CONFIG_VALUE] = d.current_config_value as u64;
     image[layout::SPACING] = d.spacing as u64;
@@ -96,4 +111,6 @@ pub fn encode(d: Device, image: &mut [u64])
     image[layout::HELD_COUNT] = d.held_count as u64;
     image[layout::QUARANTINED_COUNT] = d.quarantined_count as u64;
     image[layout::CONTROL] = d.control;
+    image[layout::UP] = d.up as u64;
+    image[layout::GIVEN_COUNT] = d.given_count as u64;
 }

@@ -3,7 +3,7 @@ use Prim.Native.Nat.{ℕ}
 use mathlib.Core.List.{List}
 use lib.Dec.{eqb}
 use lib.ListN.{getD}
-use Rattle.def.specs.Packed.{packed, below}
+use Rattle.def.specs.Packed.{packed, restBelow}
 use Rattle.hub.specs.declared.hub_word.HubInfo.{HubInfo}
 
 unfoldable pub hubInfo : ℕ → HubInfo
@@ -17,7 +17,7 @@ hubInfo w =
       speed = packed 64 21 3 w;
       «port_id» = packed 64 24 8 w;
       multi = eqb (packed 64 32 1 w) 1;
-      unused = below 64 33 w;
+      unused = restBelow 64 33 w;
     }
 
 -- The hub at an index of the list; past its end, one with every field 0.

@@ -1,4 +1,4 @@
--- Membership in a list of numbers, lists without repeats, and a list with one number taken out.
+-- Laws of membership and of lists without repeats, and a list with one number taken out.
 use Prim.Native.Nat.{ℕ, zero, suc, _+_, _≤_, _<_}
 use mathlib.Core.Path.{_≡_, refl, sym, ap, _∙_}
 use mathlib.Core.Logic.{_⊎_, inl, inr, ⊎-elim}
@@ -8,16 +8,9 @@ use native.Mathlib.Omega.{arith}
 use borrow.Author.Tests.{eqb-true, eqb-false, eq-eqb, ne-eqb, not-true}
 use lib.Dec.{eqb}
 use lib.ListN.{length, getD}
+use Rattle.laws.specs.Distinct.{elem, distinct}
 use Rattle.laws.proofs.Tests.{and-left, and-right, not-both}
 use Rattle.laws.proofs.Cases.{Decided, decided, or-left, or-right, or-cases, or-none}
-
-unfoldable pub elem : ℕ → List ℕ → Bool
-elem x [] = false
-elem x (y ∷ l) = eqb x y || elem x l
-
-unfoldable pub distinct : List ℕ → Bool
-distinct [] = true
-distinct (x ∷ l) = not (elem x l) && distinct l
 
 -- The list without a number, wherever it stood.
 unfoldable pub without : ℕ → List ℕ → List ℕ

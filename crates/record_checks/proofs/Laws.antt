@@ -12,10 +12,12 @@ use lib.ListN.{length, getD, set, take, drop, replicate, length-append, length-s
 use lib.Seq.{getD-take, getD-set-same, getD-set-other, set-out, take-nil}
 use Rattle.laws.proofs.Tests.{and-left, and-right, and-true, not-both}
 use Rattle.laws.proofs.Cases.{Decided, decided, false-if, or-right}
-use Rattle.laws.proofs.Distinct.{elem, distinct, elem-none, elem-here, elem-cases, elem-at, elem-place, elem-append, distinct-first, distinct-rest, distinct-cons, distinct-place, distinct-append}
+use Rattle.laws.specs.Distinct.{elem, distinct}
+use Rattle.laws.proofs.Distinct.{elem-none, elem-here, elem-cases, elem-at, elem-place, elem-append, distinct-first, distinct-rest, distinct-cons, distinct-place, distinct-append}
 use Rattle.descriptor.specs.Word.{endpointDescriptor}
 use Rattle.record_ring.specs.Rings.{ringOk, ringsOk}
 use Rattle.record_ring.proofs.Laws.{ring-at, ring-nonzero, disjoint-elem, Offered}
+use Rattle.record_ring.proofs.Entered.{rings-ok-append, not-among-short}
 use Rattle.transfer.specs.Routes.{Queue}
 use Rattle.record_endpoint.specs.declared.entry.Endpoint.{Endpoint}
 use Rattle.record_endpoint.specs.declared.endpoint_map.EndpointMap.{EndpointMap}
@@ -25,13 +27,16 @@ use Rattle.record_endpoint.specs.Endpoint.{blank, addresses, ringsOf, addresses
 use Rattle.record_endpoint.specs.EndpointMap.{Whole, noEndpoints, withEndpoint, isActive, endpointMapFrom, endpointMapOf, gathered, endpointAt, endpointsOf, isOwned, pendingFrom, pendingRings, claimedRing, claimedEndpoints, queuesOf, queueRings}
 use Rattle.record_endpoint.proofs.Laws.{no-place-low, claimed-ring}
 use Rattle.record_endpoint.proofs.Clean.{CleanMap, clean-none, clean-of, map-none, map-at}
+use Rattle.record_checks.specs.Rings.{eachOnce}
+use Rattle.record_checks.proofs.Together.{SoundRings, rings-ok-elem, rings-ok-left, distinct-left}
 use Rattle.record_checks.proofs.Steps.{rings-length}
 
--- Rings by place: each a nonzero multiple of 16, no two the same, none of them control's.
-pub record Apart (rings : List ℕ) (control : ℕ) : Type 0 where
+-- Rings by place: each a nonzero multiple of 16, no two the same, none of them control's, each of them given.
+pub record Apart (rings : List ℕ) (control : ℕ) (given : List ℕ) : Type 0 where
   pub ok : (p : ℕ) → p < 30 → (getD rings p 0 ≡ 0 → ⊥) → ringOk (getD rings p 0) ≡ true
   pub different : (p q : ℕ) → p < 30 → q < 30 → (getD rings p 0 ≡ 0 → ⊥) → getD rings p 0 ≡ getD rings q 0 → p ≡ q
   pub other : (p : ℕ) → p < 30 → (getD rings p 0 ≡ 0 → ⊥) → getD rings p 0 ≡ control → ⊥
+  pub from-given : (p : ℕ) → p < 30 → (getD rings p 0 ≡ 0 → ⊥) → elem (getD rings p 0) given ≡ true
 
 -- No place of one list has the ring of a place of another.
 abbrev pub Disjoint : List ℕ → List ℕ → Type 0
@@ -95,31 +100,6 @@ one-of f p (suc n) = go (decided (eqb (f n) p)) (one-of f p n)
         last k q (yes l) h = g k l q
         last k q (no l) h = let s : n ≡ k = omega arith in eqb-false (f n) p e (rw s q)
 
-rings-ok-elem : (l : List ℕ) → ringsOk l ≡ true → (x : ℕ) → elem x l ≡ true → ringOk x ≡ true
-rings-ok-elem l e x h = let t = elem-place x l h in rw (← t .2) (ring-at l e (t .0) (t .1))
-
-rings-ok-append : (l m : List ℕ) → ringsOk l ≡ true → ringsOk m ≡ true → ringsOk (l ++ m) ≡ true
-unfolding ringsOk
-rings-ok-append [] m e f = f
-rings-ok-append (x ∷ l) m e f =
-    and-true (ringOk x) (ringsOk (l ++ m)) (and-left (ringOk x) (ringsOk l) e)
-    (rings-ok-append l m (and-right (ringOk x) (ringsOk l) e) f)
-
-rings-ok-left : (l m : List ℕ) → ringsOk (l ++ m) ≡ true → ringsOk l ≡ true
-unfolding ringsOk
-rings-ok-left [] m e = refl
-rings-ok-left (x ∷ l) m e =
-    and-true (ringOk x) (ringsOk l) (and-left (ringOk x) (ringsOk (l ++ m)) e)
-    (rings-ok-left l m (and-right (ringOk x) (ringsOk (l ++ m)) e))
-
-distinct-left : (l m : List ℕ) → distinct (l ++ m) ≡ true → distinct l ≡ true
-unfolding distinct
-distinct-left [] m e = refl
-distinct-left (x ∷ l) m e =
-    distinct-cons x l
-    (false-if (elem x l) (λ h. not-both (elem x (l ++ m)) (rw (elem-append x l m, h)) (distinct-first x (l ++ m) e)))
-    (distinct-left l m (distinct-rest x (l ++ m) e))
-
 distinct-apart : (l m : List ℕ) → distinct (l ++ m) ≡ true → (x : ℕ) → elem x l ≡ true → elem x m ≡ true → ⊥
 distinct-apart [] m e x h g = elem-none x h
 distinct-apart (y ∷ l) m e x h g =
@@ -129,258 +109,6 @@ distinct-apart (y ∷ l) m e x h g =
     go (inl s) f =
         not-both (elem y (l ++ m)) (rw (elem-append y l m, ← s, g) (or-right (elem x l) true refl)) (distinct-first y (l ++ m) e)
     go (inr s) f = f s
-
--- The rings of n endpoints of arrays, with control's and quarantined ones.
-module _ (n : ℕ) (eps : List Endpoint) (owners : List ℕ) (control : ℕ) (quarantined : List ℕ)
-    (rings-ok : ringsOk (ringsOf (take n eps) ++ (control ∷ quarantined)) ≡ true) where
-  live : List ℕ
-  live = ringsOf (take n eps)
-
-  live-ok : ringsOk live ≡ true
-  unfolding live
-  live-ok = rings-ok-left (ringsOf (take n eps)) (control ∷ quarantined) rings-ok
-
-  pub control-ok : ringOk control ≡ true
-  control-ok =
-      let l = ringsOf (take n eps) in
-      let m = control ∷ quarantined in
-      rings-ok-elem (l ++ m) rings-ok control
-      (rw (elem-append control l m) (or-right (elem control l) (elem control m) (elem-here control quarantined)))
-
-  live-at : (k : ℕ) → k < n → getD live k 0 ≡ getD eps k blank .ring
-  unfolding live
-  live-at k h = rings-at (take n eps) k ∙ rw (getD-take n eps k blank h)
-
-  live-length : length live ≡ length (take n eps)
-  unfolding live
-  live-length = rings-length (take n eps)
-
-  -- Endpoints whose rings are nonzero are clean.
-  pub clean-in : CleanMap (endpointMapOf n eps owners)
-  unfolding endpointMapOf
-  clean-in =
-      let m = length (take n eps) in
-      let few : m ≤ n = omega (arith, length-take n eps) in
-      let e : endpointMapFrom n eps owners noEndpoints ≡ endpointMapFrom m eps owners noEndpoints = map-short n eps owners noEndpoints (clean-none .whole) in
-      rw e
-      (clean-of m eps owners
-      (λ k h z. ring-nonzero (getD live k 0) (ring-at live live-ok k (omega (arith, live-length))) (live-at k (omega arith) ∙ z)))
-
-  -- Where a nonzero ring of a place stands in the arrays.
-  record Stands (p : ℕ) : Type 0 where
-    pub at : ℕ
-    pub counted : at < n
-    pub inside : at < length live
-    pub placed : placeOf (getD eps at blank .address) ≡ p
-    pub same : getD ((endpointMapOf n eps owners) .rings) p 0 ≡ getD live at 0
-
-  module _ (fit : addressesFit (addresses (take n eps)) ≡ true) where
-    stands : (p : ℕ) → p < 30 → (getD ((endpointMapOf n eps owners) .rings) p 0 ≡ 0 → ⊥) → Stands p
-    stands p h z = go (one-of (λ k. placeOf (getD eps k blank .address)) p n)
-      where
-        found : (k : ℕ) → k < n → placeOf (getD eps k blank .address) ≡ p → Dec (k < length eps) → Stands p
-        found k l e (yes r) =
-            record {
-              at = k;
-              counted = l;
-              inside = omega (arith, live-length, length-take n eps);
-              placed = e;
-              same =
-                  ap (λ q. getD ((endpointMapOf n eps owners) .rings) q 0) (sym e)
-                  ∙ map-at n eps owners k fit l r .rings
-                  ∙ sym (live-at k l);
-            }
-        found k l e (no r) = absurd (omega (arith, place-blank eps k (omega arith)))
-
-        go :
-            ((k : ℕ) × (k < n) × (placeOf (getD eps k blank .address) ≡ p))
-            ⊎ ((k : ℕ) → k < n → placeOf (getD eps k blank .address) ≡ p → ⊥) → Stands p
-        go (inl t) = found (t .0) (t .1) (t .2) (decLt (t .0) (length eps))
-        go (inr f) = absurd (z (map-none n eps owners p h f .rings))
-
-    -- Distinct rings, by place.
-    pub apart-in : distinct (ringsOf (take n eps) ++ (control ∷ quarantined)) ≡ true → Apart ((endpointMapOf n eps owners) .rings) control
-    unfolding live
-    apart-in different =
-        let m = control ∷ quarantined in
-        let one : distinct live ≡ true = distinct-left live m different in
-        record {
-          ok = λ p h z. let t = stands p h z in rw (t .same) (ring-at live live-ok (t .at) (t .inside));
-          different = λ p q h g z e.
-              let t = stands p h z in
-              let u = stands q g (λ w. z (e ∙ w)) in
-              let s : t .at ≡ u .at =
-              distinct-place live one (t .at) (u .at) (t .inside) (u .inside) (sym (t .same) ∙ e ∙ u .same) in
-              sym (t .placed) ∙ ap (λ k. placeOf (getD eps k blank .address)) s ∙ u .placed;
-          other = λ p h z e.
-              let t = stands p h z in
-              distinct-apart live m different control (rw (← e, t .same) (elem-at live (t .at) (t .inside)))
-              (elem-here control quarantined);
-        }
-
--- Rings offered for words.
-
--- The ring at a place is that of a word with that place, or none.
-record From (words rings : List ℕ) (p ring : ℕ) : Type 0 where
-  pub at : ℕ
-  pub inside : at < length words
-  pub placed : placeOf ((endpointDescriptor (getD words at 0)) .address) ≡ p
-  pub same : ring ≡ getD rings at 0
-
-second : (l : List ℕ) (k : ℕ) → getD (drop 1 l) k 0 ≡ getD l (suc k) 0
-second [] k = refl
-second (x ∷ l) k = refl
-
-pending-source :
-    (words rings by : List ℕ) (p : ℕ) → p < 30 → length by ≡ 30 →
-    (getD (pendingFrom words rings by) p 0 ≡ getD by p 0) ⊎ From words rings p (getD (pendingFrom words rings by) p 0)
-unfolding pendingFrom
-pending-source [] rings by p h l = inl refl
-pending-source (w ∷ ws) rings by p h l =
-    go (pending-source ws (drop 1 rings) (set by place (getD rings 0 0)) p h (length-set by place (getD rings 0 0) ∙ l))
-    (decided (eqb place p))
-  where
-    place : ℕ
-    place = placeOf ((endpointDescriptor w) .address)
-
-    x : ℕ
-    x = getD (pendingFrom ws (drop 1 rings) (set by place (getD rings 0 0))) p 0
-
-    go :
-        (x ≡ getD (set by place (getD rings 0 0)) p 0) ⊎ From ws (drop 1 rings) p x → Decided (eqb place p) →
-        (x ≡ getD by p 0) ⊎ From (w ∷ ws) rings p x
-    go (inr t) e =
-        inr (record { at = suc (t .at); inside = omega (arith, t .inside); placed = t .placed; same = t .same ∙ second rings (t .at) })
-    go (inl s) (inl e) =
-        let q : place ≡ p = eqb-true place p e in
-        inr
-        (record {
-          at = 0;
-          inside = omega arith;
-          placed = q;
-          same = s ∙ ap (λ k. getD (set by k (getD rings 0 0)) p 0) q ∙ getD-set-same by p (getD rings 0 0) 0 (omega arith);
-        })
-    go (inl s) (inr e) =
-        inl (s ∙ getD-set-other by place p (getD rings 0 0) 0 (λ q. eqb-false place p e (sym q)))
-
-pending-from : (words rings : List ℕ) (p : ℕ) → p < 30 → (getD (pendingRings words rings) p 0 ≡ 0 → ⊥) →
-    From words rings p (getD (pendingRings words rings) p 0)
-unfolding pendingRings
-pending-from words rings p h z = go (pending-source words rings (replicate 30 0) p h refl)
-  where
-    x : ℕ
-    x = getD (pendingFrom words rings (replicate 30 0)) p 0
-
-    go : (x ≡ getD (replicate 30 0) p 0) ⊎ From words rings p x → From words rings p x
-    go (inl e) = absurd (z (e ∙ getD-replicate 30 p 0 0 h))
-    go (inr t) = t
-
--- The rings offered, by place.
-pub apart-offered :
-    (words rings live : List ℕ) (control : ℕ) (quarantined : List ℕ) →
-    Offered (length words) rings live control quarantined → Apart (pendingRings words rings) control
-apart-offered words rings live control quarantined o =
-    record {
-      ok = λ p h z. let t = pending-from words rings p h z in rw (t .same) (ring-at rings (o .ok) (t .at) (inside p t));
-      different = λ p q h g z e.
-          let t = pending-from words rings p h z in
-          let u = pending-from words rings q g (λ w. z (e ∙ w)) in
-          let s : t .at ≡ u .at =
-          distinct-place rings (o .apart) (t .at) (u .at) (inside p t) (inside q u) (sym (t .same) ∙ e ∙ u .same) in
-          sym (t .placed) ∙ ap (λ k. placeOf ((endpointDescriptor (getD words k 0)) .address)) s ∙ u .placed;
-      other = λ p h z e.
-          let t = pending-from words rings p h z in
-          not-both (elem control rings) (rw (← e, t .same) (elem-at rings (t .at) (inside p t))) (o .not-control);
-    }
-  where
-    inside : {x : ℕ} (p : ℕ) (t : From words rings p x) → t .at < length rings
-    inside p t = omega (arith, t .inside, o .counted)
-
--- None of them is live.
-pub offered-live :
-    (words rings live : List ℕ) (control : ℕ) (quarantined : List ℕ) →
-    Offered (length words) rings live control quarantined → length live ≡ 30 →
-    Disjoint (pendingRings words rings) live
-offered-live words rings live control quarantined o l p q h g z e =
-    let t = pending-from words rings p h z in
-    let r : elem (getD live q 0) rings ≡ true =
-    rw (← e, t .same) (elem-at rings (t .at) (omega (arith, t .inside, o .counted))) in
-    not-both (elem (getD live q 0) live) (elem-at live q (omega arith))
-    (disjoint-elem rings live (o .not-live) (getD live q 0) r)
-
--- No rings.
-pub apart-none : (control : ℕ) → Apart (replicate 30 0) control
-apart-none control =
-    record {
-      ok = λ p h z. absurd (z (getD-replicate 30 p 0 0 h));
-      different = λ p q h g z e. absurd (z (getD-replicate 30 p 0 0 h));
-      other = λ p h z e. z (getD-replicate 30 p 0 0 h);
-    }
-
--- The rings after a claim: the pending ones, and the others' as before.
-module _ (i : ℕ) (pending : List ℕ) (c : EndpointMap) (control : ℕ)
-    (new : Apart pending control) (old : Apart (c .rings) control)
-    (cross : Disjoint pending (c .rings)) where
-  after : ℕ → ℕ
-  after p = getD ((claimedEndpoints i pending c) .rings) p 0
-
-  Source : ℕ → Type 0
-  Source p =
-      ((getD pending p 0 ≡ 0 → ⊥) × (after p ≡ getD pending p 0))
-      ⊎ ((getD (c .rings) p 0 ≡ 0 → ⊥) × (after p ≡ getD (c .rings) p 0))
-
-  source : (p : ℕ) → p < 30 → (after p ≡ 0 → ⊥) → Source p
-  unfolding after Source claimedRing
-  source p h z = go (decided (eqb (getD pending p 0) 0)) (isOwned (Interface i) c p) (claimed-ring i pending c p h)
-    where
-      go :
-          Decided (eqb (getD pending p 0) 0) → (own : Bool) →
-          after p ≡ cond (eqb (getD pending p 0) 0) (cond own 0 (getD (c .rings) p 0)) (getD pending p 0) → Source p
-      go (inl e) true s = absurd (z (rw e at s))
-      go (inl e) false s = let t : after p ≡ getD (c .rings) p 0 = rw e at s in inr (λ y. z (t ∙ y), t)
-      go (inr e) own s = inl (eqb-false (getD pending p 0) 0 e, rw e at s)
-
-  source-ok : (p : ℕ) → p < 30 → Source p → ringOk (after p) ≡ true
-  unfolding Source
-  source-ok p h (inl t) = rw (t .1) (new .ok p h (t .0))
-  source-ok p h (inr t) = rw (t .1) (old .ok p h (t .0))
-
-  source-different : (p q : ℕ) → p < 30 → q < 30 → after p ≡ after q → Source p → Source q → p ≡ q
-  unfolding Source
-  source-different p q h g e (inl t) (inl u) = new .different p q h g (t .0) (sym (t .1) ∙ e ∙ u .1)
-  source-different p q h g e (inl t) (inr u) = absurd (cross p q h g (t .0) (sym (t .1) ∙ e ∙ u .1))
-  source-different p q h g e (inr t) (inl u) = absurd (cross q p g h (u .0) (sym (u .1) ∙ sym e ∙ t .1))
-  source-different p q h g e (inr t) (inr u) = old .different p q h g (t .0) (sym (t .1) ∙ e ∙ u .1)
-
-  source-other : (p : ℕ) → p < 30 → after p ≡ control → Source p → ⊥
-  unfolding Source
-  source-other p h e (inl t) = new .other p h (t .0) (sym (t .1) ∙ e)
-  source-other p h e (inr t) = old .other p h (t .0) (sym (t .1) ∙ e)
-
-  apart-after : Apart ((claimedEndpoints i pending c) .rings) control
-  unfolding after
-  apart-after =
-      record {
-        ok = λ p h z. source-ok p h (source p h z);
-        different = λ p q h g z e. source-different p q h g e (source p h z) (source q g (λ y. z (e ∙ y)));
-        other = λ p h z e. source-other p h e (source p h z);
-      }
-
--- A claim with rings that were offered keeps them apart.
-pub apart-claimed :
-    (i : ℕ) (words rings : List ℕ) (c : EndpointMap) (control : ℕ) (quarantined : List ℕ) → CleanMap c →
-    Offered (length words) rings (c .rings) control quarantined → Apart (c .rings) control →
-    Apart ((claimedEndpoints i (pendingRings words rings) c) .rings) control
-apart-claimed i words rings c control quarantined clean o old =
-    apart-after i (pendingRings words rings) c control (apart-offered words rings (c .rings) control quarantined o) old
-    (offered-live words rings (c .rings) control quarantined o (clean .whole .rings))
-
--- A release does.
-pub apart-released :
-    (i : ℕ) (c : EndpointMap) (control : ℕ) → Apart (c .rings) control →
-    Apart ((claimedEndpoints i (replicate 30 0) c) .rings) control
-apart-released i c control old =
-    apart-after i (replicate 30 0) c control (apart-none control) old (λ p q h g z e. z (getD-replicate 30 p 0 0 h))
 
 -- Rings by place as a list, by rising address.
 module _ (rings : List ℕ) where
@@ -447,7 +175,7 @@ module _ (rings : List ℕ) where
   unfolding placedRings placedFrom
   placed-elem x h = from-elem 30 0 x h
 
-  module _ (control : ℕ) (apart : Apart rings control) where
+  module _ (control : ℕ) (given : List ℕ) (apart : Apart rings control given) where
     from-ok : (k a : ℕ) → a + k ≤ 30 → ringsOk (placedFrom k a) ≡ true
     unfolding ringsOk
     from-ok zero a h = rw (placed-last a)
@@ -497,33 +225,316 @@ module _ (rings : List ℕ) where
     placed-control : (x : ℕ) → elem x placedRings ≡ true → x ≡ control → ⊥
     placed-control x h e = let t = placed-elem x h in apart .other (t .at) (t .high) (t .nonzero) (sym (t .same) ∙ e)
 
--- Live rings, control's and quarantined ones together are sound.
-module _ (rings by : List ℕ) (control : ℕ) (ok : ringOk control ≡ true)
-    (live : Apart rings control) (kept : Apart by control) (cross : Disjoint by rings) where
-  -- Nonzero multiples of 16.
-  pub all-ok : ringsOk (placedRings rings ++ (control ∷ placedRings by)) ≡ true
-  unfolding ringsOk
-  all-ok =
-      rings-ok-append (placedRings rings) (control ∷ placedRings by) (placed-ok rings control live)
-      (and-true (ringOk control) (ringsOk (placedRings by)) ok (placed-ok by control kept))
+    pub placed-given : (x : ℕ) → elem x placedRings ≡ true → elem x given ≡ true
+    placed-given x h = let t = placed-elem x h in rw (t .same) (apart .from-given (t .at) (t .high) (t .nonzero))
 
-  -- Distinct.
-  pub all-distinct : distinct (placedRings rings ++ (control ∷ placedRings by)) ≡ true
-  all-distinct =
-      distinct-append (placedRings rings) (control ∷ placedRings by) (placed-distinct rings control live)
-      (distinct-cons control (placedRings by)
-      (false-if (elem control (placedRings by)) (λ h. placed-control by control kept control h refl)) (placed-distinct by control kept))
-      (λ x h. false-if (elem x (control ∷ placedRings by)) (λ g. ⊎-elim (placed-control rings control live x h) (both x h) (elem-cases x control (placedRings by) g)))
+-- The rings of n endpoints of arrays, with control's.
+module _ (n : ℕ) (eps : List Endpoint) (owners : List ℕ) (control : ℕ)
+    (rings-ok : ringsOk (ringsOf (take n eps) ++ (control ∷ [])) ≡ true) where
+  live : List ℕ
+  live = ringsOf (take n eps)
+
+  live-ok : ringsOk live ≡ true
+  unfolding live
+  live-ok = rings-ok-left (ringsOf (take n eps)) (control ∷ []) rings-ok
+
+  pub control-ok : ringOk control ≡ true
+  control-ok =
+      let l = ringsOf (take n eps) in
+      let m = control ∷ [] in
+      rings-ok-elem (l ++ m) rings-ok control
+      (rw (elem-append control l m) (or-right (elem control l) (elem control m) (elem-here control [])))
+
+  live-at : (k : ℕ) → k < n → getD live k 0 ≡ getD eps k blank .ring
+  unfolding live
+  live-at k h = rings-at (take n eps) k ∙ rw (getD-take n eps k blank h)
+
+  live-length : length live ≡ length (take n eps)
+  unfolding live
+  live-length = rings-length (take n eps)
+
+  -- Endpoints whose rings are nonzero are clean.
+  pub clean-in : CleanMap (endpointMapOf n eps owners)
+  unfolding endpointMapOf
+  clean-in =
+      let m = length (take n eps) in
+      let few : m ≤ n = omega (arith, length-take n eps) in
+      let e : endpointMapFrom n eps owners noEndpoints ≡ endpointMapFrom m eps owners noEndpoints = map-short n eps owners noEndpoints (clean-none .whole) in
+      rw e
+      (clean-of m eps owners
+      (λ k h z. ring-nonzero (getD live k 0) (ring-at live live-ok k (omega (arith, live-length))) (live-at k (omega arith) ∙ z)))
+
+  -- Where a nonzero ring of a place stands in the arrays.
+  record Stands (p : ℕ) : Type 0 where
+    pub at : ℕ
+    pub counted : at < n
+    pub inside : at < length live
+    pub placed : placeOf (getD eps at blank .address) ≡ p
+    pub same : getD ((endpointMapOf n eps owners) .rings) p 0 ≡ getD live at 0
+
+  module _ (fit : addressesFit (addresses (take n eps)) ≡ true) where
+    stands : (p : ℕ) → p < 30 → (getD ((endpointMapOf n eps owners) .rings) p 0 ≡ 0 → ⊥) → Stands p
+    stands p h z = go (one-of (λ k. placeOf (getD eps k blank .address)) p n)
+      where
+        found : (k : ℕ) → k < n → placeOf (getD eps k blank .address) ≡ p → Dec (k < length eps) → Stands p
+        found k l e (yes r) =
+            record {
+              at = k;
+              counted = l;
+              inside = omega (arith, live-length, length-take n eps);
+              placed = e;
+              same =
+                  ap (λ q. getD ((endpointMapOf n eps owners) .rings) q 0) (sym e)
+                  ∙ map-at n eps owners k fit l r .rings
+                  ∙ sym (live-at k l);
+            }
+        found k l e (no r) = absurd (omega (arith, place-blank eps k (omega arith)))
+
+        go :
+            ((k : ℕ) × (k < n) × (placeOf (getD eps k blank .address) ≡ p))
+            ⊎ ((k : ℕ) → k < n → placeOf (getD eps k blank .address) ≡ p → ⊥) → Stands p
+        go (inl t) = found (t .0) (t .1) (t .2) (decLt (t .0) (length eps))
+        go (inr f) = absurd (z (map-none n eps owners p h f .rings))
+
+    -- Distinct rings, by place.
+    pub apart-in : (given : List ℕ) → distinct (ringsOf (take n eps) ++ (control ∷ [])) ≡ true →
+        ((x : ℕ) → elem x (ringsOf (take n eps)) ≡ true → elem x given ≡ true) → Apart ((endpointMapOf n eps owners) .rings) control given
+    unfolding live
+    apart-in given different all =
+        let m = control ∷ [] in
+        let one : distinct live ≡ true = distinct-left live m different in
+        record {
+          ok = λ p h z. let t = stands p h z in rw (t .same) (ring-at live live-ok (t .at) (t .inside));
+          different = λ p q h g z e.
+              let t = stands p h z in
+              let u = stands q g (λ w. z (e ∙ w)) in
+              let s : t .at ≡ u .at =
+              distinct-place live one (t .at) (u .at) (t .inside) (u .inside) (sym (t .same) ∙ e ∙ u .same) in
+              sym (t .placed) ∙ ap (λ k. placeOf (getD eps k blank .address)) s ∙ u .placed;
+          other = λ p h z e.
+              let t = stands p h z in
+              distinct-apart live m different control (rw (← e, t .same) (elem-at live (t .at) (t .inside)))
+              (elem-here control []);
+          from-given = λ p h z. let t = stands p h z in rw (t .same) (all (getD live (t .at) 0) (elem-at live (t .at) (t .inside)));
+        }
+
+    pub ring-live : (p : ℕ) → p < 30 → (getD ((endpointMapOf n eps owners) .rings) p 0 ≡ 0 → ⊥) →
+        elem (getD ((endpointMapOf n eps owners) .rings) p 0) (ringsOf (take n eps)) ≡ true
+    unfolding live
+    ring-live p h z = let t = stands p h z in rw (t .same) (elem-at live (t .at) (t .inside))
+
+    -- The rings by place are the arrays'.
+    pub placed-live : (x : ℕ) → elem x (placedRings ((endpointMapOf n eps owners) .rings)) ≡ true → elem x (ringsOf (take n eps)) ≡ true
+    unfolding live
+    placed-live x h =
+        let p = placed-elem ((endpointMapOf n eps owners) .rings) x h in
+        let t = stands (p .at) (p .high) (p .nonzero) in
+        rw (p .same, t .same) (elem-at live (t .at) (t .inside))
+
+-- Rings offered for words.
+
+-- The ring at a place is that of a word with that place, or none.
+record From (words rings : List ℕ) (p ring : ℕ) : Type 0 where
+  pub at : ℕ
+  pub inside : at < length words
+  pub placed : placeOf ((endpointDescriptor (getD words at 0)) .address) ≡ p
+  pub same : ring ≡ getD rings at 0
+
+second : (l : List ℕ) (k : ℕ) → getD (drop 1 l) k 0 ≡ getD l (suc k) 0
+second [] k = refl
+second (x ∷ l) k = refl
+
+pending-source :
+    (words rings by : List ℕ) (p : ℕ) → p < 30 → length by ≡ 30 →
+    (getD (pendingFrom words rings by) p 0 ≡ getD by p 0) ⊎ From words rings p (getD (pendingFrom words rings by) p 0)
+unfolding pendingFrom
+pending-source [] rings by p h l = inl refl
+pending-source (w ∷ ws) rings by p h l =
+    go (pending-source ws (drop 1 rings) (set by place (getD rings 0 0)) p h (length-set by place (getD rings 0 0) ∙ l))
+    (decided (eqb place p))
+  where
+    place : ℕ
+    place = placeOf ((endpointDescriptor w) .address)
+
+    x : ℕ
+    x = getD (pendingFrom ws (drop 1 rings) (set by place (getD rings 0 0))) p 0
+
+    go :
+        (x ≡ getD (set by place (getD rings 0 0)) p 0) ⊎ From ws (drop 1 rings) p x → Decided (eqb place p) →
+        (x ≡ getD by p 0) ⊎ From (w ∷ ws) rings p x
+    go (inr t) e =
+        inr (record { at = suc (t .at); inside = omega (arith, t .inside); placed = t .placed; same = t .same ∙ second rings (t .at) })
+    go (inl s) (inl e) =
+        let q : place ≡ p = eqb-true place p e in
+        inr
+        (record {
+          at = 0;
+          inside = omega arith;
+          placed = q;
+          same = s ∙ ap (λ k. getD (set by k (getD rings 0 0)) p 0) q ∙ getD-set-same by p (getD rings 0 0) 0 (omega arith);
+        })
+    go (inl s) (inr e) =
+        inl (s ∙ getD-set-other by place p (getD rings 0 0) 0 (λ q. eqb-false place p e (sym q)))
+
+pending-from : (words rings : List ℕ) (p : ℕ) → p < 30 → (getD (pendingRings words rings) p 0 ≡ 0 → ⊥) →
+    From words rings p (getD (pendingRings words rings) p 0)
+unfolding pendingRings
+pending-from words rings p h z = go (pending-source words rings (replicate 30 0) p h refl)
+  where
+    x : ℕ
+    x = getD (pendingFrom words rings (replicate 30 0)) p 0
+
+    go : (x ≡ getD (replicate 30 0) p 0) ⊎ From words rings p x → From words rings p x
+    go (inl e) = absurd (z (e ∙ getD-replicate 30 p 0 0 h))
+    go (inr t) = t
+
+-- The rings offered, by place.
+pub apart-offered :
+    (words rings live : List ℕ) (control : ℕ) (quarantined given : List ℕ) →
+    Offered (length words) rings live control quarantined → ((x : ℕ) → elem x rings ≡ true → elem x given ≡ true) →
+    Apart (pendingRings words rings) control given
+apart-offered words rings live control quarantined given o all =
+    record {
+      ok = λ p h z. let t = pending-from words rings p h z in rw (t .same) (ring-at rings (o .ok) (t .at) (inside p t));
+      different = λ p q h g z e.
+          let t = pending-from words rings p h z in
+          let u = pending-from words rings q g (λ w. z (e ∙ w)) in
+          let s : t .at ≡ u .at =
+          distinct-place rings (o .apart) (t .at) (u .at) (inside p t) (inside q u) (sym (t .same) ∙ e ∙ u .same) in
+          sym (t .placed) ∙ ap (λ k. placeOf ((endpointDescriptor (getD words k 0)) .address)) s ∙ u .placed;
+      other = λ p h z e.
+          let t = pending-from words rings p h z in
+          not-both (elem control rings) (rw (← e, t .same) (elem-at rings (t .at) (inside p t))) (o .not-control);
+      from-given = λ p h z.
+          let t = pending-from words rings p h z in rw (t .same) (all (getD rings (t .at) 0) (elem-at rings (t .at) (inside p t)));
+    }
+  where
+    inside : {x : ℕ} (p : ℕ) (t : From words rings p x) → t .at < length rings
+    inside p t = omega (arith, t .inside, o .counted)
+
+-- None of them is live.
+pub offered-live :
+    (words rings live : List ℕ) (control : ℕ) (quarantined : List ℕ) →
+    Offered (length words) rings live control quarantined → length live ≡ 30 →
+    Disjoint (pendingRings words rings) live
+offered-live words rings live control quarantined o l p q h g z e =
+    let t = pending-from words rings p h z in
+    let r : elem (getD live q 0) rings ≡ true =
+    rw (← e, t .same) (elem-at rings (t .at) (omega (arith, t .inside, o .counted))) in
+    not-both (elem (getD live q 0) live) (elem-at live q (omega arith))
+    (disjoint-elem rings live (o .not-live) (getD live q 0) r)
+
+-- No rings.
+pub apart-none : (control : ℕ) (given : List ℕ) → Apart (replicate 30 0) control given
+apart-none control given =
+    record {
+      ok = λ p h z. absurd (z (getD-replicate 30 p 0 0 h));
+      different = λ p q h g z e. absurd (z (getD-replicate 30 p 0 0 h));
+      other = λ p h z e. z (getD-replicate 30 p 0 0 h);
+      from-given = λ p h z. absurd (z (getD-replicate 30 p 0 0 h));
+    }
+
+-- The rings after a claim: the pending ones, and the others' as before.
+module _ (i : ℕ) (pending : List ℕ) (c : EndpointMap) (control : ℕ) (given : List ℕ)
+    (new : Apart pending control given) (old : Apart (c .rings) control given)
+    (cross : Disjoint pending (c .rings)) where
+  after : ℕ → ℕ
+  after p = getD ((claimedEndpoints i pending c) .rings) p 0
+
+  Source : ℕ → Type 0
+  Source p =
+      ((getD pending p 0 ≡ 0 → ⊥) × (after p ≡ getD pending p 0))
+      ⊎ ((getD (c .rings) p 0 ≡ 0 → ⊥) × (after p ≡ getD (c .rings) p 0))
+
+  source : (p : ℕ) → p < 30 → (after p ≡ 0 → ⊥) → Source p
+  unfolding after Source claimedRing
+  source p h z = go (decided (eqb (getD pending p 0) 0)) (isOwned (Interface i) c p) (claimed-ring i pending c p h)
     where
-      both : (x : ℕ) → elem x (placedRings rings) ≡ true → elem x (placedRings by) ≡ true → ⊥
-      both x h g =
-          let t = placed-elem rings x h in
-          let r = placed-elem by x g in
-          cross (r .at) (t .at) (r .high) (t .high) (r .nonzero) (sym (r .same) ∙ t .same)
+      go :
+          Decided (eqb (getD pending p 0) 0) → (own : Bool) →
+          after p ≡ cond (eqb (getD pending p 0) 0) (cond own 0 (getD (c .rings) p 0)) (getD pending p 0) → Source p
+      go (inl e) true s = absurd (z (rw e at s))
+      go (inl e) false s = let t : after p ≡ getD (c .rings) p 0 = rw e at s in inr (λ y. z (t ∙ y), t)
+      go (inr e) own s = inl (eqb-false (getD pending p 0) 0 e, rw e at s)
 
-  -- At most 61.
-  pub all-few : length (placedRings rings ++ (control ∷ placedRings by)) ≤ 61
-  all-few = simp length-append (omega (arith, placed-few rings, placed-few by))
+  source-ok : (p : ℕ) → p < 30 → Source p → ringOk (after p) ≡ true
+  unfolding Source
+  source-ok p h (inl t) = rw (t .1) (new .ok p h (t .0))
+  source-ok p h (inr t) = rw (t .1) (old .ok p h (t .0))
+
+  source-different : (p q : ℕ) → p < 30 → q < 30 → after p ≡ after q → Source p → Source q → p ≡ q
+  unfolding Source
+  source-different p q h g e (inl t) (inl u) = new .different p q h g (t .0) (sym (t .1) ∙ e ∙ u .1)
+  source-different p q h g e (inl t) (inr u) = absurd (cross p q h g (t .0) (sym (t .1) ∙ e ∙ u .1))
+  source-different p q h g e (inr t) (inl u) = absurd (cross q p g h (u .0) (sym (u .1) ∙ sym e ∙ t .1))
+  source-different p q h g e (inr t) (inr u) = old .different p q h g (t .0) (sym (t .1) ∙ e ∙ u .1)
+
+  source-other : (p : ℕ) → p < 30 → after p ≡ control → Source p → ⊥
+  unfolding Source
+  source-other p h e (inl t) = new .other p h (t .0) (sym (t .1) ∙ e)
+  source-other p h e (inr t) = old .other p h (t .0) (sym (t .1) ∙ e)
+
+  source-given : (p : ℕ) → p < 30 → Source p → elem (after p) given ≡ true
+  unfolding Source
+  source-given p h (inl t) = rw (t .1) (new .from-given p h (t .0))
+  source-given p h (inr t) = rw (t .1) (old .from-given p h (t .0))
+
+  apart-after : Apart ((claimedEndpoints i pending c) .rings) control given
+  unfolding after
+  apart-after =
+      record {
+        ok = λ p h z. source-ok p h (source p h z);
+        different = λ p q h g z e. source-different p q h g e (source p h z) (source q g (λ y. z (e ∙ y)));
+        other = λ p h z e. source-other p h e (source p h z);
+        from-given = λ p h z. source-given p h (source p h z);
+      }
+
+-- A claim with rings that were offered keeps them apart.
+pub apart-claimed :
+    (i : ℕ) (words rings : List ℕ) (c : EndpointMap) (control : ℕ) (quarantined given : List ℕ) → CleanMap c →
+    Offered (length words) rings (c .rings) control quarantined → ((x : ℕ) → elem x rings ≡ true → elem x given ≡ true) →
+    Apart (c .rings) control given → Apart ((claimedEndpoints i (pendingRings words rings) c) .rings) control given
+apart-claimed i words rings c control quarantined given clean o all old =
+    apart-after i (pendingRings words rings) c control given (apart-offered words rings (c .rings) control quarantined given o all) old
+    (offered-live words rings (c .rings) control quarantined o (clean .whole .rings))
+
+-- A release does.
+pub apart-released :
+    (i : ℕ) (c : EndpointMap) (control : ℕ) (given : List ℕ) → Apart (c .rings) control given →
+    Apart ((claimedEndpoints i (replicate 30 0) c) .rings) control given
+apart-released i c control given old =
+    apart-after i (replicate 30 0) c control given (apart-none control given) old (λ p q h g z e. z (getD-replicate 30 p 0 0 h))
+
+-- Live rings by place, and control's, beside quarantined ones.
+module _ (rings : List ℕ) (control : ℕ) (given : List ℕ) (ok : ringOk control ≡ true) (apart : Apart rings control given) where
+  abbrev pub liveRings : List ℕ
+  liveRings = placedRings rings ++ (control ∷ [])
+
+  pub live-rings-ok : ringsOk liveRings ≡ true
+  unfolding ringsOk
+  live-rings-ok = rings-ok-append (placedRings rings) (control ∷ []) (placed-ok rings control given apart) (rw ok)
+
+  pub live-rings-distinct : distinct liveRings ≡ true
+  unfolding distinct elem
+  live-rings-distinct =
+      distinct-append (placedRings rings) (control ∷ []) (placed-distinct rings control given apart) refl
+      (λ x h. false-if (elem x (control ∷ [])) (λ g. ⊎-elim (placed-control rings control given apart x h) (λ s. elem-none x s) (elem-cases x control [] g)))
+
+  -- Those of a claim that broke are sound, whatever else is live.
+  pub claim-sound : (by : List ℕ) (usable : Bool) → Apart by control given → (usable ≡ true → length (placedRings by) ≡ 0) →
+      SoundRings usable liveRings (placedRings by)
+  unfolding eachOnce
+  claim-sound by usable kept free =
+      record {
+        few =
+            let n = not-among-short (placedRings rings ++ (control ∷ [])) (placedRings by) in
+            simp length-append (omega (arith, n, placed-few rings, placed-few by));
+        live-ok = live-rings-ok;
+        live-distinct = live-rings-distinct;
+        ok = placed-ok by control given kept;
+        apart = placed-distinct by control given kept;
+        free = free;
+      }
 
 -- No rings are none.
 pub placed-none : placedRings (replicate 30 0) ≡ []

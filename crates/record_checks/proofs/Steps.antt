@@ -1,17 +1,18 @@
 -- One turn of each loop over rings.
-use Prim.Native.Nat.{ℕ, suc, _+_, _≤_, _<_}
+use Prim.Native.Nat.{ℕ, suc, _+_, _-_, _≤_, _<_}
 use mathlib.Core.Path.{_≡_, refl, sym, ap, _∙_}
 use mathlib.Core.Logic.{_⊎_, inl, inr}
-use mathlib.Core.Bool.{Bool, true, false, not, _&&_, _||_, and-true, and-false}
-use mathlib.Core.List.{List, [], _∷_, _++_, append-assoc, append-nil}
+use mathlib.Core.Bool.{Bool, true, false, not, cond, _&&_}
+use mathlib.Core.List.{List, [], _∷_, _++_}
 use native.Mathlib.Numerals.{add-one}
 use native.Mathlib.Omega.{arith}
-use borrow.Author.Tests.{eqb-true, eqb-false, eq-eqb, ne-eqb, le-leb, lt-leb, not-true, not-false}
-use lib.Dec.{eqb}
-use lib.ListN.{length, getD, set, take, drop, length-append, length-set, length-drop}
-use lib.Seq.{take-suc, take-suc-set, take-set-le, length-take-le}
-use Rattle.laws.proofs.Cases.{Decided, decided}
-use Rattle.laws.proofs.Distinct.{elem, distinct}
+use borrow.Author.Tests.{eqb-true, eqb-false, le-leb, lt-leb, leb-true, not-true, not-false}
+use lib.Dec.{eqb, leb}
+use lib.ListN.{length, getD, set, take, drop, replicate, length-append, length-set, length-take, length-drop, List·getD-append, drop-of-length-le}
+use lib.Seq.{take-suc, take-suc-set, length-take-le, take-append-seam, take-length, getD-append-seam, getD-append-add, drop-cons}
+use Rattle.laws.proofs.Cases.{Decided, decided, false-if}
+use Rattle.laws.proofs.Tests.{and-left, and-right, and-true, not-both}
+use Rattle.laws.specs.Distinct.{elem, distinct}
 use Rattle.answer.specs.declared.Answer.{Answer}
 use Rattle.answer.specs.declared.Answer.the-variants as answer
 use Rattle.answer.specs.declared.Check.{Check}
@@ -20,17 +21,20 @@ use Rattle.descriptor_list.specs.declared.Found.{Found}
 use Rattle.descriptor_list.specs.declared.Found.the-variants.{Endpoints, NotFound}
 use Rattle.descriptor_list.specs.Lookup.{findEndpoints}
 use Rattle.descriptor_list.proofs.Laws.{found-inside}
-use Rattle.record_ring.specs.Rings.{ringOk, ringsOk, offerOk}
+use Rattle.record_ring.specs.Rings.{ringsOk, notAmong, entered}
+use Rattle.record_ring.proofs.Entered.{entered-longer, not-among-short}
 use Rattle.record_endpoint.specs.declared.entry.Endpoint.{Endpoint}
 use Rattle.record_endpoint.specs.declared.endpoint_map.EndpointMap.{EndpointMap}
 use Rattle.record_endpoint.specs.Endpoint.{blank, ringsOf, padded}
 use Rattle.record_endpoint.proofs.Laws.{padded-next}
+use Rattle.record_endpoint.proofs.Clean.{padded-length}
 use Rattle.record_settings.specs.Held.{isFound, foundWords, settingWords}
 use Rattle.record_settings.specs.Match.{addressesFree}
-use Rattle.record_checks.specs.declared.offer.Checked.{Checked}
-use Rattle.record_checks.specs.declared.offer.Checked.the-variants as checked
-use Rattle.record_checks.specs.Offer.{offerCheck, checkOf, CheckedAs}
-use Rattle.record_checks.specs.Rings.{ringsFit, soundRings}
+use Rattle.record_checks.specs.declared.draw.Checked.{Checked}
+use Rattle.record_checks.specs.declared.draw.Checked.the-variants as checked
+use Rattle.record_checks.specs.Draw.{drawCheck, checkOf, CheckedAs}
+use Rattle.record_checks.specs.Rings.{eachOnce, soundRings}
+use Rattle.record_checks.proofs.Together.{SoundRings, once-length, rings-told, rings-sound}
 
 pub rings-length : (es : List Endpoint) → length (ringsOf es) ≡ length es
 unfolding ringsOf
@@ -46,134 +50,168 @@ rings-append (e ∷ es) fs = rw (rings-append es fs)
 pub rings-count : (eps : List Endpoint) (n : ℕ) → n ≤ length eps → length (ringsOf (take n eps)) ≡ n
 rings-count eps n h = rings-length (take n eps) ∙ length-take-le n eps h
 
--- what stands before a place that is written
-take-set : (n : ℕ) (l : List ℕ) (a : ℕ) → take n (set l n a) ≡ take n l
-take-set n l a = take-set-le n l n a (omega arith)
-
--- The quarantined rings at the front of an array, control's and those of i endpoints after them.
-pub record All (kept : List ℕ) (m control : ℕ) (eps : List Endpoint) (rings : List ℕ) (i : ℕ) : Type 0 where
+-- Control's ring and those of i endpoints at the front of an array.
+pub record Gathered (eps : List Endpoint) (control : ℕ) (rings : List ℕ) (i : ℕ) : Type 0 where
   pub full : length eps ≡ 30
   pub room : length rings ≡ 61
-  pub written : take (m + 1 + i) rings ≡ kept ++ (control ∷ ringsOf (take i eps))
+  pub written : take (i + 1) rings ≡ control ∷ ringsOf (take i eps)
 
--- control's
-pub all-none : (q : List ℕ) (m control : ℕ) (eps : List Endpoint) → length q ≡ 61 → length eps ≡ 30 → m < 61 →
-    All (take m (set q m control)) m control eps (set q m control) 0
+-- one more
+pub gather-next : {eps : List Endpoint} {control : ℕ} {rings : List ℕ} {i : ℕ} → Gathered eps control rings i → i < 30 →
+    Gathered eps control (set rings (i + 1) ((getD eps i blank) .ring)) (i + 1)
 unfolding ringsOf
-all-none q m control eps e f h =
-    let s : m + 1 + 0 ≡ m + 1 = omega arith in
-    record {
-      full = f;
-      room = length-set q m control ∙ e;
-      written = rw (s, add-one m, take-suc-set q m control (omega arith), take-set m q control);
-    }
-
--- one more endpoint's
-pub all-next : {kept : List ℕ} {m control : ℕ} {eps : List Endpoint} {rings : List ℕ} {i : ℕ} → All kept m control eps rings i →
-    i < 30 → m + 1 + i < 61 → All kept m control eps (set rings (m + 1 + i) ((getD eps i blank) .ring)) (i + 1)
-unfolding ringsOf
-all-next {kept} {m} {control} {eps} {rings} {i} a g h =
-    let f : length eps ≡ 30 = a .full in
-    let r : length rings ≡ 61 = a .room in
+gather-next {eps} {control} {rings} {i} g h =
+    let f : length eps ≡ 30 = g .full in
+    let r : length rings ≡ 61 = g .room in
     let x : ℕ = (getD eps i blank) .ring in
-    let s : m + 1 + (i + 1) ≡ suc (m + 1 + i) = omega arith in
     record {
       full = f;
-      room = length-set rings (m + 1 + i) x ∙ r;
+      room = length-set rings (i + 1) x ∙ r;
       written =
-          rw (s, take-suc-set rings (m + 1 + i) x (omega arith), a .written, append-assoc, add-one i, take-suc eps i blank (omega arith), rings-append);
+          rw (add-one (i + 1), take-suc-set rings (i + 1) x (omega arith), g .written, add-one i, take-suc eps i blank (omega arith), rings-append);
     }
 
--- Rings fit in any order.
-eqb-turned : (a b : ℕ) → eqb a b ≡ eqb b a
-eqb-turned a b = go (decided (eqb b a))
-  where
-    go : Decided (eqb b a) → eqb a b ≡ eqb b a
-    go (inl p) = rw (p, eq-eqb a b (sym (eqb-true b a p)))
-    go (inr p) = rw (p, ne-eqb a b (λ s. eqb-false b a p (sym s)))
-
-elem-moved : (y x : ℕ) (l m : List ℕ) → elem y (l ++ (x ∷ m)) ≡ elem y (x ∷ (l ++ m))
-unfolding elem
-elem-moved y x [] m = refl
-elem-moved y x (z ∷ l) m = rw (elem-moved y x l m) (go (eqb y z) (eqb y x) (elem y (l ++ m)))
-  where
-    go : (a b c : Bool) → (a || (b || c)) ≡ (b || (a || c))
-    go true true c = refl
-    go true false c = refl
-    go false b c = refl
-
-elem-turned : (x : ℕ) (l m : List ℕ) → elem x (l ++ m) ≡ elem x (m ++ l)
-unfolding elem
-elem-turned x [] m = rw (append-nil m)
-elem-turned x (y ∷ l) m = rw (elem-moved x y m l, elem-turned x l m)
-
-distinct-moved : (x : ℕ) (l m : List ℕ) → distinct (l ++ (x ∷ m)) ≡ distinct (x ∷ (l ++ m))
-unfolding elem distinct
-distinct-moved x [] m = refl
-distinct-moved x (y ∷ l) m =
-    rw (distinct-moved x l m, elem-moved y x l m, eqb-turned x y)
-    (go (eqb y x) (elem y (l ++ m)) (elem x (l ++ m)) (distinct (l ++ m)))
-  where
-    go : (a b c d : Bool) → (not (a || b) && (not c && d)) ≡ (not (a || c) && (not b && d))
-    go true b c d = refl
-    go false true true d = refl
-    go false true false d = refl
-    go false false true d = refl
-    go false false false d = refl
-
-distinct-turned : (l m : List ℕ) → distinct (l ++ m) ≡ distinct (m ++ l)
-unfolding distinct
-distinct-turned [] m = rw (append-nil m)
-distinct-turned (x ∷ l) m = rw (distinct-moved x m l, elem-turned x l m, distinct-turned l m)
-
-ok-moved : (x : ℕ) (l m : List ℕ) → ringsOk (l ++ (x ∷ m)) ≡ ringsOk (x ∷ (l ++ m))
-unfolding ringsOk
-ok-moved x [] m = refl
-ok-moved x (y ∷ l) m = rw (ok-moved x l m) (go (ringOk y) (ringOk x) (ringsOk (l ++ m)))
-  where
-    go : (a b c : Bool) → (a && (b && c)) ≡ (b && (a && c))
-    go true b c = refl
-    go false true c = refl
-    go false false c = refl
-
-ok-turned : (l m : List ℕ) → ringsOk (l ++ m) ≡ ringsOk (m ++ l)
-unfolding ringsOk
-ok-turned [] m = rw (append-nil m)
-ok-turned (x ∷ l) m = rw (ok-moved x m l, ok-turned l m)
+-- all
+pub gather-all : {eps : List Endpoint} {control : ℕ} {rings : List ℕ} {i : ℕ} (n : ℕ) → Gathered eps control rings i → i ≤ n → n ≤ i →
+    (length rings ≡ 61) × (take (n + 1) rings ≡ control ∷ ringsOf (take n eps))
+gather-all {eps} {control} {rings} {i} n g p q = let e : i ≡ n = omega arith in (g .room, rw (← e) (g .written))
 
 abbrev pub fit : List ℕ → Bool
 fit l = ringsOk l && distinct l
 
-fit-turned : (x : ℕ) (l m : List ℕ) → fit (l ++ (x ∷ m)) ≡ fit (m ++ (x ∷ l))
-unfolding ringsOk distinct
-fit-turned x l m =
-    rw (ok-moved x l m, ok-moved x m l, ok-turned l m, distinct-moved x l m, distinct-moved x m l, elem-turned x l m, distinct-turned l m)
+-- Sound rings, as the code tests them.
+module _ (usable : Bool) (live quarantined : List ℕ) where
+  -- while the record is usable none is quarantined
+  pub sound-open : (m : ℕ) → length quarantined ≡ m → usable ≡ true → not (eqb m 0) ≡ true → false ≡ soundRings usable live quarantined
+  sound-open m c u e = sym (false-if (soundRings usable live quarantined) (λ s. eqb-false m 0 (not-true (eqb m 0) e) (sym c ∙ rings-told usable live quarantined s .free u)))
 
--- How many they are, and whether they fit, as the code tests them.
-module _ (eps : List Endpoint) (n : ℕ) (q : List ℕ) (m control : ℕ) (full : length eps ≡ 30) (whole : length q ≡ 61) (few : n ≤ 30) (less : m ≤ 61) where
-  all-count : length (ringsOf (take n eps) ++ (control ∷ take m q)) ≡ n + 1 + m
-  all-count =
-      let a : length (ringsOf (take n eps)) ≡ n = rings-count eps n (omega arith) in
-      let b : length (take m q) ≡ m = length-take-le m q (omega arith) in
-      simp length-append (omega arith)
+  pub sound-unfit : (fit live ≡ false) ⊎ (fit quarantined ≡ false) → false ≡ soundRings usable live quarantined
+  sound-unfit w = sym (false-if (soundRings usable live quarantined) (λ s. go w (rings-told usable live quarantined s)))
+    where
+      go : (fit live ≡ false) ⊎ (fit quarantined ≡ false) → SoundRings usable live quarantined → ⊥
+      go (inl e) t = not-both (fit live) (and-true (ringsOk live) (distinct live) (t .live-ok) (t .live-distinct)) e
+      go (inr e) t = not-both (fit quarantined) (and-true (ringsOk quarantined) (distinct quarantined) (t .ok) (t .apart)) e
 
-  pub all-many : 61 < n + 1 + m → ringsFit (ringsOf (take n eps) ++ (control ∷ take m q)) ≡ false
-  all-many h = rw (all-count, lt-leb (n + 1 + m) 61 h)
+  -- and else it is the room that counts
+  module _ (m : ℕ) (counted : length quarantined ≡ m) (shut : ((usable ≡ true) × (not (eqb m 0) ≡ false)) ⊎ (usable ≡ false))
+      (l : fit live ≡ true) (q : fit quarantined ≡ true) where
+    none : ((usable ≡ true) × (not (eqb m 0) ≡ false)) ⊎ (usable ≡ false) → usable ≡ true → length quarantined ≡ 0
+    none (inl p) u = counted ∙ eqb-true m 0 (not-false (eqb m 0) (p .1))
+    none (inr p) u = not-both usable u p
 
-  pub all-fit : {rings : List ℕ} {i : ℕ} → All (take m (set q m control)) m control eps rings i → i ≡ n → n + 1 + m ≤ 61 →
-      ringsFit (ringsOf (take n eps) ++ (control ∷ take m q)) ≡ fit (take (n + 1 + m) rings)
-  all-fit {rings} {i} a e h =
-      let s : n + 1 + m ≡ m + 1 + i = omega arith in
-      rw (all-count, le-leb (n + 1 + m) 61 h, s, a .written, take-set m q control, e, fit-turned control (take m q) (ringsOf (take n eps)))
+    pub sound-room : (n k : ℕ) → length live ≡ n → k ≡ length (notAmong live quarantined) → leb (n + k) 61 ≡ soundRings usable live quarantined
+    sound-room n k e f = go (decided (leb (n + k) 61))
+      where
+        all : length (eachOnce live quarantined) ≡ n + k
+        all = once-length live quarantined ∙ rw (e, f)
 
--- While a record is usable none is quarantined.
-pub quarantine-open : (usable : Bool) (m : ℕ) (l : List ℕ) → usable ≡ true → not (eqb m 0) ≡ true → soundRings usable m l ≡ false
-quarantine-open usable m l u e = rw (u, not-true (eqb m 0) e, and-false (ringsFit l))
+        go : Decided (leb (n + k) 61) → leb (n + k) 61 ≡ soundRings usable live quarantined
+        go (inl t) =
+            t ∙ sym (rings-sound usable live quarantined
+            (record {
+              few = rw all (leb-true (n + k) 61 t);
+              live-ok = and-left (ringsOk live) (distinct live) l;
+              live-distinct = and-right (ringsOk live) (distinct live) l;
+              ok = and-left (ringsOk quarantined) (distinct quarantined) q;
+              apart = and-right (ringsOk quarantined) (distinct quarantined) q;
+              free = none shut;
+            }))
+        go (inr t) =
+            t ∙ sym (false-if (soundRings usable live quarantined) (λ s.
+            not-both (leb (n + k) 61) (rw (← all) (le-leb (length (eachOnce live quarantined)) 61 (rings-told usable live quarantined s .few))) t))
 
-pub quarantine-shut : (usable : Bool) (m : ℕ) (l : List ℕ) → ((usable ≡ true) × (not (eqb m 0) ≡ false)) ⊎ (usable ≡ false) →
-    soundRings usable m l ≡ ringsFit l
-quarantine-shut usable m l (inl p) = rw (p .0, not-false (eqb m 0) (p .1), and-true (ringsFit l))
-quarantine-shut usable m l (inr p) = rw (p, and-true (ringsFit l))
+-- no more than there are
+pub count-small : (live q : List ℕ) (m k : ℕ) → k ≡ length (notAmong live (take m q)) → k ≤ m
+count-small live q m k e = omega (arith, not-among-short live (take m q), length-take m q)
+
+-- The i-th of rings, one, and others.
+pub ring-left : (q : List ℕ) (control : ℕ) (live : List ℕ) (i : ℕ) → i < length q → getD q i 0 ≡ getD (q ++ (control ∷ live)) i 0
+ring-left q control live i h = sym (List·getD-append q (control ∷ live) 0 i h)
+
+pub ring-one : (q : List ℕ) (control : ℕ) (live : List ℕ) (i : ℕ) → i ≡ length q → control ≡ getD (q ++ (control ∷ live)) i 0
+ring-one q control live i e = rw e (sym (getD-append-seam q control live 0))
+
+pub ring-right : (q : List ℕ) (control : ℕ) (live : List ℕ) (i : ℕ) → length q < i →
+    getD live (i - length q - 1) 0 ≡ getD (q ++ (control ∷ live)) i 0
+ring-right q control live i h =
+    let k = i - length q - 1 in
+    let e : i ≡ length q + suc k = omega arith in
+    sym (ap (λ j. getD (q ++ (control ∷ live)) j 0) e ∙ getD-append-add q (control ∷ live) (suc k) 0)
+
+-- how many they are
+module _ (q live : List ℕ) (control n i : ℕ) (e : n ≡ length q + 1 + length live) where
+  pub ring-within : i < n → i < length (q ++ (control ∷ live))
+  ring-within h = simp length-append (omega arith)
+
+  pub ring-past : n ≤ i → length (q ++ (control ∷ live)) ≤ i
+  ring-past h = simp length-append (omega arith)
+
+-- one more ring after those that an array holds
+padded-one : (l : List ℕ) (r : ℕ) → length l < 61 → set (padded 61 0 l) (length l) r ≡ padded 61 0 (l ++ (r ∷ []))
+padded-one l r h =
+    let m = l ++ (r ∷ []) in
+    let n : length m ≡ length l + 1 = length-append l (r ∷ []) in
+    let p : set (padded 61 0 (take (length l) m)) (length l) (getD m (length l) 0) ≡ padded 61 0 (take (length l + 1) m) =
+    padded-next 61 0 m (length l) (omega arith) (omega arith) in
+    rw (take-append-seam l (r ∷ []), getD-append-seam l r [] 0, ← n, take-length m) at p
+
+-- The first i of some rings have entered a quarantine that was empty.
+pub record Entering (all rings : List ℕ) (count i : ℕ) : Type 0 where
+  pub held : List ℕ
+  pub filled : rings ≡ padded 61 0 held
+  pub counted : count ≡ length held
+  pub few : count ≤ 61
+  pub rest : entered [] all ≡ entered held (drop i all)
+
+pub enter-start : (all : List ℕ) → Entering all (replicate 61 0) 0 0
+unfolding padded
+enter-start all = record { held = []; filled = refl; counted = refl; few = omega arith; rest = refl }
+
+module _ {all rings : List ℕ} {count i : ℕ} (e : Entering all rings count i) where
+  pub enter-length : length rings ≡ 61
+  enter-length = rw (e .filled) (padded-length 61 0 (e .held) (omega (arith, e .counted, e .few)))
+
+  enter-held : take count rings ≡ e .held
+  unfolding padded
+  enter-held = rw (e .filled, e .counted) (take-append-seam (e .held) (replicate (61 - length (e .held)) 0))
+
+  module _ (ring : ℕ) (h : i < length all) (r : ring ≡ getD all i 0) where
+    enter-turn : entered [] all ≡ entered (cond (elem ring (e .held)) (e .held) (e .held ++ (ring ∷ []))) (drop (i + 1) all)
+    unfolding entered
+    enter-turn = e .rest ∙ rw (add-one i, drop-cons all i 0 h, r)
+
+    -- one that is there already
+    pub enter-old : elem ring (take count rings) ≡ true → Entering all rings count (i + 1)
+    enter-old t =
+        let k : elem ring (e .held) ≡ true = rw (← enter-held) t in
+        record { held = e .held; filled = e .filled; counted = e .counted; few = e .few; rest = enter-turn ∙ rw k }
+
+    -- one that is not
+    module _ (t : elem ring (take count rings) ≡ false) (room : length (entered [] all) ≤ 61) where
+      enter-more : entered [] all ≡ entered (e .held ++ (ring ∷ [])) (drop (i + 1) all)
+      enter-more = let k : elem ring (e .held) ≡ false = rw (← enter-held) t in enter-turn ∙ rw k
+
+      pub enter-room : count < 61
+      enter-room =
+          let l : length (e .held ++ (ring ∷ [])) ≤ length (entered [] all) = rw enter-more (entered-longer (e .held ++ (ring ∷ [])) (drop (i + 1) all)) in
+          omega (arith, l, e .counted, length-append (e .held) (ring ∷ []))
+
+      pub enter-new : Entering all (set rings count ring) (count + 1) (i + 1)
+      enter-new =
+          let c : count ≡ length (e .held) = e .counted in
+          record {
+            held = e .held ++ (ring ∷ []);
+            filled = rw (e .filled, c) (padded-one (e .held) ring (omega (arith, enter-room)));
+            counted = omega (arith, c, length-append (e .held) (ring ∷ []));
+            few = omega (arith, enter-room);
+            rest = enter-more;
+          }
+
+  pub enter-end : length all ≤ i → (rings ≡ padded 61 0 (entered [] all)) × (count ≡ length (entered [] all))
+  unfolding entered
+  enter-end h =
+      let k : entered [] all ≡ e .held = e .rest ∙ rw (drop-of-length-le all h) in
+      (rw k (e .filled), rw k (e .counted))
 
 -- The first i of some rings at the front of an array, zeros after them.
 pub record Filled (rings out : List ℕ) (i : ℕ) : Type 0 where
@@ -195,22 +233,22 @@ fill-next {rings} {out} {i} f h =
 pub part-count : (l : List ℕ) (start count : ℕ) → start + count ≤ length l → length (take count (drop start l)) ≡ count
 part-count l start count h = length-take-le count (drop start l) (rw (length-drop start l) (omega arith))
 
--- `offer_check`
+-- `draw_check`
 refused-as : (a : Answer) (k : Check) (f : Found) → check.Refuse a ≡ k → CheckedAs (checked.Refuse a) k f
 unfolding checkOf
 refused-as a k f e =
     record { check = e; words = λ start count p. let z : _≡_ {A = ℕ} 0 1 = cc in absurd (omega arith) }
 
-module _ (list : List ℕ) (i a : ℕ) (c : EndpointMap) (rings : List ℕ) (control : ℕ) (quarantined : List ℕ) where
-  abbrev Offered : Checked → Type 0
-  Offered r = CheckedAs r (offerCheck list i a c rings control quarantined check.Pass) (findEndpoints list i a)
+module _ (list : List ℕ) (i a : ℕ) (c : EndpointMap) (rings : ℕ) where
+  abbrev Drawn : Checked → Type 0
+  Drawn r = CheckedAs r (drawCheck list i a c rings check.Pass) (findEndpoints list i a)
 
-  pub not-found : findEndpoints list i a ≡ NotFound → Offered (checked.Refuse answer.NotFound)
+  pub not-found : findEndpoints list i a ≡ NotFound → Drawn (checked.Refuse answer.NotFound)
   unfolding isFound
   not-found e = refused-as _ _ _ (sym (rw e))
 
   module _ (start count : ℕ) (e : findEndpoints list i a ≡ Endpoints start count) where
-    pub not-free : addressesFree (take count (drop start list)) i c ≡ false → Offered (checked.Refuse answer.InvalidParameter)
+    pub not-free : addressesFree (take count (drop start list)) i c ≡ false → Drawn (checked.Refuse answer.InvalidParameter)
     unfolding settingWords foundWords isFound
     not-free n = refused-as _ _ _ (sym (rw (e, n)))
 
@@ -218,10 +256,10 @@ module _ (list : List ℕ) (i a : ℕ) (c : EndpointMap) (rings : List ℕ) (con
       counted : length (take count (drop start list)) ≡ count
       counted = part-count list start count (found-inside list i a start count e)
 
-      pub not-fit : offerOk count rings (c .rings) control quarantined ≡ false → Offered (checked.Refuse answer.Rings)
+      pub too-few : rings < count → Drawn (checked.Refuse answer.TooFewRings)
       unfolding settingWords foundWords isFound
-      not-fit n = refused-as _ _ _ (sym (rw (e, free, counted, n)))
+      too-few n = refused-as _ _ _ (sym (rw (e, free, counted, lt-leb count rings n)))
 
-      pub passes : offerOk count rings (c .rings) control quarantined ≡ true → Offered (checked.Words start count)
+      pub passes : count ≤ rings → Drawn (checked.Words start count)
       unfolding settingWords foundWords isFound checkOf
-      passes n = record { check = sym (rw (e, free, counted, n)); words = λ s t p. cc }
+      passes n = record { check = sym (rw (e, free, counted, le-leb count rings n)); words = λ s t p. cc }

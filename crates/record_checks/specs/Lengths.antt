@@ -8,7 +8,7 @@ use Rattle.command.specs.Command.{LOG-ROOM}
 
 -- 1, 2, 3, and then the call's own.
 abbrev pub lengthsCheck : ℕ → ℕ → ℕ → ℕ → ℕ → Check → Check
-lengthsCheck spacing n ctx routes log next =
+lengthsCheck spacing slots ctx routes log next =
     unless (eqb ctx (33 * spacing)) answer.ContextLength
-    (unless (eqb routes (32 * (n + 1))) answer.RoutesLength
+    (unless (eqb routes (32 * (slots + 1))) answer.RoutesLength
     (unless (leb LOG-ROOM log) answer.LogTooShort next))

@@ -1,5 +1,6 @@
+pub mod Draw
 pub mod Lengths
-pub mod Offer
 pub mod Rings
 pub mod Sound
+pub mod Store
 pub mod Think

@@ -7,7 +7,7 @@ ghost use mathlib.Core.Path.{_≡_};
 ghost use mathlib.Core.List.{List};
 ghost use Prim.Native.Nat.{ℕ, _≤_};
 ghost use Rattle.record_settings.specs.Held.{HELD-ROOM, heldIn};
-ghost use Rattle.record_checks.specs.Offer.{heldCheck};
+ghost use Rattle.record_checks.specs.Draw.{heldCheck};
 
 // 8, of an interface to be released.
 pub fn held_check(list: &[u32], interfaces: [u8; HELD_ROOM], held: usize, interface: u8) -> Check

@@ -8,14 +8,14 @@ ghost use Rattle.answer.specs.declared.Check.the-variants.{Pass};
 ghost use Rattle.record_checks.specs.Lengths.{lengthsCheck};
 
 // 1, 2, 3.
-pub fn lengths_check(spacing: usize, n: u8, ctx: usize, routes: usize, log: usize) -> Check
+pub fn lengths_check(spacing: usize, max_slots: u8, ctx: usize, routes: usize, log: usize) -> Check
     requires { ⌜ spacing ≤ 64 ⌝ }
-    ensures { λ r. ⌜ r ≡ lengthsCheck spacing n ctx routes log Pass ⌝ }
+    ensures { λ r. ⌜ r ≡ lengthsCheck spacing «max_slots» ctx routes log Pass ⌝ }
 {
     if ctx != 33 * spacing {
         return Check::Refuse(Answer::ContextLength);
     }
-    let slots = n as usize;
+    let slots = max_slots as usize;
     if routes != 32 * (slots + 1) {
         return Check::Refuse(Answer::RoutesLength);
     }

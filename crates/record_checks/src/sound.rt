@@ -2,6 +2,7 @@
 use descriptor_list::LIST_ROOM;
 use record_endpoint::Endpoint;
 use record_endpoint::PLACES;
+use record_ring::GIVEN_ROOM;
 use record_ring::RING_ROOM;
 use record_settings::HELD_ROOM;
 ghost use mathlib.Core.Path.{_≡_};
@@ -14,13 +15,13 @@ ghost use Rattle.record_endpoint.specs.Endpoint.{addresses};
 ghost use Rattle.record_settings.specs.Held.{HELD-ROOM, heldIn};
 ghost use Rattle.record_checks.specs.Sound.{soundSlot, soundCounts, soundLists};
 
-pub fn slot_sound(slot: u8, n: u8, spacing: usize, speed: u8) -> bool
-    ensures { λ r. ⌜ r ≡ soundSlot slot n spacing speed ⌝ }
+pub fn slot_sound(slot: u8, max_slots: u8, spacing: usize, speed: u8) -> bool
+    ensures { λ r. ⌜ r ≡ soundSlot slot «max_slots» spacing speed ⌝ }
 {
     if slot < 1 {
         return false;
     }
-    if n < slot {
+    if max_slots < slot {
         return false;
     }
     if spacing != 32 && spacing != 64 {
@@ -29,8 +30,14 @@ pub fn slot_sound(slot: u8, n: u8, spacing: usize, speed: u8) -> bool
     def::speed_known(speed)
 }
 
-pub fn counts_fit(words: usize, endpoints: usize, held: usize, quarantined: usize) -> bool
-    ensures { λ r. ⌜ r ≡ soundCounts words endpoints held quarantined ⌝ }
+pub fn counts_fit(
+    words: usize,
+    endpoints: usize,
+    held: usize,
+    quarantined: usize,
+    given: usize,
+) -> bool
+    ensures { λ r. ⌜ r ≡ soundCounts words endpoints held quarantined given ⌝ }
 {
     if LIST_ROOM < words {
         return false;
@@ -41,7 +48,10 @@ pub fn counts_fit(words: usize, endpoints: usize, held: usize, quarantined: usiz
     if HELD_ROOM < held {
         return false;
     }
-    quarantined <= RING_ROOM
+    if RING_ROOM < quarantined {
+        return false;
+    }
+    given <= GIVEN_ROOM
 }
 
 // The list, and beside it the held settings and the endpoints.

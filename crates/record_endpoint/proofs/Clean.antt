@@ -13,7 +13,8 @@ use lib.ListN.{length, getD, set, take, drop, replicate, length-take, List·getD
 use lib.Seq.{take-suc, take-all, append-snoc, set-at, getD-set-same, getD-set-other, length-take-le, getD-take}
 use Rattle.laws.proofs.Tests.{and-left, and-right, not-both}
 use Rattle.laws.proofs.Cases.{Decided, decided}
-use Rattle.laws.proofs.Distinct.{elem, elem-at}
+use Rattle.laws.specs.Distinct.{elem}
+use Rattle.laws.proofs.Distinct.{elem-at}
 use Rattle.record_endpoint.proofs.Laws.{no-place-low, place-address, place-same, address-rises, claimed-whole, claimed-ring, claimed-owner, claimed-active, active-length, active-other}
 use Rattle.record_endpoint.proofs.Steps.{getD-set, whole-none, whole-entry, addresses-at, addresses-length, take-filled}
 use Rattle.record_endpoint.specs.Order.{addressAt, placeOf}

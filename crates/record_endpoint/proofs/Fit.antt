@@ -11,7 +11,7 @@ use lib.Dec.{eqb, ltb}
 use lib.ListN.{length, getD, set, take, drop, replicate, length-set, getD-replicate, List·getD-eq-default}
 use lib.Seq.{getD-set-same, getD-set-other}
 use Rattle.laws.proofs.Cases.{Decided, decided}
-use Rattle.laws.proofs.Distinct.{elem}
+use Rattle.laws.specs.Distinct.{elem}
 use Rattle.record_endpoint.specs.Order.{placeOf}
 use Rattle.record_endpoint.specs.Endpoint.{blank, addresses, addressesFit}
 use Rattle.record_endpoint.specs.declared.entry.Endpoint.{Endpoint}

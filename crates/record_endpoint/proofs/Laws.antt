@@ -14,7 +14,7 @@ use lib.ListN.{length, getD, set, take, drop, replicate, length-set, getD-replic
 use lib.Seq.{take-suc, length-take-le}
 use Rattle.laws.proofs.Tests.{and-right}
 use Rattle.laws.proofs.Cases.{Decided, decided}
-use Rattle.laws.proofs.Distinct.{elem}
+use Rattle.laws.specs.Distinct.{elem}
 use Rattle.descriptor.specs.Endpoint.{dciOf}
 use Rattle.descriptor.specs.Word.{ENDPOINT, kind, wordOk, endpointDescriptor, directionIn, endpointNumber}
 use Rattle.descriptor.proofs.Laws.{endpoint-word, fields-fit, dci-word}

@@ -4,7 +4,7 @@ use mathlib.Core.Bool.{Bool, true, not, _&&_}
 use mathlib.Core.List.{List, [], _∷_, _++_}
 use lib.Dec.{ltb}
 use lib.ListN.{length, replicate}
-use Rattle.laws.proofs.Distinct.{elem}
+use Rattle.laws.specs.Distinct.{elem}
 use Rattle.record_endpoint.specs.Order.{PLACES, placeOf}
 use Rattle.record_endpoint.specs.declared.entry.Handle.the-variants.{Active}
 use Rattle.record_endpoint.specs.declared.entry.Endpoint.{Endpoint}

@@ -1,6 +1,6 @@
 -- What callers use of rings.
 use Prim.Native.Nat.{ℕ, zero, suc, _%_, _<_}
-use mathlib.Core.Path.{_≡_}
+use mathlib.Core.Path.{_≡_, refl}
 use mathlib.Core.Logic.{_⊎_, inl, inr}
 use mathlib.Core.Bool.{true, false, not, _&&_}
 use mathlib.Core.List.{List, [], _∷_}
@@ -9,7 +9,8 @@ use borrow.Author.Tests.{eqb-true, eqb-false, not-true}
 use lib.Dec.{eqb}
 use lib.ListN.{length, getD}
 use Rattle.laws.proofs.Tests.{and-left, and-right}
-use Rattle.laws.proofs.Distinct.{elem, elem-none, elem-cases, distinct}
+use Rattle.laws.specs.Distinct.{elem, distinct}
+use Rattle.laws.proofs.Distinct.{elem-none, elem-here, elem-there, elem-cases}
 use Rattle.record_ring.specs.Rings.{ringOk, ringsOk, disjoint, offerOk}
 
 -- Each of them is a nonzero multiple of 16.
@@ -36,6 +37,12 @@ disjoint-elem (r ∷ l) m e x h =
     go : (x ≡ r) ⊎ (elem x l ≡ true) → elem r m ≡ false → (elem x l ≡ true → elem x m ≡ false) → elem x m ≡ false
     go (inl s) f g = rw s f
     go (inr s) f g = g s
+
+-- Rings none of which is among others.
+pub disjoint-from : (l m : List ℕ) → ((x : ℕ) → elem x l ≡ true → elem x m ≡ false) → disjoint l m ≡ true
+unfolding disjoint
+disjoint-from [] m f = refl
+disjoint-from (r ∷ l) m f = rw (f r (elem-here r l), disjoint-from l m (λ x e. f x (elem-there x r l e)))
 
 -- What a passed offer tells.
 pub record Offered (count : ℕ) (rings live : List ℕ) (control : ℕ) (quarantined : List ℕ) : Type 0 where

@@ -1,1 +1,4 @@
+pub mod Promises
 pub mod Rings
+pub mod Store
+pub mod Struck

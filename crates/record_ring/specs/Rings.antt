@@ -1,10 +1,10 @@
 -- Ring addresses, from 01, "Rings offered" and the sound record.
 use Prim.Native.Nat.{ℕ, _%_}
-use mathlib.Core.Bool.{Bool, true, not, _&&_}
-use mathlib.Core.List.{List, [], _∷_}
+use mathlib.Core.Bool.{Bool, true, not, cond, _&&_}
+use mathlib.Core.List.{List, [], _∷_, _++_}
 use lib.Dec.{eqb}
 use lib.ListN.{length}
-use Rattle.laws.proofs.Distinct.{elem, distinct}
+use Rattle.laws.specs.Distinct.{elem, distinct}
 
 -- How many rings a record may have: live, control's and quarantined.
 abbrev pub RING-ROOM : ℕ
@@ -22,6 +22,16 @@ ringsOk (r ∷ rs) = ringOk r && ringsOk rs
 unfoldable pub disjoint : List ℕ → List ℕ → Bool
 disjoint [] others = true
 disjoint (r ∷ rs) others = not (elem r others) && disjoint rs others
+
+-- Of some rings, those that are not among others.
+unfoldable pub notAmong : List ℕ → List ℕ → List ℕ
+notAmong others [] = []
+notAmong others (r ∷ rs) = cond (elem r others) (notAmong others rs) (r ∷ notAmong others rs)
+
+-- Rings in quarantine, after some more have entered it: each that is not there already.
+unfoldable pub entered : List ℕ → List ℕ → List ℕ
+entered quarantined [] = quarantined
+entered quarantined (r ∷ rs) = entered (cond (elem r quarantined) quarantined (quarantined ++ (r ∷ []))) rs
 
 -- Rings offered for so many endpoint words, while others are live, control's or quarantined.
 unfoldable pub offerOk : ℕ → List ℕ → List ℕ → ℕ → List ℕ → Bool

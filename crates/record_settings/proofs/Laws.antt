@@ -12,7 +12,8 @@ use lib.ListN.{length, getD, drop, replicate, length-append, length-take}
 use lib.Seq.{getD-take, getD-drop}
 use Rattle.laws.proofs.Tests.{and-left, and-right, and-true, not-both}
 use Rattle.laws.proofs.Cases.{Decided, decided, false-if, or-left, or-right, or-cases, or-none}
-use Rattle.laws.proofs.Distinct.{elem, distinct, without, elem-cases, elem-append, elem-without, distinct-cons, distinct-append, without-gone, distinct-without, length-without-le, length-without-one, distinct-first, distinct-rest, elem-none}
+use Rattle.laws.specs.Distinct.{elem, distinct}
+use Rattle.laws.proofs.Distinct.{without, elem-cases, elem-append, elem-without, distinct-cons, distinct-append, without-gone, distinct-without, length-without-le, length-without-one, distinct-first, distinct-rest, elem-none}
 use Rattle.descriptor.specs.Endpoint.{dciOf}
 use Rattle.descriptor.specs.Word.{ENDPOINT, kind, wordOk, endpointDescriptor}
 use Rattle.descriptor_list.specs.Lookup.{findEndpoints}

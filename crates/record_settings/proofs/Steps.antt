@@ -14,7 +14,8 @@ use lib.ListN.{length, getD, set, drop, length-append, drop-of-length-le, List·
 use lib.Seq.{drop-drop, getD-drop, getD-set-same, getD-set-other, set-append-seam, drop-cons, ext-getD}
 use Rattle.laws.proofs.Tests.{and-left, and-right, not-both}
 use Rattle.laws.proofs.Cases.{Decided, decided, false-if}
-use Rattle.laws.proofs.Distinct.{elem, distinct, elem-append}
+use Rattle.laws.specs.Distinct.{elem, distinct}
+use Rattle.laws.proofs.Distinct.{elem-append}
 use Rattle.descriptor_list.specs.Lookup.{findEndpoints}
 use Rattle.descriptor.specs.Word.{endpointDescriptor}
 use Rattle.record_endpoint.specs.Order.{placeOf}

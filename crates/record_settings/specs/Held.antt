@@ -5,7 +5,7 @@ use mathlib.Core.Bool.{Bool, true, false, cond, _&&_, _||_}
 use mathlib.Core.List.{List, [], _∷_, _++_}
 use lib.Dec.{eqb}
 use lib.ListN.{length, getD, take, drop}
-use Rattle.laws.proofs.Distinct.{distinct}
+use Rattle.laws.specs.Distinct.{distinct}
 use Rattle.descriptor_list.specs.declared.Found.{Found}
 use Rattle.descriptor_list.specs.declared.Found.the-variants.{Endpoints, NotFound}
 use Rattle.descriptor_list.specs.Lookup.{findEndpoints}

@@ -1,13 +1,14 @@
 // Replays bring-ups that the original was given, through the function for C; `stdout` is what the original left.
 use xhci_device::Answered;
 
-// The numbers stand in the order of the parameters: slot, n, speed, has_parent, parent, port, root_port, ring, header, packet, value.
+// The numbers stand in the order of the parameters: slot, n, speed, has_parent, parent, port, root_port, header, packet, value.
 fn bring_up(
     image: &mut [u64],
     ctx: &mut [u8],
     routes: &mut [u64],
     log: &mut [u32],
     outcomes: &[u8],
+    rings: &[u64],
     hubs: &[u64],
     list: &[u32],
 ) -> Answered {
@@ -17,6 +18,7 @@ fn bring_up(
         routes,
         log,
         outcomes,
+        rings,
         hubs,
         list,
         replay_sample::byte(),
@@ -26,7 +28,6 @@ fn bring_up(
         replay_sample::next() as usize,
         replay_sample::byte(),
         replay_sample::byte(),
-        replay_sample::next(),
         replay_sample::next() as usize,
         replay_sample::byte(),
         replay_sample::byte(),
@@ -41,6 +42,9 @@ fn run(ctx: &mut [u8]) {
     let mut outcomes = [0u8; replay_sample::OUTCOMES_ROOM];
     replay_sample::bytes(&mut outcomes);
     let n = replay_sample::count(replay_sample::OUTCOMES_ROOM);
+    let mut rings = [0u64; replay_sample::RINGS_ROOM];
+    replay_sample::words(&mut rings);
+    let given = replay_sample::count(replay_sample::RINGS_ROOM);
     let mut hubs = [0u64; replay_sample::HUBS_ROOM];
     replay_sample::words(&mut hubs);
     let hubs_len = replay_sample::count(replay_sample::HUBS_ROOM);
@@ -53,6 +57,7 @@ fn run(ctx: &mut [u8]) {
         &mut routes,
         &mut log,
         &outcomes[0..n],
+        &rings[0..given],
         &hubs[0..hubs_len],
         &list[0..list_len],
     );

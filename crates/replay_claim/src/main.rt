@@ -10,9 +10,6 @@ fn run(ctx: &mut [u8]) {
     let n = replay_sample::count(replay_sample::OUTCOMES_ROOM);
     let interface = replay_sample::byte();
     let alternate = replay_sample::byte();
-    let mut rings = [0u64; replay_sample::RINGS_ROOM];
-    replay_sample::words(&mut rings);
-    let offered = replay_sample::count(replay_sample::RINGS_ROOM);
     let a = xhci_device::xhci_device_claim(
         &mut image,
         ctx,
@@ -21,7 +18,6 @@ fn run(ctx: &mut [u8]) {
         &outcomes[0..n],
         interface,
         alternate,
-        &rings[0..offered],
     );
     replay_sample::left(a, &log, ctx, &routes, &image);
 }

@@ -11,4 +11,4 @@ pub const HUBS_ROOM: usize = 16;
 
 pub const LIST_ROOM: usize = 256;
 
-pub const RINGS_ROOM: usize = 32;
+pub const RINGS_ROOM: usize = 65;

@@ -14,8 +14,7 @@ use Rattle.answer.specs.declared.Check.the-variants.{Pass}
 use Rattle.answer.specs.Answer.{number}
 use Rattle.command.specs.Course.{words, result, played}
 use Rattle.descriptor.specs.Word.{endpointDescriptor}
-use Rattle.context_block.specs.Blocks.{wordDci}
-use Rattle.context_block.specs.Promises.{someDci}
+use Rattle.context_block.specs.Blocks.{wordDci, someDci}
 use Rattle.context.specs.Steps.{wordDcis}
 use Rattle.transfer.specs.Routes.{routeOf, queues, ringFor, OutsideSlot}
 use Rattle.transfer.proofs.Laws.{ringFor-none}
@@ -34,7 +33,7 @@ use Rattle.device.specs.Device.{listOf, endpointMapIn, heldOf}
 use Rattle.device.specs.Left.{Left, ended, marked}
 use Rattle.device.specs.Check.{recordCheck}
 use Rattle.device.specs.Calls.{onCheck, hubCourse, hubLeft, hubUpdate}
-use Rattle.device.specs.Claim.{claimCheck, claim}
+use Rattle.device.specs.Claim.{claimCheck, drawn, claim}
 use Rattle.device.specs.Release.{releaseCheck, release}
 use Rattle.device.specs.SetConfiguration.{setRecord, setConfiguration}
 use Rattle.device.proofs.Updates.{same-then}
@@ -48,19 +47,19 @@ use Rattle.theorem_accepting.proofs.Runs.{Ran, done-at, offer-nonzero, 
 -- What a call that ran gives.
 accepted :
     (d : Device) (routes : List ℕ) (hs : List Held) (c : EndpointMap) (x y : List ℕ) (l : Left) →
-    Ran d routes hs c x y l → length routes ≡ 32 * (d .n + 1) → Accepted d l
+    Ran d routes hs c x y l → length routes ≡ 32 * (d .«max_slots» + 1) → Accepted d l
 accepted d routes hs c x y l r t =
     record {
       answer = r .answer;
       same = r .made .same;
       usable = made-usable (r .made) refl;
       is-sound = r .made .is-sound;
-      table = rw (r .left, r .made .same .n) (length-kept routes (d .slot .0) x y ∙ t);
+      table = rw (r .left, r .made .same .«max_slots») (length-kept routes (d .slot .0) x y ∙ t);
       routed = λ p h. rw (r .made .endpoints, r .made .same .slot) (r .routed p h);
     }
 
 table-length :
-    (d : Device) (ctx routes log o : List ℕ) (check : Check) → Ready d ctx routes log o check → length routes ≡ 32 * (d .n + 1)
+    (d : Device) (ctx routes log o : List ℕ) (check : Check) → Ready d ctx routes log o check → length routes ≡ 32 * (d .«max_slots» + 1)
 table-length d ctx routes log o check g = passed d (length ctx) (length routes) (length log) check (g .passes) .0 .table
 
 -- Two accepted calls, one after the other.
@@ -92,7 +91,7 @@ ready-next d l ctx log o check a b e =
         a .is-sound,
         a .usable,
         eq-eqb (length ctx) (33 * l .device .spacing) s,
-        eq-eqb (length (l .routes)) (32 * (l .device .n + 1)) (a .table),
+        eq-eqb (length (l .routes)) (32 * (l .device .«max_slots» + 1)) (a .table),
         le-leb 64 (length log) (b .room),
         e,
       );
@@ -120,27 +119,30 @@ word-dci : (w : ℕ) → placeOf ((endpointDescriptor w) .address) < 30 → dciA
 unfolding wordDci
 word-dci w h = place-dci ((endpointDescriptor w) .address) h
 
-module _ (d : Device) (ctx routes log o : List ℕ) (i a : ℕ) (rings : List ℕ)
-    (g : Ready d ctx routes log o (claimCheck d i a rings Pass)) where
+module _ (d : Device) (ctx routes log o : List ℕ) (i a : ℕ)
+    (g : Ready d ctx routes log o (claimCheck d i a Pass)) where
+  abbrev rings : List ℕ
+  rings = drawn d i a
+
   abbrev claimedWords : List ℕ
   claimedWords = settingWords (listOf d) i a
 
   -- The ring offered for a place is its route.
   pub place-route :
       (p : ℕ) → p < 30 → hasPlace p claimedWords ≡ true →
-      routeOf ((claim d ctx routes log o i a rings) .routes) (d .slot .0) (dciAt p) ≡ getD (pendingRings claimedWords rings) p 0
+      routeOf ((claim d ctx routes log o i a) .routes) (d .slot .0) (dciAt p) ≡ getD (pendingRings claimedWords rings) p 0
   unfolding claimedRing
   place-route p h e =
-      claim-ran d ctx routes log o i a rings g .routed p h
+      claim-ran d ctx routes log o i a g .routed p h
       ∙ claimed-ring i (pendingRings claimedWords rings) (endpointMapIn d) p h
-      ∙ rw (offer-places d ctx routes log o i a rings g p h, e)
+      ∙ rw (offer-places d ctx routes log o i a g p h, e)
 
   word-route :
       (xs ys : List ℕ) (w : ℕ) → claimedWords ≡ xs ++ (w ∷ ys) → someDci (wordDci w) ys ≡ false →
-      (routeOf ((claim d ctx routes log o i a rings) .routes) (d .slot .0) (wordDci w) ≡ getD rings (length xs) 0)
+      (routeOf ((claim d ctx routes log o i a) .routes) (d .slot .0) (wordDci w) ≡ getD rings (length xs) 0)
       × (getD rings (length xs) 0 ≡ 0 → ⊥)
   word-route xs ys w e s =
-      let v = passed d (length ctx) (length routes) (length log) (claimCheck d i a rings Pass) (g .passes) .0 .facts .list in
+      let v = passed d (length ctx) (length routes) (length log) (claimCheck d i a Pass) (g .passes) .0 .facts .list in
       let p = placeOf ((endpointDescriptor w) .address) in
       let k : length xs < length claimedWords = rw (e, length-append xs (w ∷ ys)) (omega arith) in
       let at : getD claimedWords (length xs) 0 ≡ w = rw e (getD-append-seam xs w ys 0) in
@@ -148,16 +150,16 @@ module _ (d : Device) (ctx routes log o : List ℕ) (i a : ℕ) (rings : List �
       let has : hasPlace p claimedWords ≡ true = rw at at (has-place claimedWords (length xs) k) in
       let ring : getD (pendingRings claimedWords rings) p 0 ≡ getD rings (length xs) 0 =
       sym (words-ring claimedWords rings p h) ∙ rw (word-dci w h, e) (last-ring xs ys w rings 0 s) in
-      (rw (← word-dci w h) (place-route p h has ∙ ring), offer-nonzero d ctx routes log o i a rings g (length xs) k)
+      (rw (← word-dci w h) (place-route p h has ∙ ring), offer-nonzero d ctx routes log o i a g (length xs) k)
 
 pub claim-accepts : ClaimAccepted
-claim-accepts d ctx routes log o i a rings g =
-    let r = claim-ran d ctx routes log o i a rings g in
+claim-accepts d ctx routes log o i a g =
+    let r = claim-ran d ctx routes log o i a g in
     record {
       accepted = accepted d routes _ _ _ _ _ r (table-length d ctx routes log o _ g);
       held = rw (r .made .held) (held-with i a (heldOf d));
       alternate-held = rw (r .made .held) (alternate-with i a (heldOf d));
-      routes = word-route d ctx routes log o i a rings g;
+      routes = word-route d ctx routes log o i a g;
     }
 
 pub release-accepts : ReleaseAccepted
@@ -219,25 +221,25 @@ module _ (d : Device) (routes : List ℕ) (hs : List Held) (c : EndpointMap) (x 
   ran-low e h = rw (r .left) (low-kept routes (d .slot .0) x y e h)
 
 -- A claim of an interface that holds nothing, and then its release.
-module _ (d : Device) (ctx routes log o : List ℕ) (i a : ℕ) (rings : List ℕ)
-    (g : Ready d ctx routes log o (claimCheck d i a rings Pass))
+module _ (d : Device) (ctx routes log o : List ℕ) (i a : ℕ)
+    (g : Ready d ctx routes log o (claimCheck d i a Pass))
     (unheld : isHeld i (heldOf d) ≡ false)
     (ctx₂ log₂ o₂ : List ℕ) (enough : Enough d ctx₂ log₂ o₂) where
   abbrev pending : List ℕ
-  pending = pendingRings (settingWords (listOf d) i a) rings
+  pending = pendingRings (settingWords (listOf d) i a) (drawn d i a)
 
   abbrev first : Left
-  first = claim d ctx routes log o i a rings
+  first = claim d ctx routes log o i a
 
   abbrev last : Left
   last = release (first .device) ctx₂ (first .routes) log₂ o₂ i
 
   first-accepted : Accepted d first
-  first-accepted = claim-accepts d ctx routes log o i a rings g .accepted
+  first-accepted = claim-accepts d ctx routes log o i a g .accepted
 
   last-check : releaseCheck (first .device) i ≡ Pass
   unfolding releaseCheck
-  last-check = rw (claim-accepts d ctx routes log o i a rings g .held)
+  last-check = rw (claim-accepts d ctx routes log o i a g .held)
 
   last-ready : Ready (first .device) ctx₂ (first .routes) log₂ o₂ (releaseCheck (first .device) i)
   last-ready = ready-next d first ctx₂ log₂ o₂ (releaseCheck (first .device) i) first-accepted enough last-check
@@ -250,33 +252,33 @@ module _ (d : Device) (ctx routes log o : List ℕ) (i a : ℕ) (rings : List �
   last-held : heldOf (last .device) ≡ heldOf d
   last-held =
       release-ran (first .device) ctx₂ (first .routes) log₂ o₂ i last-ready .made .held
-      ∙ ap (withoutSetting i) (claim-ran d ctx routes log o i a rings g .made .held)
+      ∙ ap (withoutSetting i) (claim-ran d ctx routes log o i a g .made .held)
       ∙ setting-back i a (heldOf d) unheld
 
   unowned : (p : ℕ) → p < 30 → isOwned (Interface i) (endpointMapIn d) p ≡ false
   unowned p h =
-      let f = passed d (length ctx) (length routes) (length log) (claimCheck d i a rings Pass) (g .passes) .0 .facts in
+      let f = passed d (length ctx) (length routes) (length log) (claimCheck d i a Pass) (g .passes) .0 .facts in
       match-unheld (listOf d) (heldOf d) (endpointMapIn d) (match-facts (listOf d) (heldOf d) (endpointMapIn d) (f .endpoints)) i p unheld h
 
   unringed : (p : ℕ) → p < 30 → eqb (getD pending p 0) 0 ≡ false → getD ((endpointMapIn d) .rings) p 0 ≡ 0
   unringed p h e =
       let words = settingWords (listOf d) i a in
-      let t = passed d (length ctx) (length routes) (length log) (claimCheck d i a rings Pass) (g .passes) .1 in
-      free-ring words i (endpointMapIn d) p (claim-passed d i a rings t .free) h
-      (not-false (hasPlace p words) (sym (offer-places d ctx routes log o i a rings g p h) ∙ e)) (unowned p h)
+      let t = passed d (length ctx) (length routes) (length log) (claimCheck d i a Pass) (g .passes) in
+      free-ring words i (endpointMapIn d) p (claim-passed d i a (t .0 .is-sound) (t .1) .free) h
+      (not-false (hasPlace p words) (sym (offer-places d ctx routes log o i a g p h) ∙ e)) (unowned p h)
 
   last-map : endpointMapIn (last .device) ≡ endpointMapIn d
   last-map =
-      let s = passed d (length ctx) (length routes) (length log) (claimCheck d i a rings Pass) (g .passes) .0 .is-sound in
+      let s = passed d (length ctx) (length routes) (length log) (claimCheck d i a Pass) (g .passes) .0 .is-sound in
       release-ran (first .device) ctx₂ (first .routes) log₂ o₂ i last-ready .made .endpoints
-      ∙ ap (claimedEndpoints i (replicate 30 0)) (claim-ran d ctx routes log o i a rings g .made .endpoints)
+      ∙ ap (claimedEndpoints i (replicate 30 0)) (claim-ran d ctx routes log o i a g .made .endpoints)
       ∙ map-back i pending (endpointMapIn d) (sound-clean d s) unowned unringed
 
   outside-back : (k : ℕ) → OutsideSlot (d .slot .0) k → getD (last .routes) k 0 ≡ getD routes k 0
   outside-back k out =
       ran-outside (first .device) (first .routes) _ _ _ _ last (release-ran (first .device) ctx₂ (first .routes) log₂ o₂ i last-ready) k
       (rw (first-accepted .same .slot) out)
-      ∙ ran-outside d routes _ _ _ _ first (claim-ran d ctx routes log o i a rings g) k out
+      ∙ ran-outside d routes _ _ _ _ first (claim-ran d ctx routes log o i a g) k out
 
   own-back : (e : ℕ) → e < 32 → routeOf (last .routes) (d .slot .0) e ≡ routeOf routes (d .slot .0) e
   own-back e h = go (decLt e 2)
@@ -286,7 +288,7 @@ module _ (d : Device) (ctx routes log o : List ℕ) (i a : ℕ) (rings : List �
           slot-route d (first .device) (last .routes) (first-accepted .same .slot) e
           ∙ ran-low (first .device) (first .routes) _ _ _ _ last (release-ran (first .device) ctx₂ (first .routes) log₂ o₂ i last-ready) e l
           ∙ sym (slot-route d (first .device) (first .routes) (first-accepted .same .slot) e)
-          ∙ ran-low d routes _ _ _ _ first (claim-ran d ctx routes log o i a rings g) e l
+          ∙ ran-low d routes _ _ _ _ first (claim-ran d ctx routes log o i a g) e l
       go (no l) =
           each-dci (λ k. routeOf (last .routes) (d .slot .0) k ≡ routeOf routes (d .slot .0) k)
           (λ p q.
@@ -299,14 +301,14 @@ module _ (d : Device) (ctx routes log o : List ℕ) (i a : ℕ) (rings : List �
   last-table : last .routes ≡ routes
   last-table =
       ext-getD 0 (last .routes) routes
-      (last-accepted .table ∙ ap (λ n. 32 * (n + 1)) (last-accepted .same .n) ∙ sym (table-length d ctx routes log o _ g))
+      (last-accepted .table ∙ ap (λ n. 32 * (n + 1)) (last-accepted .same .«max_slots») ∙ sym (table-length d ctx routes log o _ g))
       (λ k h. same-words (d .slot .0) (last .routes) routes outside-back own-back k)
 
 pub release-back : ReleaseBack
-release-back d ctx routes log o i a rings g unheld ctx₂ log₂ o₂ enough =
+release-back d ctx routes log o i a g unheld ctx₂ log₂ o₂ enough =
     record {
-      accepted = last-accepted d ctx routes log o i a rings g unheld ctx₂ log₂ o₂ enough;
-      table = last-table d ctx routes log o i a rings g unheld ctx₂ log₂ o₂ enough;
-      held = last-held d ctx routes log o i a rings g unheld ctx₂ log₂ o₂ enough;
-      endpoints = last-map d ctx routes log o i a rings g unheld ctx₂ log₂ o₂ enough;
+      accepted = last-accepted d ctx routes log o i a g unheld ctx₂ log₂ o₂ enough;
+      table = last-table d ctx routes log o i a g unheld ctx₂ log₂ o₂ enough;
+      held = last-held d ctx routes log o i a g unheld ctx₂ log₂ o₂ enough;
+      endpoints = last-map d ctx routes log o i a g unheld ctx₂ log₂ o₂ enough;
     }

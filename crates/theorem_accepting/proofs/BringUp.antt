@@ -12,7 +12,7 @@ use Rattle.record_endpoint.specs.EndpointMap.{noEndpoints}
 use Rattle.record_endpoint.proofs.Laws.{dci-low, dci-high}
 use Rattle.device.specs.Left.{Left}
 use Rattle.device.proofs.Updates.{same-self}
-use Rattle.course_init.specs.Reading.{BringUp}
+use Rattle.course_init.specs.Reading.{BringUp, controlRing}
 use Rattle.device_bring_up.specs.BringUp.{queueCheck, bringUpCheck}
 use Rattle.device_bring_up.proofs.Checks.{passed}
 use Rattle.device_bring_up.proofs.Laws.{BroughtUp as Brought, bring-up-done, bring-up-accepted, brought-control, brought-others}
@@ -31,7 +31,7 @@ module _ (a : BringUp) (ctx routes log : List ℕ) (l : Left) (b : Brought a ctx
         same = same-self (l .device);
         usable = b .usable;
         is-sound = b .is-sound;
-        table = rw (b .table, b .n) (length-set routes (routeIndex (a .slot) 1) (a .ring) ∙ b .pass .table);
+        table = rw (b .table, b .«max_slots») (length-set routes (routeIndex (a .slot) 1) (controlRing a) ∙ b .pass .table);
         routed =
             λ p h.
             let low = dci-low p h in
@@ -44,7 +44,7 @@ module _ (a : BringUp) (ctx routes log : List ℕ) (l : Left) (b : Brought a ctx
       record {
         accepted = accepted;
         slot = b .slot;
-        n = b .n;
+        «max_slots» = b .«max_slots»;
         spacing = rw (b .spacing) (b .pass .context);
         speed = b .speed;
         configured = v .configured;
@@ -54,6 +54,7 @@ module _ (a : BringUp) (ctx routes log : List ℕ) (l : Left) (b : Brought a ctx
         held = b .held;
         endpoints = b .endpoints;
         quarantined = b .quarantined;
+        given = b .given;
         route = brought-control a ctx routes log l b;
       }
 

@@ -16,7 +16,7 @@ use Rattle.command.specs.declared.Sent.the-variants as sent
 use Rattle.command.specs.Command.{commandWord, outcomeAt}
 use Rattle.command.specs.Course.{Course, ends, onSent, words, result, played}
 use Rattle.context.specs.Place.{spacingOf}
-use Rattle.course_init.specs.Reading.{BringUp, nothingRead, Brought, brought}
+use Rattle.course_init.specs.Reading.{BringUp, controlRing, nothingRead, Brought, brought}
 use Rattle.course_init.specs.Init.{step, bringUpHeader, bringUpAddress}
 use Rattle.device.specs.Calls.{onCheck}
 use Rattle.device_bring_up.specs.BringUp.{slotCheck, deviceCheck, queueCheck, bringUpCheck, bringUpCourse, broughtRecord, broughtLeft, bringUp}
@@ -57,7 +57,7 @@ both-end o ctx routes n = (record { read = refl; ctx = refl; routes = refl; usab
 left-as :
     (a : BringUp) (short spacing : ℕ) (log o : List ℕ) (x y : Course Brought) → Both o 0 x y →
     LeavesAs (broughtLeft a spacing (played o 0 x log)) (broughtLeft (withHeader short a) spacing (played o 0 y log))
-unfolding broughtLeft broughtRecord withHeader played
+unfolding broughtLeft broughtRecord controlRing withHeader played
 left-as a short spacing log o x y b =
     record {
       device = rw (b .0 .usable, b .0 .read);
@@ -69,7 +69,7 @@ left-as a short spacing log o x y b =
     }
 
 pub exponent-leaves : ExponentLeaves
-unfolding bringUp onCheck bringUpCourse bringUpAddress bringUpHeader withHeader bringUpCheck slotCheck deviceCheck queueCheck
+unfolding bringUp onCheck bringUpCourse controlRing bringUpAddress bringUpHeader withHeader bringUpCheck slotCheck deviceCheck queueCheck
 exponent-leaves a short ctx routes log o pass eight bad other =
     rw (pass, eq-eqb (a .header) 8 eight, bad, ne-eqb short 8 other)
     (left-as a short (spacingOf (length ctx)) log o _ _

@@ -43,7 +43,7 @@ use Rattle.device.specs.declared.record.Device.{Device}
 use Rattle.device.specs.Device.{listOf, endpointMapIn, heldOf}
 use Rattle.device.specs.Left.{Left, ended}
 use Rattle.device.specs.Calls.{onCheck}
-use Rattle.device.specs.Claim.{claimCheck, pendingOf, claimIn, claimRecord, claim}
+use Rattle.device.specs.Claim.{claimCheck, drawn, pendingOf, claimIn, claimRecord, claim}
 use Rattle.device.specs.Release.{releaseCheck, releaseIn, releaseRecord, release}
 use Rattle.device.specs.SetConfiguration.{settingsIn, setRecord, setConfiguration}
 use Rattle.device.proofs.Laws.{Passed, passed}
@@ -78,13 +78,16 @@ done-at o n k h l = let t = h k l in outcome-done o k (t .0) (t .1)
 in-table : (d : Device) (ctx routes log : ℕ) (l : List ℕ) → Passed d ctx routes log → length l ≡ routes → InTable l (d .slot .0)
 in-table d ctx routes log l p e = omega (arith, p .facts .place .slot-high, p .table)
 
-module _ (d : Device) (ctx routes log o : List ℕ) (i a : ℕ) (rings : List ℕ)
-    (g : Ready d ctx routes log o (claimCheck d i a rings Pass)) where
-  claim-check : Passed d (length ctx) (length routes) (length log) × (claimCheck d i a rings Pass ≡ Pass)
-  claim-check = passed d (length ctx) (length routes) (length log) (claimCheck d i a rings Pass) (g .passes)
+module _ (d : Device) (ctx routes log o : List ℕ) (i a : ℕ)
+    (g : Ready d ctx routes log o (claimCheck d i a Pass)) where
+  abbrev rings : List ℕ
+  rings = drawn d i a
 
-  claim-facts : ClaimPassed d i a rings
-  claim-facts = claim-passed d i a rings (claim-check .1)
+  claim-check : Passed d (length ctx) (length routes) (length log) × (claimCheck d i a Pass ≡ Pass)
+  claim-check = passed d (length ctx) (length routes) (length log) (claimCheck d i a Pass) (g .passes)
+
+  claim-facts : ClaimPassed d i a
+  claim-facts = claim-passed d i a (claim-check .0 .is-sound) (claim-check .1)
 
   -- No ring that is offered for a word is 0.
   pub offer-nonzero : (k : ℕ) → k < length (settingWords (listOf d) i a) → getD rings k 0 ≡ 0 → ⊥
@@ -111,7 +114,7 @@ module _ (d : Device) (ctx routes log o : List ℕ) (i a : ℕ) (rings : List �
   pub claim-ran :
       let pending = pendingRings (settingWords (listOf d) i a) rings in
       Ran d routes (withSetting i a (heldOf d)) (claimedEndpoints i pending (endpointMapIn d)) (ownedRings (Interface i) (endpointMapIn d)) pending
-      (claim d ctx routes log o i a rings)
+      (claim d ctx routes log o i a)
   unfolding claim claimIn pendingOf
   claim-ran =
       let pending = pendingRings (settingWords (listOf d) i a) rings in
@@ -121,7 +124,7 @@ module _ (d : Device) (ctx routes log o : List ℕ) (i a : ℕ) (rings : List �
       (claimContext (claimIn d i a rings) ctx) (claimCourse (claimIn d i a rings) ctx routes) _ (g .passes)
       (claim-accepted (claimIn d i a rings) ctx routes o 0
       (λ k l m. done-at o 64 k (g .done) (omega (arith, queues-fit old))) (t .done))
-      (claim-moves d _ _ _ i a rings (g .passes) _ refl)
+      (claim-moves d _ _ _ i a (g .passes) _ refl)
       (t .routed)
 
 -- With every outcome done and the old routes there, a release is accepted and they are out.

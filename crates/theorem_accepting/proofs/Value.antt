@@ -18,7 +18,7 @@ use Rattle.command.specs.Command.{outcomeAt}
 use Rattle.command.specs.Course.{Course, ends, sends, then, result, played}
 use Rattle.command.proofs.Cuts.{on-sent}
 use Rattle.course_set_configuration.specs.SetConfiguration.{setCourse}
-use Rattle.course_init.specs.Reading.{BringUp, Reading, nothingRead, readUpTo, Brought, brought}
+use Rattle.course_init.specs.Reading.{BringUp, controlRing, Reading, nothingRead, readUpTo, Brought, brought}
 use Rattle.course_init.specs.Init.{step, bringUpSettings, bringUpSet, bringUpConfigs, bringUpDevice, bringUpConfiguration, bringUpPacket, bringUpHeader, bringUpAddress}
 use Rattle.transfer.specs.Routes.{withRoute}
 use Rattle.device.specs.Left.{Left}
@@ -115,7 +115,7 @@ module _ (a : BringUp) (ctx routes log outcomes : List ℕ) where
 
       ran : number (left .answer) ≡ 0 → Values a left
       ran z =
-          let v = valued a (spacingOf (length ctx)) (withRoute routes (a .slot) 1 (a .ring)) outcomes 0 ctx in
+          let v = valued a (spacingOf (length ctx)) (withRoute routes (a .slot) 1 (controlRing a)) outcomes 0 ctx in
           record { configured = v .configured z; value = v .value z }
 
   pub bring-up-values :

@@ -12,8 +12,7 @@ use Rattle.answer.specs.declared.Answer.the-variants as answer
 use Rattle.answer.specs.declared.Check.{Check}
 use Rattle.answer.specs.declared.Check.the-variants.{Pass}
 use Rattle.command.specs.Command.{LOG-ROOM}
-use Rattle.context_block.specs.Blocks.{wordDci}
-use Rattle.context_block.specs.Promises.{someDci}
+use Rattle.context_block.specs.Blocks.{wordDci, someDci}
 use Rattle.transfer.specs.Routes.{routeOf}
 use Rattle.record_endpoint.specs.Order.{PLACES, dciAt}
 use Rattle.record_endpoint.specs.EndpointMap.{isOwned, noEndpoints}
@@ -21,16 +20,15 @@ use Rattle.record_endpoint.specs.declared.endpoint_map.Owner.the-variants.{Inte
 use Rattle.record_settings.specs.Held.{isHeld, alternateOf, settingWords, withoutSetting}
 use Rattle.theorem_routing.specs.Routing.{RoutedBy}
 use Rattle.device.specs.declared.record.Device.{Device}
-use Rattle.device.specs.Device.{listOf, endpointMapIn, heldOf, quarantinedOf}
+use Rattle.device.specs.Device.{listOf, endpointMapIn, heldOf, quarantinedOf, givenOf, Same}
 use Rattle.device.specs.Sound.{sound}
 use Rattle.device.specs.Left.{Left}
 use Rattle.device.specs.Check.{recordCheck, hubCheck}
 use Rattle.device.specs.Calls.{hubUpdate}
-use Rattle.device.specs.Claim.{claimCheck, claim}
+use Rattle.device.specs.Claim.{claimCheck, drawn, claim}
 use Rattle.device.specs.Release.{releaseCheck, release}
 use Rattle.device.specs.SetConfiguration.{setConfiguration}
-use Rattle.device.proofs.Updates.{Same}
-use Rattle.course_init.specs.Reading.{BringUp}
+use Rattle.course_init.specs.Reading.{BringUp, controlRing}
 use Rattle.device_bring_up.specs.BringUp.{bringUpCheck, bringUp}
 
 -- A record and a table agree: the slot's routes are those of the record's endpoints.
@@ -60,7 +58,7 @@ pub record Accepted (d : Device) (l : Left) : Type 0 where
   pub same : Same d (l .device)
   pub usable : l .device .usable ≡ true
   pub is-sound : sound (l .device) ≡ true
-  pub table : length (l .routes) ≡ 32 * (l .device .n + 1)
+  pub table : length (l .routes) ≡ 32 * (l .device .«max_slots» + 1)
   pub routed : Routed (l .device) (l .routes)
 
 -- The configuration value after a bring-up: the first configuration's, which is set; the one that was read where the list is empty.
@@ -72,17 +70,18 @@ valueSet a = cond (eqb (length (a .list)) 0) (a .value) (configurationValue (get
 pub record BroughtUp (a : BringUp) (ctx : List ℕ) (l : Left) : Type 0 where
   pub accepted : Accepted (l .device) l
   pub slot : l .device .slot .0 ≡ a .slot
-  pub n : l .device .n ≡ a .n
+  pub «max_slots» : l .device .«max_slots» ≡ a .«max_slots»
   pub spacing : length ctx ≡ 33 * l .device .spacing
   pub speed : l .device .«port_speed» ≡ a .speed
   pub configured : l .device .configured ≡ true
   pub value : l .device .«current_config_value» ≡ valueSet a
   pub list : listOf (l .device) ≡ a .list
-  pub control : l .device .control ≡ a .ring
+  pub control : l .device .control ≡ controlRing a
   pub held : heldOf (l .device) ≡ []
   pub endpoints : endpointMapIn (l .device) ≡ noEndpoints
   pub quarantined : quarantinedOf (l .device) ≡ []
-  pub route : routeOf (l .routes) (a .slot) 1 ≡ a .ring
+  pub given : givenOf (l .device) ≡ a .rings
+  pub route : routeOf (l .routes) (a .slot) 1 ≡ controlRing a
 
 -- Its checks pass, the header has its eight bytes with, at SuperSpeed, the exponent 9, and the slot has no routes yet.
 abbrev pub BringUpAccepted : Type 0
@@ -95,8 +94,8 @@ BringUpAccepted =
     AllDone outcomes LOG-ROOM →
     BroughtUp a ctx (bringUp a ctx routes log outcomes)
 
--- A claim: each endpoint word's Dci is routed to the ring offered for it; of several words of a Dci, the last counts.
-pub record Claimed (d : Device) (interface alternate : ℕ) (rings : List ℕ) (l : Left) : Type 0 where
+-- A claim: each endpoint word's Dci is routed to the ring drawn for it; of several words of a Dci, the last counts.
+pub record Claimed (d : Device) (interface alternate : ℕ) (l : Left) : Type 0 where
   pub accepted : Accepted d l
   pub held : isHeld interface (heldOf (l .device)) ≡ true
   pub alternate-held : alternateOf interface (heldOf (l .device)) ≡ alternate
@@ -104,13 +103,14 @@ pub record Claimed (d : Device) (interface alternate : ℕ) (rings : List ℕ) (
       (xs ys : List ℕ) (w : ℕ) →
       settingWords (listOf d) interface alternate ≡ xs ++ (w ∷ ys) →
       someDci (wordDci w) ys ≡ false →
-      (routeOf (l .routes) (d .slot .0) (wordDci w) ≡ getD rings (length xs) 0) × (getD rings (length xs) 0 ≡ 0 → ⊥)
+      let ring = getD (drawn d interface alternate) (length xs) 0 in
+      (routeOf (l .routes) (d .slot .0) (wordDci w) ≡ ring) × (ring ≡ 0 → ⊥)
 
 abbrev pub ClaimAccepted : Type 0
 ClaimAccepted =
-    (d : Device) (ctx routes log outcomes : List ℕ) (interface alternate : ℕ) (rings : List ℕ) →
-    Ready d ctx routes log outcomes (claimCheck d interface alternate rings Pass) →
-    Claimed d interface alternate rings (claim d ctx routes log outcomes interface alternate rings)
+    (d : Device) (ctx routes log outcomes : List ℕ) (interface alternate : ℕ) →
+    Ready d ctx routes log outcomes (claimCheck d interface alternate Pass) →
+    Claimed d interface alternate (claim d ctx routes log outcomes interface alternate)
 
 -- A release: the interface holds nothing, and the routes of its endpoints are out.
 pub record Released (d : Device) (interface : ℕ) (l : Left) : Type 0 where
@@ -135,12 +135,12 @@ pub record Back (d : Device) (routes : List ℕ) (l : Left) : Type 0 where
 -- A claim of an interface that holds nothing, and then its release.
 abbrev pub ReleaseBack : Type 0
 ReleaseBack =
-    (d : Device) (ctx routes log outcomes : List ℕ) (interface alternate : ℕ) (rings : List ℕ) →
-    Ready d ctx routes log outcomes (claimCheck d interface alternate rings Pass) →
+    (d : Device) (ctx routes log outcomes : List ℕ) (interface alternate : ℕ) →
+    Ready d ctx routes log outcomes (claimCheck d interface alternate Pass) →
     isHeld interface (heldOf d) ≡ false →
     (ctx₂ log₂ outcomes₂ : List ℕ) →
     Enough d ctx₂ log₂ outcomes₂ →
-    let l = claim d ctx routes log outcomes interface alternate rings in
+    let l = claim d ctx routes log outcomes interface alternate in
     Back d routes (release (l .device) ctx₂ (l .routes) log₂ outcomes₂ interface)
 
 -- A set configuration: its value is set, no setting is held, and the slot has no route but control's.

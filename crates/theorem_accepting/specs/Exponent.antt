@@ -17,14 +17,14 @@ unfoldable pub withHeader : ℕ → BringUp → BringUp
 withHeader header a =
     record {
       slot = a .slot;
-      n = a .n;
+      «max_slots» = a .«max_slots»;
       speed = a .speed;
       hubs = a .hubs;
       hasParent = a .hasParent;
       parent = a .parent;
       port = a .port;
       rootPort = a .rootPort;
-      ring = a .ring;
+      rings = a .rings;
       header = header;
       packet = a .packet;
       value = a .value;

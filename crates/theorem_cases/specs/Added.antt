@@ -27,6 +27,10 @@ endpointWord directionIn number type size packets interval =
 abbrev pub interrupt81 : ℕ
 interrupt81 = endpointWord 1 1 3 64 1 4
 
+-- The same of 0x8F.
+abbrev pub interrupt8F : ℕ
+interrupt8F = endpointWord 1 15 3 64 1 4
+
 -- The context of a Configure that adds one word, over zeros and with no endpoint in the record.
 abbrev pub oneAdded : (spacing speed word ring : ℕ) → List ℕ
 oneAdded spacing speed word ring =

@@ -14,24 +14,27 @@ use Rattle.theorem_cases.specs.Added.{interrupt81}
 abbrev pub list : List ℕ
 list = 0x00400000 ∷ 0x40000000 ∷ interrupt81 ∷ 0x40004000 ∷ interrupt81 ∷ 0x40400000 ∷ interrupt81 ∷ []
 
--- A bring-up on slot 1 of 1, High speed, no hub above it.
-abbrev pub asked : (slot speed header : ℕ) (hasParent : Bool) (list : List ℕ) → BringUp
-asked slot speed header hasParent list =
+-- A bring-up on a slot of 1 with some rings, and with three.
+abbrev pub given : (rings : List ℕ) (slot speed header : ℕ) (hasParent : Bool) (list : List ℕ) → BringUp
+given rings slot speed header hasParent list =
     record {
       slot = slot;
-      n = 1;
+      «max_slots» = 1;
       speed = speed;
       hubs = [];
       hasParent = hasParent;
       parent = 0;
       port = 1;
       rootPort = 1;
-      ring = 16;
+      rings = rings;
       header = header;
       packet = 64;
       value = 0;
       list = list;
     }
+
+abbrev pub asked : (slot speed header : ℕ) (hasParent : Bool) (list : List ℕ) → BringUp
+asked = given (48 ∷ 16 ∷ 32 ∷ [])
 
 abbrev pub usual : BringUp
 usual = asked 1 HIGH 8 false list
@@ -48,9 +51,12 @@ free = replicate 64 0
 abbrev pub done : List ℕ
 done = replicate 10 0
 
--- The device brought up, and then with interface 0 holding alternate 0.
+-- The device brought up with a ring for control only; with more; and then with interface 0 holding alternate 0.
+abbrev pub alone : Left
+alone = bringUp (given (16 ∷ []) 1 HIGH 8 false list) ctx free log done
+
 abbrev pub first : Left
 first = bringUp usual ctx free log done
 
 abbrev pub second : Left
-second = claim (first .device) ctx (first .routes) log done 0 0 (32 ∷ [])
+second = claim (first .device) ctx (first .routes) log done 0 0

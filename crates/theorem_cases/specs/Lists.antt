@@ -10,9 +10,11 @@ use Rattle.answer.specs.declared.Answer.the-variants as answer
 use Rattle.answer.specs.Answer.{number, codeOf}
 use Rattle.transfer.specs.Routes.{Queue, routeOf}
 use Rattle.course_init.specs.Reading.{BringUp}
+use Rattle.device.specs.Ask.{asking}
 use Rattle.device_bring_up.specs.BringUp.{bringUp}
-use Rattle.theorem_slot.specs.Call.{Asked, Call, bringsUp, claims, releases, configures, updatesHub, left}
-use Rattle.theorem_slot.specs.Plain.{HeldSetting}
+use Rattle.theorem_slot.specs.Call.{Asked, Call, bringsUp, claims, commits, releases, configures, updatesHub, disconnects, left}
+use Rattle.theorem_slot.specs.Groups.{Groups}
+use Rattle.theorem_slot.specs.Plain.{HeldSetting, Phase, up, unplugged, notUp, isUp, isUnplugged}
 use Rattle.theorem_slot.specs.Theorem.{State, called, start}
 use Rattle.theorem_cases.specs.Added.{endpointWord}
 use Rattle.theorem_cases.specs.Example.{ctx, log, done}
@@ -42,14 +44,14 @@ abbrev pub device : BringUp
 device =
     record {
       slot = 1;
-      n = 2;
+      «max_slots» = 2;
       speed = HIGH;
       hubs = [];
       hasParent = false;
       parent = 0;
       port = 1;
       rootPort = 1;
-      ring = 16;
+      rings = 96 ∷ 32 ∷ 64 ∷ 16 ∷ 80 ∷ 48 ∷ [];
       header = 8;
       packet = 64;
       value = 0;
@@ -79,9 +81,9 @@ hears a outcomes x = record { call = call a outcomes; answer = x; keeps = false 
 abbrev pub keeps : Asked → List ℕ → Answer → Heard
 keeps a outcomes x = record { call = call a outcomes; answer = x; keeps = true }
 
--- Interface 0 claimed at alternate 0, with ring 32 for 0x81.
+-- Interface 0 claimed at alternate 0: ring 32 is drawn for 0x81.
 abbrev pub firstClaim : Heard
-firstClaim = hears (claims 0 0 (32 ∷ [])) done answer.Accepted
+firstClaim = hears (claims 0 0) done answer.Accepted
 
 -- An interface and the alternate that it holds.
 pub record At : Type 0 where
@@ -91,69 +93,141 @@ pub record At : Type 0 where
 abbrev pub at : ℕ → ℕ → At
 at interface alternate = record { interface = interface; alternate = alternate }
 
--- Calls after the bring-up with their answers; what is held after them, the endpoints with a route beside control, those enabled
--- beside it, and the two marks.
+-- Calls after the bring-up with their answers; where the slot stands after them, what is held, the endpoints with a route, those
+-- enabled, the two marks, and the free and the quarantined rings. Live are the routed ones that are not quarantined.
 pub record Listed : Type 0 where
   pub calls : List Heard
+  pub phase : Phase
   pub held : List At
   pub routed : List Queue
   pub enabled : List ℕ
   pub broken : Bool
   pub unheldRelease : Bool
+  pub free : List ℕ
+  pub quarantined : List ℕ
 
 abbrev pub route : ℕ → ℕ → Queue
 route dci ring = record { dci = dci; ring = ring }
 
-abbrev pub list : List Heard → List At → List Queue → List ℕ → Bool → Bool → Listed
-list calls held routed enabled broken unheldRelease =
-    record { calls = calls; held = held; routed = routed; enabled = enabled; broken = broken; unheldRelease = unheldRelease }
+-- With the device up: control's ring is 16, and it is enabled.
+abbrev pub list : List Heard → List At → List Queue → List ℕ → Bool → Bool → List ℕ → List ℕ → Listed
+list calls held routed enabled broken unheldRelease free quarantined =
+    record {
+      calls = calls;
+      phase = up;
+      held = held;
+      routed = route 1 16 ∷ routed;
+      enabled = 1 ∷ enabled;
+      broken = broken;
+      unheldRelease = unheldRelease;
+      free = free;
+      quarantined = quarantined;
+    }
+
+-- Where they leave the slot without any endpoint: unplugged, or with control's word of a bring-up that failed.
+abbrev pub none : List Heard → Phase → List Queue → Bool → List ℕ → Listed
+none calls phase routed broken free =
+    record {
+      calls = calls;
+      phase = phase;
+      held = [];
+      routed = routed;
+      enabled = [];
+      broken = broken;
+      unheldRelease = false;
+      free = free;
+      quarantined = [];
+    }
 
 abbrev pub lists : List Listed
 lists =
     -- 1: a claim, and one of the other alternate in its place
-    list (firstClaim ∷ hears (claims 0 1 (48 ∷ 64 ∷ [])) done answer.Accepted ∷ [])
+    list (firstClaim ∷ hears (claims 0 1) done answer.Accepted ∷ [])
     (at 0 1 ∷ []) (route 3 48 ∷ route 4 64 ∷ []) (3 ∷ 4 ∷ []) false false
+    (32 ∷ 80 ∷ 96 ∷ []) []
     -- 2: a claim undone: its SetInterface fails
-    ∷ list (firstClaim ∷ hears (claims 0 1 (48 ∷ 64 ∷ [])) (0 ∷ 0 ∷ 7 ∷ 0 ∷ 0 ∷ []) (answer.Failed 7) ∷ [])
+    ∷ list (firstClaim ∷ hears (claims 0 1) (0 ∷ 0 ∷ 7 ∷ 0 ∷ 0 ∷ []) (answer.Failed 7) ∷ [])
     (at 0 0 ∷ []) (route 3 32 ∷ []) (3 ∷ []) false false
+    (48 ∷ 64 ∷ 80 ∷ 96 ∷ []) []
     -- 3: the undoing fails too: broken, with the new endpoints in the controller
-    ∷ list (firstClaim ∷ hears (claims 0 1 (48 ∷ 64 ∷ [])) (0 ∷ 0 ∷ 7 ∷ 5 ∷ []) answer.InterfaceBroken ∷ [])
+    ∷ list (firstClaim ∷ hears (claims 0 1) (0 ∷ 0 ∷ 7 ∷ 5 ∷ []) answer.InterfaceBroken ∷ [])
     (at 0 0 ∷ []) (route 3 32 ∷ []) (3 ∷ 4 ∷ []) true false
+    (80 ∷ 96 ∷ []) (48 ∷ 64 ∷ [])
     -- 4: a claim and its release
     ∷ list (firstClaim ∷ hears (releases 0) done answer.Accepted ∷ []) [] [] [] false false
+    (32 ∷ 48 ∷ 64 ∷ 80 ∷ 96 ∷ []) []
     -- 5: a repeated address: the last word's ring
-    ∷ list (hears (claims 2 0 (32 ∷ 48 ∷ [])) done answer.Accepted ∷ []) (at 2 0 ∷ []) (route 7 48 ∷ []) (7 ∷ []) false false
+    ∷ list (hears (claims 2 0) done answer.Accepted ∷ []) (at 2 0 ∷ []) (route 7 48 ∷ []) (7 ∷ []) false false
+    (32 ∷ 64 ∷ 80 ∷ 96 ∷ []) []
     -- 6: a set configuration cut at its last Evaluate
     ∷ list (firstClaim ∷ hears (configures 1) (0 ∷ 0 ∷ 0 ∷ []) answer.Cut ∷ []) [] [] [] true false
+    (32 ∷ 48 ∷ 64 ∷ 80 ∷ 96 ∷ []) []
     -- 7: a set configuration that fails and is undone
     ∷ list (firstClaim ∷ hears (configures 1) (0 ∷ 0 ∷ 9 ∷ 0 ∷ 0 ∷ []) (answer.Failed 9) ∷ [])
     (at 0 0 ∷ []) (route 3 32 ∷ []) (3 ∷ []) false false
+    (48 ∷ 64 ∷ 80 ∷ 96 ∷ []) []
     -- 8: a second bring-up is refused (17), and every call with its record after it (12)
     ∷ list (firstClaim ∷ hears (bringsUp device) done answer.QueueFull ∷ hears (releases 0) done answer.Unusable ∷ [])
     (at 0 0 ∷ []) (route 3 32 ∷ []) (3 ∷ []) false false
+    (48 ∷ 64 ∷ 80 ∷ 96 ∷ []) []
     -- 9: a claim of an address that another interface has is refused (9)
     ∷ list
-    (firstClaim ∷ hears (claims 1 0 (48 ∷ [])) done answer.InvalidParameter ∷ hears (claims 2 0 (48 ∷ 64 ∷ [])) done answer.Accepted ∷ [])
+    (firstClaim ∷ hears (claims 1 0) done answer.InvalidParameter ∷ hears (claims 2 0) done answer.Accepted ∷ [])
     (at 0 0 ∷ at 2 0 ∷ []) (route 3 32 ∷ route 7 64 ∷ []) (3 ∷ 7 ∷ []) false false
+    (48 ∷ 80 ∷ 96 ∷ []) []
     -- 10: a release of an interface that holds nothing but lists the same address: the controller drops a held endpoint
     ∷ list (firstClaim ∷ hears (releases 1) done answer.Accepted ∷ []) (at 0 0 ∷ []) (route 3 32 ∷ []) [] false true
+    (48 ∷ 64 ∷ 80 ∷ 96 ∷ []) []
     -- 11: a dozen calls and one
     ∷ list
     (firstClaim
-    ∷ hears (claims 0 1 (48 ∷ 64 ∷ [])) done answer.Accepted
-    ∷ hears (claims 1 0 (80 ∷ [])) done answer.InvalidParameter
-    ∷ hears (claims 2 0 (80 ∷ 96 ∷ [])) done answer.Accepted
+    ∷ hears (claims 0 1) done answer.Accepted
+    ∷ hears (claims 1 0) done answer.InvalidParameter
+    ∷ hears (claims 2 0) done answer.Accepted
     ∷ hears (updatesHub 4 false 666) done answer.Accepted
-    ∷ hears (claims 0 0 (32 ∷ [])) (0 ∷ 0 ∷ 0 ∷ 7 ∷ 0 ∷ 0 ∷ []) (answer.Failed 7)
+    ∷ hears (claims 0 0) (0 ∷ 0 ∷ 0 ∷ 7 ∷ 0 ∷ 0 ∷ []) (answer.Failed 7)
     ∷ hears (releases 0) done answer.Accepted
     ∷ hears (releases 5) done answer.NotFound
-    ∷ hears (claims 1 0 (80 ∷ [])) done answer.Accepted
+    ∷ hears (claims 1 0) done answer.Accepted
     ∷ hears (configures 1) done answer.Accepted
     ∷ firstClaim
     ∷ keeps (bringsUp device) done answer.QueueFull
-    ∷ hears (claims 2 0 (48 ∷ 64 ∷ [])) done answer.Accepted
+    ∷ hears (claims 2 0) done answer.Accepted
     ∷ [])
     (at 0 0 ∷ at 2 0 ∷ []) (route 3 32 ∷ route 7 64 ∷ []) (3 ∷ 7 ∷ []) false false
+    (48 ∷ 80 ∷ 96 ∷ []) []
+    -- 12: unplugged with a setting held; every call on the record is refused (12)
+    ∷ none (firstClaim ∷ hears disconnects done answer.Accepted ∷ hears (configures 1) done answer.Unusable ∷ []) unplugged [] false (16 ∷ 32 ∷ 48 ∷ 64 ∷ 80 ∷ 96 ∷ [])
+    -- 13: a claim breaks, Disable fails, a Stop is cut, and then it is done; a new bring-up begins all anew, with every given ring
+    ∷ list
+    (firstClaim
+    ∷ hears (claims 0 1) (0 ∷ 0 ∷ 7 ∷ 5 ∷ []) answer.InterfaceBroken
+    ∷ hears disconnects (0 ∷ 0 ∷ 9 ∷ []) answer.InterfaceBroken
+    ∷ hears disconnects (0 ∷ []) answer.Cut
+    ∷ hears disconnects (3 ∷ 4 ∷ 0 ∷ []) answer.Accepted
+    ∷ hears disconnects done answer.Unusable
+    ∷ hears (bringsUp device) done answer.Accepted
+    ∷ hears (claims 0 1) done answer.Accepted
+    ∷ [])
+    (at 0 1 ∷ []) (route 3 32 ∷ route 4 48 ∷ []) (3 ∷ 4 ∷ []) false false
+    (64 ∷ 80 ∷ 96 ∷ []) []
+    -- 14: Disable fails: routes and settings stay
+    ∷ list (firstClaim ∷ hears disconnects (0 ∷ 0 ∷ 9 ∷ []) answer.InterfaceBroken ∷ []) (at 0 0 ∷ []) (route 3 32 ∷ []) (3 ∷ []) true false
+    (48 ∷ 64 ∷ 80 ∷ 96 ∷ []) (16 ∷ 32 ∷ [])
+    -- 15: after it is unplugged a bring-up fails at its first command; it leaves control's word, and every later one is refused (17)
+    ∷ none
+    (hears disconnects done answer.Accepted
+    ∷ keeps (bringsUp device) (7 ∷ []) (answer.Failed 7)
+    ∷ hears (bringsUp device) done answer.QueueFull
+    ∷ [])
+    notUp (route 1 16 ∷ []) false (32 ∷ 48 ∷ 64 ∷ 80 ∷ 96 ∷ [])
+    -- 16: the other alternate asked for: a commit with its rings in another order is outdated, and changes nothing; the right one is the claim
+    ∷ list
+    (firstClaim
+    ∷ hears (commits (asking 0 1 0x08 0x18 (64 ∷ 48 ∷ []))) done answer.OutdatedAsk
+    ∷ hears (commits (asking 0 1 0x08 0x18 (48 ∷ 64 ∷ []))) done answer.Accepted ∷ [])
+    (at 0 1 ∷ []) (route 3 48 ∷ route 4 64 ∷ []) (3 ∷ 4 ∷ []) false false
+    (32 ∷ 80 ∷ 96 ∷ []) []
     ∷ []
 
 -- The interfaces and alternates of settings, in order.
@@ -171,27 +245,44 @@ abbrev pub ringIn : ℕ → List Queue → ℕ
 ringIn d [] = 0
 ringIn d (q ∷ qs) = cond (eqb (q .dci) d) (q .ring) (ringIn d qs)
 
-abbrev pub same : Bool → Bool → Bool
-same a b = cond a b (not b)
+abbrev pub sameFlag : Bool → Bool → Bool
+sameFlag a b = cond a b (not b)
 
--- Each of the slot's 32 words, and whether its endpoint is enabled; control's ring is 16, and it is enabled.
+-- Each of the slot's 32 words, and whether its endpoint is enabled.
 abbrev pub wordsHold : ℕ → ℕ → State → Listed → Bool
 wordsHold zero d s l = true
 wordsHold (suc k) d s l =
-    (eqb (routeOf (s .routes) 1 d) (ringIn d (route 1 16 ∷ l .routed)) && same (s .plain .enabled d) (has d (1 ∷ l .enabled)))
+    (eqb (routeOf (s .routes) 1 d) (ringIn d (l .routed)) && sameFlag (s .plain .enabled d) (has d (l .enabled)))
     && wordsHold k (d + 1) s l
+
+-- Each ring is in its group: of k rings from `ring` on, 16 apart.
+abbrev pub isRouted : ℕ → List Queue → Bool
+isRouted ring [] = false
+isRouted ring (q ∷ qs) = cond (eqb (q .ring) ring) true (isRouted ring qs)
+
+abbrev pub groupsHold : ℕ → ℕ → Groups → Listed → Bool
+groupsHold zero ring g l = true
+groupsHold (suc k) ring g l =
+    (sameFlag (g .free ring) (has ring (l .free))
+    && (sameFlag (g .quarantined ring) (has ring (l .quarantined))
+    && sameFlag (g .live ring) (isRouted ring (l .routed) && not (has ring (l .quarantined)))))
+    && groupsHold k (ring + 16) g l
 
 -- Each word of a slot is as before the bring-up.
 abbrev pub slotAsBefore : ℕ → ℕ → ℕ → State → Bool
 slotAsBefore zero slot d s = true
 slotAsBefore (suc k) slot d s = eqb (routeOf (s .routes) slot d) (routeOf table slot d) && slotAsBefore k slot (d + 1) s
 
+abbrev pub samePhase : Phase → Phase → Bool
+samePhase a b = sameFlag (isUp a) (isUp b) && sameFlag (isUnplugged a) (isUnplugged b)
+
 abbrev pub leftHolds : State → Listed → Bool
 leftHolds s l =
-    sameHeld (s .plain .held) (l .held)
-    && (same (s .plain .broken) (l .broken)
-    && (same (s .plain .unheldRelease) (l .unheldRelease)
-    && (eqb (length (s .routes)) 96 && (wordsHold 32 0 s l && (slotAsBefore 32 0 0 s && slotAsBefore 32 2 0 s)))))
+    (samePhase (s .plain .phase) (l .phase) && sameHeld (s .plain .held) (l .held))
+    && (sameFlag (s .plain .broken) (l .broken)
+    && (sameFlag (s .plain .unheldRelease) (l .unheldRelease)
+    && (groupsHold 7 16 (s .plain .groups) l
+    && (eqb (length (s .routes)) 96 && (wordsHold 32 0 s l && (slotAsBefore 32 0 0 s && slotAsBefore 32 2 0 s))))))
 
 abbrev pub sameAnswer : Answer → Answer → Bool
 sameAnswer a b = eqb (number a) (number b) && eqb (codeOf a) (codeOf b)

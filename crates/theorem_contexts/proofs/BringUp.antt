@@ -6,6 +6,9 @@ use mathlib.Core.List.{List, []}
 use native.Mathlib.Omega.{arith}
 use lib.Dec.{eqb}
 use lib.ListN.{length, getD}
+use Rattle.laws.proofs.Distinct.{elem-place}
+use Rattle.record_ring.specs.Store.{least}
+use Rattle.record_ring.proofs.Promises.{given-promise, least-promise}
 use Rattle.def.specs.Speed.{isSuper, headerPacketSize}
 use Rattle.def.proofs.Laws.{exponent-nine}
 use Rattle.descriptor.specs.Word.{configurationValue}
@@ -19,14 +22,14 @@ use Rattle.command.specs.declared.Command.the-variants as command
 use Rattle.command.proofs.Reached.{CutHere, dones-before, dones-past, fails-before, fails-there, fails-past}
 use Rattle.context.specs.Promises.{ConfigurationReads, ConfigureReads}
 use Rattle.course_set_configuration.specs.SetConfiguration.{dropContext, restoreContext, valueContext}
-use Rattle.course_init.specs.Reading.{BringUp, nothingRead, Brought, brought}
+use Rattle.course_init.specs.Reading.{BringUp, controlRing, nothingRead, Brought, brought}
 use Rattle.course_init.specs.Init.{HeaderRead, bringUpAddress}
 use Rattle.course_init.proofs.Contexts.{addressed, sized, settings, cutHere, bring-up-at-address, bring-up-at-packet, bring-up-at-configure, bring-up-at-restore, bring-up-at-evaluate, bring-up-address-reads, bring-up-packet-reads, bring-up-configure-reads, bring-up-restore-reads, bring-up-evaluate-reads}
 use Rattle.device.specs.Calls.{onCheck}
 use Rattle.context.specs.Place.{spacingOf}
 use Rattle.device_bring_up.specs.BringUp.{queueCheck, bringUpCheck, bringUpCourse, broughtLeft, bringUp}
 use Rattle.device_bring_up.proofs.Checks.{Passed, passed}
-use Rattle.theorem_contexts.specs.Contexts.{Byte, done, failed, At, sizeSaid, BringUpReads, BringUpContexts}
+use Rattle.theorem_contexts.specs.Contexts.{Byte, BusAddresses, done, failed, At, sizeSaid, BringUpReads, BringUpContexts}
 use Rattle.theorem_contexts.proofs.Ended.{cut-count, cut-word, cut-end}
 
 size-said : (a : BringUp) → HeaderRead a → sizeSaid a ≡ headerPacketSize (a .speed) (a .packet)
@@ -40,7 +43,7 @@ size-said a e = go (isSuper (a .speed)) refl
 
 -- What it leaves.
 module _ (a : BringUp) (ctx routes log o : List ℕ) (pass : bringUpCheck a (length ctx) routes (length log) ≡ Pass) (n : ℕ) (c : Command) (e : Brought)
-    (x : CutHere o (bringUpAddress a (spacingOf (length ctx)) ctx (withRoute routes (a .slot) 1 (a .ring))) n c e) where
+    (x : CutHere o (bringUpAddress a (spacingOf (length ctx)) ctx (withRoute routes (a .slot) 1 (controlRing a))) n c e) where
   left-context : (bringUp a ctx routes log o) .ctx ≡ e .ctx
   unfolding bringUp bringUpCourse onCheck broughtLeft
   left-context = rw (pass, cut-end o log _ n c e x)
@@ -56,10 +59,17 @@ module _ (a : BringUp) (ctx routes log o : List ℕ) (pass : bringUpCheck a (len
       })
 
 module _ (a : BringUp) (ctx routes log : List ℕ) (pass : bringUpCheck a (length ctx) routes (length log) ≡ Pass)
-    (byte-port : Byte (a .port)) (byte-root : Byte (a .rootPort)) (byte-packet : Byte (a .packet)) (ring : a .ring < 2 ^ 64) where
+    (byte-port : Byte (a .port)) (byte-root : Byte (a .rootPort)) (byte-packet : Byte (a .packet)) (from : BusAddresses (a .rings)) where
   facts : Passed a (length ctx) (length routes) (length log)
   unfolding bringUpCheck
   facts = passed a (length ctx) (length routes) (length log) (queueCheck a routes) pass .0
+
+  -- the lowest is one of them
+  ring : controlRing a < 2 ^ 64
+  unfolding controlRing
+  ring =
+      let t = elem-place (least (a .rings)) (a .rings) (least-promise (a .rings) .ofThem (given-promise (a .rings) .0 (facts .rings) .some)) in
+      rw (← t .2) (from (t .0))
 
   few : 7 + configurations (a .list) < length log
   few = omega (arith, facts .room, valid-configurations (a .list) (facts .list))
@@ -68,7 +78,7 @@ module _ (a : BringUp) (ctx routes log : List ℕ) (pass : bringUpCheck a (lengt
   s = spacingOf (length ctx)
 
   table : List ℕ
-  table = withRoute routes (a .slot) 1 (a .ring)
+  table = withRoute routes (a .slot) 1 (controlRing a)
 
   dropped : List ℕ
   dropped = dropContext (settings a s ctx table) (sized a s ctx table)

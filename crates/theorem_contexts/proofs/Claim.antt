@@ -1,9 +1,12 @@
 -- The contexts of a claim.
-use Prim.Native.Nat.{ℕ, _+_, _<_}
+use Prim.Native.Nat.{ℕ, zero, suc, _+_, _^_, _<_}
 use mathlib.Core.Path.{_≡_}
-use mathlib.Core.List.{List}
+use mathlib.Core.Bool.{true}
+use mathlib.Core.List.{List, [], _∷_}
 use native.Mathlib.Omega.{arith}
 use lib.ListN.{length}
+use Rattle.laws.specs.Distinct.{elem}
+use Rattle.laws.proofs.Distinct.{elem-here, elem-there, elem-place}
 use Rattle.answer.specs.declared.Answer.the-variants as answer
 use Rattle.answer.specs.declared.Check.the-variants.{Pass}
 use Rattle.command.specs.declared.Command.the-variants as command
@@ -16,25 +19,40 @@ use Rattle.course_steps.specs.End.{settingsKept}
 use Rattle.course_claim.specs.Claim.{Claim, claimContext, undoContext, claimCourse}
 use Rattle.course_claim.proofs.Contexts.{claim-at-configure, claim-at-undo, claim-context-length}
 use Rattle.device.specs.declared.record.Device.{Device}
-use Rattle.device.specs.Device.{endpointMapIn}
+use Rattle.device.specs.Device.{endpointMapIn, givenOf}
 use Rattle.device.specs.Check.{recordCheck}
-use Rattle.device.specs.Claim.{claimCheck, claimIn, claimRecord, claim}
+use Rattle.device.specs.Claim.{claimCheck, drawn, claimIn, claimRecord, claim}
 use Rattle.device.proofs.Contexts as context
 use Rattle.device.proofs.Laws.{Passed, passed}
-use Rattle.theorem_contexts.specs.Contexts.{Byte, BusAddresses, done, failed, endpointsOf, ClaimReads, ClaimContexts}
+use Rattle.device.proofs.Kept.{claim-passed}
+use Rattle.theorem_contexts.specs.Contexts.{Byte, BusAddresses, done, failed, interfaceEndpoints, ClaimReads, ClaimContexts}
 use Rattle.theorem_contexts.proofs.Ended.{ended-context, ended-at}
 
-module _ (d : Device) (ctx routes log : List ℕ) (i a : ℕ) (rings : List ℕ)
-    (pass : recordCheck d (length ctx) (length routes) (length log) (claimCheck d i a rings Pass) ≡ Pass)
-    (byte-i : Byte i) (byte-a : Byte a) (offered : BusAddresses rings) (own : BusAddresses ((endpointMapIn d) .rings)) where
+-- Where each ring is a bus address, what stands at any place is one.
+bounded : (rings : List ℕ) → ((x : ℕ) → elem x rings ≡ true → x < 2 ^ 64) → BusAddresses rings
+bounded [] h k = omega arith
+bounded (r ∷ rings) h zero = h r (elem-here r rings)
+bounded (r ∷ rings) h (suc k) = bounded rings (λ x e. h x (elem-there x r rings e)) k
+
+module _ (d : Device) (ctx routes log : List ℕ) (i a : ℕ)
+    (pass : recordCheck d (length ctx) (length routes) (length log) (claimCheck d i a Pass) ≡ Pass)
+    (byte-i : Byte i) (byte-a : Byte a) (from : BusAddresses (givenOf d)) (own : BusAddresses ((endpointMapIn d) .rings)) where
   facts : Passed d (length ctx) (length routes) (length log)
-  facts = passed d (length ctx) (length routes) (length log) (claimCheck d i a rings Pass) pass .0
+  facts = passed d (length ctx) (length routes) (length log) (claimCheck d i a Pass) pass .0
+
+  abbrev rings : List ℕ
+  rings = drawn d i a
+
+  offered : BusAddresses rings
+  offered =
+      let p = claim-passed d i a (facts .is-sound) (passed d (length ctx) (length routes) (length log) (claimCheck d i a Pass) pass .1) in
+      bounded rings (λ x e. let t = elem-place x (givenOf d) (p .from-given x e) in rw (← t .2) (from (t .0)))
 
   given : Claim
   given = claimIn d i a rings
 
   n : ℕ
-  n = length (endpointsOf d i)
+  n = length (interfaceEndpoints d i)
 
   few : n + 2 < length log
   unfolding n
@@ -44,7 +62,7 @@ module _ (d : Device) (ctx routes log : List ℕ) (i a : ℕ) (rings : List ℕ)
   unfolding n given claimIn
   first-cut = claim-at-configure given ctx routes (done n) (λ k l m. dones-before n k (omega arith)) (dones-past n)
 
-  first-context : (claim d ctx routes log (done n) i a rings) .ctx ≡ claimContext given ctx
+  first-context : (claim d ctx routes log (done n) i a) .ctx ≡ claimContext given ctx
   unfolding claim given
   first-context = ended-context (claimRecord d i a rings) (done n) log _ _ _ pass n _ _ first-cut
 
@@ -60,7 +78,7 @@ module _ (d : Device) (ctx routes log : List ℕ) (i a : ℕ) (rings : List ℕ)
   next-spaced : Spaced (d .spacing) (length (claimContext given ctx))
   next-spaced = rw (claim-context-length given ctx) (facts .spaced)
 
-  claim-reads : ClaimReads d i a rings ctx (λ outcomes. claim d ctx routes log outcomes i a rings)
+  claim-reads : ClaimReads d i a ctx (λ outcomes. claim d ctx routes log outcomes i a)
   unfolding n claim given
   claim-reads =
       record {

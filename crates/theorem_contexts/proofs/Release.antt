@@ -20,7 +20,7 @@ use Rattle.device.specs.Check.{recordCheck}
 use Rattle.device.specs.Release.{releaseCheck, releaseIn, releaseRecord, release}
 use Rattle.device.proofs.Contexts as context
 use Rattle.device.proofs.Laws.{Passed, passed}
-use Rattle.theorem_contexts.specs.Contexts.{Byte, done, endpointsOf, ReleaseReads, ReleaseContexts}
+use Rattle.theorem_contexts.specs.Contexts.{Byte, done, interfaceEndpoints, ReleaseReads, ReleaseContexts}
 use Rattle.theorem_contexts.proofs.Ended.{ended-at}
 
 module _ (d : Device) (ctx routes log : List ℕ) (i : ℕ)
@@ -29,7 +29,7 @@ module _ (d : Device) (ctx routes log : List ℕ) (i : ℕ)
   facts = passed d (length ctx) (length routes) (length log) (releaseCheck d i) pass .0
 
   n : ℕ
-  n = length (endpointsOf d i)
+  n = length (interfaceEndpoints d i)
 
   few : n < length log
   unfolding n

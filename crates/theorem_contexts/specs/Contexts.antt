@@ -26,13 +26,13 @@ use Rattle.record_endpoint.specs.EndpointMap.{ownedRings, queuesOf, queueDcis}
 use Rattle.record_settings.specs.Held.{isHeld, alternateOf, settingWords, heldWords}
 use Rattle.record_checks.specs.Think.{thinkValue}
 use Rattle.course_init.specs.Init.{HeaderRead}
-use Rattle.course_init.specs.Reading.{BringUp}
+use Rattle.course_init.specs.Reading.{BringUp, controlRing}
 use Rattle.device.specs.declared.record.Device.{Device}
-use Rattle.device.specs.Device.{listOf, endpointMapIn, heldOf}
+use Rattle.device.specs.Device.{listOf, endpointMapIn, heldOf, givenOf}
 use Rattle.device.specs.Left.{Left}
 use Rattle.device.specs.Check.{recordCheck, hubCheck}
 use Rattle.device.specs.Calls.{hubUpdate}
-use Rattle.device.specs.Claim.{claimCheck, claim}
+use Rattle.device.specs.Claim.{claimCheck, drawn, claim}
 use Rattle.device.specs.Release.{releaseCheck, release}
 use Rattle.device.specs.SetConfiguration.{setConfiguration}
 use Rattle.context.specs.Place.{spacingOf}
@@ -62,8 +62,8 @@ pub record At (n : ℕ) (c : Command) (P : List ℕ → Type 0) (l : Left) : Typ
 abbrev pub endpoints : Device → List Queue
 endpoints d = queuesOf ((endpointMapIn d) .rings)
 
-abbrev pub endpointsOf : Device → ℕ → List Queue
-endpointsOf d i = queuesOf (ownedRings (Interface i) (endpointMapIn d))
+abbrev pub interfaceEndpoints : Device → ℕ → List Queue
+interfaceEndpoints d i = queuesOf (ownedRings (Interface i) (endpointMapIn d))
 
 -- The endpoint words that an interface holds.
 abbrev pub heldBy : Device → ℕ → List ℕ
@@ -75,35 +75,35 @@ Configures d i a dropped added rings =
     ConfigureReads (d .spacing) (d .«port_speed») i a dropped added rings (queueDcis (endpoints d))
 
 -- A claim stops its interface's endpoints first. Its Configure drops the words that the interface holds and adds those of the alternate,
--- each with the ring offered for it; where the SetInterface fails, another drops these and adds the old ones, with their rings.
-pub record ClaimReads (d : Device) (i a : ℕ) (rings ctx : List ℕ) (call : List ℕ → Left) : Type 0 where
+-- each with the ring drawn for it; where the SetInterface fails, another drops these and adds the old ones, with their rings.
+pub record ClaimReads (d : Device) (i a : ℕ) (ctx : List ℕ) (call : List ℕ → Left) : Type 0 where
   pub configure :
-      let stops = length (endpointsOf d i) in
+      let stops = length (interfaceEndpoints d i) in
       let new = settingWords (listOf d) i a in
-      At stops command.Configure (Configures d i a (heldBy d i) new (queues (wordDcis new) rings) ctx) (call (done stops))
+      At stops command.Configure (Configures d i a (heldBy d i) new (queues (wordDcis new) (drawn d i a)) ctx) (call (done stops))
   pub undo :
-      let stops = length (endpointsOf d i) in
+      let stops = length (interfaceEndpoints d i) in
       let new = settingWords (listOf d) i a in
       let was = (call (done stops)) .ctx in
       (code : ℕ) →
       (code ≡ 0 → ⊥) →
-      At (stops + 2) command.Configure (Configures d i (alternateOf i (heldOf d)) new (heldBy d i) (endpointsOf d i) was)
+      At (stops + 2) command.Configure (Configures d i (alternateOf i (heldOf d)) new (heldBy d i) (interfaceEndpoints d i) was)
       (call (failed (stops + 1) code))
 
 abbrev pub ClaimContexts : Type 0
 ClaimContexts =
-    (d : Device) (ctx routes log : List ℕ) (i a : ℕ) (rings : List ℕ) →
-    recordCheck d (length ctx) (length routes) (length log) (claimCheck d i a rings Pass) ≡ Pass →
+    (d : Device) (ctx routes log : List ℕ) (i a : ℕ) →
+    recordCheck d (length ctx) (length routes) (length log) (claimCheck d i a Pass) ≡ Pass →
     Byte i →
     Byte a →
-    BusAddresses rings →
+    BusAddresses (givenOf d) →
     BusAddresses ((endpointMapIn d) .rings) →
-    ClaimReads d i a rings ctx (λ outcomes. claim d ctx routes log outcomes i a rings)
+    ClaimReads d i a ctx (λ outcomes. claim d ctx routes log outcomes i a)
 
 -- A release stops its interface's endpoints; its Configure drops the words of the alternate that is held, or of alternate 0.
 pub record ReleaseReads (d : Device) (i : ℕ) (ctx : List ℕ) (call : List ℕ → Left) : Type 0 where
   pub configure :
-      let stops = length (endpointsOf d i) in
+      let stops = length (interfaceEndpoints d i) in
       let a = alternateOf i (heldOf d) in
       At stops command.Configure (Configures d i a (settingWords (listOf d) i a) [] [] ctx) (call (done stops))
 
@@ -164,7 +164,7 @@ pub record BringUpReads (a : BringUp) (s : ℕ) (call : List ℕ → Left) : Typ
   pub address :
       let route = routeString (a .hubs) (a .hasParent) (a .parent) (a .port) in
       let translator = translatorOf (a .speed) (a .hubs) (a .hasParent) (a .parent) (a .port) in
-      At 0 command.Address (AddressReads s (a .speed) route translator (a .rootPort) (a .ring)) (call [])
+      At 0 command.Address (AddressReads s (a .speed) route translator (a .rootPort) (controlRing a)) (call [])
   pub packet :
       HeaderRead a → At 2 command.Evaluate (MaxPacketReads s (sizeSaid a) ((call []) .ctx)) (call (done 2))
   pub configure :
@@ -194,5 +194,5 @@ BringUpContexts =
     Byte (a .port) →
     Byte (a .rootPort) →
     Byte (a .packet) →
-    a .ring < 2 ^ 64 →
+    BusAddresses (a .rings) →
     BringUpReads a (spacingOf (length ctx)) (λ outcomes. bringUp a ctx routes log outcomes)

@@ -8,8 +8,7 @@ use Rattle.descriptor.specs.declared.TransferType.the-variants.{Isochronous}
 use Rattle.descriptor.specs.Word.{endpointDescriptor}
 use Rattle.transfer.specs.Routes.{Queue}
 use Rattle.context_block.specs.Fields.{INTERVAL}
-use Rattle.context_block.specs.Blocks.{wordDci}
-use Rattle.context_block.specs.Promises.{someDci}
+use Rattle.context_block.specs.Blocks.{wordDci, someDci}
 use Rattle.context.specs.Place.{readAt}
 use Rattle.context.specs.Promises.{ConfigureReads}
 

@@ -1,5 +1,5 @@
 -- The endpoints that a course leaves enabled: what a Configure's context says, and what an answer tells.
-use Prim.Native.Nat.{ℕ, _<_, _≤_}
+use Prim.Native.Nat.{ℕ, _+_, _<_, _≤_}
 use mathlib.Core.Path.{_≡_, refl, sym, ap, _∙_}
 use mathlib.Core.Bool.{Bool, true, false, not, cond, _&&_, _||_}
 use mathlib.Core.List.{List}
@@ -9,25 +9,31 @@ use borrow.Author.Tests.{le-leb, lt-ltb}
 use lib.Dec.{eqb}
 use lib.ListN.{length, take}
 use Rattle.laws.proofs.Tests.{not-both}
+use Rattle.laws.proofs.Cases.{or-none}
 use Rattle.answer.specs.declared.Answer.{Answer}
 use Rattle.answer.specs.declared.Answer.the-variants as answer
 use Rattle.answer.specs.Answer.{number}
 use Rattle.command.specs.declared.Command.{Command}
 use Rattle.command.specs.declared.Command.the-variants as command
-use Rattle.command.specs.Course.{Course, sends, onSent, then}
-use Rattle.command.specs.Sweep.{Sweep, stopEndpoints, resumeStoppedEndpoints}
-use Rattle.command.proofs.Operations.{operation}
+use Rattle.command.specs.declared.Sent.{Sent}
+use Rattle.command.specs.declared.Sent.the-variants.{Done, Failed, Cut}
+use Rattle.command.specs.Command.{outcomeAt}
+use Rattle.command.specs.Course.{Course, ends, sends, onSent, then}
+use Rattle.command.specs.Sweep.{Sweep, stopEndpoints, resumeStoppedEndpoints, stopEach}
+use Rattle.command.proofs.Operations.{operation, EachCommand}
+use Rattle.command.proofs.Sweeps.{stop-each-each}
 use Rattle.context_field.specs.declared.Field.{Field}
 use Rattle.context_field.specs.Field.{readField}
 use Rattle.context_block.specs.Fields.{DROP-FLAG, ADD-FLAG}
-use Rattle.context_block.specs.Promises.{someDci}
+use Rattle.context_block.specs.Blocks.{someDci}
 use Rattle.context.specs.Place.{blockAt, readAt, written, CONTROL, Spaced}
 use Rattle.context.specs.Steps.{configureWrites}
 use Rattle.context.proofs.Laws.{written-length}
 use Rattle.context.proofs.Added.{drop-flag-reads, add-flag-reads}
 use Rattle.transfer.specs.Routes.{Queue}
-use Rattle.theorem_controller.specs.Controller.{CONFIGURE, isDone, configured, enabledAfter}
-use Rattle.theorem_controller.proofs.Followed.{Follows, Idle, follows-sends, follows-idle, stop-then, resume-then}
+use Rattle.theorem_controller.specs.Controller.{CONFIGURE, DISABLE, isDone, configured, enabledAfter}
+use Rattle.theorem_controller.proofs.Done.{NoneOf}
+use Rattle.theorem_controller.proofs.Followed.{followed, Follows, Idle, follows-sends, follows-idle, follows-then, stop-then, resume-then}
 
 flag-set : (b : Bool) → eqb (cond b 1 0) 1 ≡ b
 flag-set true = refl
@@ -92,10 +98,10 @@ module _ (s : ℕ) (ctx : List ℕ) (spaced : Spaced s (length ctx)) (d : ℕ) (
       (configured-writes s ctx spaced d two h speed interface alternate dropped added qs dcis enabled)
       ∙ drops-undone (enabled d) (someDci d dropped) (someDci d added) p q
 
--- a command that is no Configure changes none
-idle-other : (op : ℕ) → eqb op CONFIGURE ≡ false → Idle enabledAfter op
+-- a command that is neither Configure nor Disable changes none
+idle-other : (op : ℕ) → (eqb op CONFIGURE || eqb op DISABLE) ≡ false → Idle enabledAfter op
 unfolding enabledAfter
-idle-other op e s ctx enabled = rw e
+idle-other op e s ctx enabled = let n = or-none (eqb op CONFIGURE) (eqb op DISABLE) e in rw (n .0, n .1)
 
 module _ {A : Type 0} (Q : A → (ℕ → Bool) → Type 0) (enabled : ℕ → Bool) where
   -- what comes after a sweep decides
@@ -114,12 +120,44 @@ module _ {A : Type 0} (Q : A → (ℕ → Bool) → Type 0) (enabled : ℕ → B
   unfolding enabledAfter operation isDone
   follows-configure ctx done failed cut d f u = follows-sends enabledAfter Q enabled command.Configure ctx done failed cut d f u
 
+  -- a Disable, where it is done
+  pub follows-disable : (ctx : List ℕ) (k : Sent → Course A) → Follows enabledAfter Q (λ d. false) (k Done) →
+      ((code : ℕ) → Follows enabledAfter Q enabled (k (Failed code))) → Follows enabledAfter Q enabled (k Cut) →
+      Follows enabledAfter Q enabled (sends command.Disable ctx k)
+  unfolding Follows enabledAfter operation isDone
+  follows-disable ctx k d f u Done = d
+  follows-disable ctx k d f u (Failed code) = f code
+  follows-disable ctx k d f u Cut = u
+
+  -- what comes after endpoints stopped past failures decides
+  pub follows-stops : (ctx ds : List ℕ) (f : Bool → Course A) → ((cut : Bool) → Follows enabledAfter Q enabled (f cut)) →
+      Follows enabledAfter Q enabled (then (stopEach ctx ds) f)
+  unfolding operation
+  follows-stops ctx ds f next =
+      follows-then enabledAfter Q enabled (stopEach ctx ds) f (stop-each-each _ ctx ds (λ k h. idle-other 4 refl)) next
+
   -- any other command
-  pub follows-other : (c : Command) → eqb (operation c) CONFIGURE ≡ false → (ctx : List ℕ) (done : Course A)
+  pub follows-other : (c : Command) → (eqb (operation c) CONFIGURE || eqb (operation c) DISABLE) ≡ false → (ctx : List ℕ) (done : Course A)
       (failed : ℕ → Course A) (cut : Course A) → Follows enabledAfter Q enabled done →
       ((code : ℕ) → Follows enabledAfter Q enabled (failed code)) → Follows enabledAfter Q enabled cut →
       Follows enabledAfter Q enabled (sends c ctx (λ s. onSent s done failed cut))
   follows-other c e = follows-idle enabledAfter Q enabled c (idle-other (operation c) e)
+
+-- No flag speaks of control: while no command is a Disable, it stays enabled.
+control-step : (op : ℕ) → eqb op DISABLE ≡ false → (sent : Sent) (ctx : List ℕ) (enabled : ℕ → Bool) → enabledAfter op sent ctx enabled 1 ≡ enabled 1
+unfolding enabledAfter configured
+control-step op n sent ctx enabled = rw n (go (eqb op CONFIGURE && isDone sent))
+  where
+    go : (b : Bool) → (cond b (configured ctx enabled) enabled) 1 ≡ enabled 1
+    go true = refl
+    go false = refl
+
+pub control-followed : {A : Type 0} (o : List ℕ) (n : ℕ) (c : Course A) (enabled : ℕ → Bool) → NoneOf DISABLE c →
+    followed enabledAfter o n c enabled 1 ≡ enabled 1
+unfolding followed EachCommand
+control-followed o n (ends a) enabled e = refl
+control-followed o n (sends c ctx k) enabled e =
+    control-followed o (n + 1) (k (outcomeAt o n)) _ (e .1 (outcomeAt o n)) ∙ control-step (operation c) (e .0) (outcomeAt o n) ctx enabled
 
 -- What an answer tells of whether an endpoint is enabled: accepted, it is as `made`; failed, it is as it `was`, given what an undoing needs.
 pub record Told (was made : Bool) (Given : Type 0) (x : Answer) (now : Bool) : Type 0 where

@@ -20,12 +20,15 @@ controlled step contexts outcomes i [] state = state
 controlled step contexts outcomes i (w ∷ ws) state =
     controlled step contexts outcomes (i + 1) ws (step (operationOf w) (outcomeAt outcomes i) (contexts i) state)
 
--- Configure and SetConfiguration of 01's log words.
+-- Configure, SetConfiguration and Disable of the log words.
 abbrev pub CONFIGURE : ℕ
 CONFIGURE = 3
 
 abbrev pub SET-CONFIGURATION : ℕ
 SET-CONFIGURATION = 7
+
+abbrev pub DISABLE : ℕ
+DISABLE = 12
 
 unfoldable pub isDone : Sent → Bool
 isDone Done = true
@@ -39,9 +42,12 @@ configured ctx enabled d =
     ((enabled d && not (eqb (readField (take 32 ctx) (DROP-FLAG d)) 1)) || eqb (readField (take 32 ctx) (ADD-FLAG d)) 1)
     (enabled d)
 
--- The endpoints, by Dci, that a command leaves enabled: no other command, and no failed or unanswered Configure, changes them.
+-- The endpoints, by Dci, that a command leaves enabled: a done Disable leaves none; no other command, and none that failed or was not
+-- answered, changes them.
 unfoldable pub enabledAfter : Step (ℕ → Bool)
-enabledAfter operation sent ctx enabled = cond (eqb operation CONFIGURE && isDone sent) (configured ctx enabled) enabled
+enabledAfter operation sent ctx enabled =
+    cond (eqb operation CONFIGURE && isDone sent) (configured ctx enabled)
+    (cond (eqb operation DISABLE && isDone sent) (λ d. false) enabled)
 
 -- Whether a done command of an operation is among logged words.
 unfoldable pub doneWord : ℕ → List ℕ → ℕ → List ℕ → Bool

@@ -14,7 +14,7 @@ use Rattle.device_image.specs.Layout.{WORDS}
 use Rattle.device_image.specs.Fits.{Fits}
 use Rattle.device_image.proofs.Laws.{image-encode, decode-encode}
 use Rattle.xhci_device.specs.Crossed.{Crossed, answeredOf, crossed, CrossedAs}
-use Rattle.theorem_slot.specs.Call.{Buffers, Asked, bringsUp, claims, releases, configures, updatesHub, left}
+use Rattle.theorem_slot.specs.Call.{Buffers, Asked, bringsUp, claims, commits, releases, configures, updatesHub, disconnects, left}
 use Rattle.theorem_slot.specs.Theorem.{State, recordAfter, called, after, Turns, start}
 use Rattle.theorem_slot.proofs.Demand3.{kept-by-number}
 use Rattle.theorem_library.specs.Library.{Exchange, reads, GivenImage, imageAfter, imageThen, Exchanges, imageEnd, tableEnd, turnsOf, LibraryDemand3}
@@ -82,14 +82,18 @@ module _ (image routes : List ℕ) (s : State) (h : Has image routes s) where
   unfolding GivenImage reads imageAfter called recordAfter left
   one (bringsUp a) buffers given table x keeps n c =
       kept-or-new (left (bringsUp a) buffers (s .device) table) x keeps (leaves x _ _ given _ table _ (eq-eqb (length given) WORDS n) c) _ refl refl
-  one (claims i a rings) buffers given table x keeps n c =
-      on-record (claims i a rings) buffers given table x _ n (λ t. leaves x _ _ given _ table _ t c) refl refl
+  one (claims i a) buffers given table x keeps n c =
+      on-record (claims i a) buffers given table x _ n (λ t. leaves x _ _ given _ table _ t c) refl refl
+  one (commits p) buffers given table x keeps n c =
+      on-record (commits p) buffers given table x _ n (λ t. leaves x _ _ given _ table _ t c) refl refl
   one (releases i) buffers given table x keeps n c =
       on-record (releases i) buffers given table x _ n (λ t. leaves x _ _ given _ table _ t c) refl refl
   one (configures value) buffers given table x keeps n c =
       on-record (configures value) buffers given table x _ n (λ t. leaves x _ _ given _ table _ t c) refl refl
   one (updatesHub ports multi ns) buffers given table x keeps n c =
       on-record (updatesHub ports multi ns) buffers given table x _ n (λ t. leaves x _ _ given _ table _ t c) refl refl
+  one disconnects buffers given table x keeps n c =
+      on-record disconnects buffers given table x _ n (λ t. leaves x _ _ given _ table _ t c) refl refl
 
 -- A list of calls: its turns are those of the theorem, and the caller has the record and the table that they leave.
 record Went (slot : ℕ) (still : ℕ → Bool) (image routes : List ℕ) (s : State) (es : List Exchange) : Type 0 where

@@ -11,7 +11,7 @@ use Rattle.device_bring_up.specs.BringUp.{bringUp}
 use Rattle.device_image.specs.Image.{decode, isImage}
 use Rattle.device_image.specs.Layout.{WORDS}
 use Rattle.xhci_device.specs.Crossed.{Crossed, CrossedAs}
-use Rattle.theorem_slot.specs.Call.{Buffers, Asked, bringsUp, claims, releases, configures, updatesHub, Call, left, OfSlot}
+use Rattle.theorem_slot.specs.Call.{Buffers, Asked, bringsUp, claims, commits, releases, configures, updatesHub, disconnects, Call, left, OfSlot}
 use Rattle.theorem_slot.specs.Theorem.{State, Turn, after, Between, start, Kept}
 
 -- A call of an exported function: what is asked, the image and the table that are lent, and what it returns and leaves in the buffers.
@@ -26,10 +26,12 @@ pub record Exchange : Type 0 where
 -- Whether a function works on what is lent as its image: a bring-up on anything of the right length, the others on a record.
 unfoldable pub reads : Asked → List ℕ → Bool
 reads (bringsUp a) image = eqb (length image) WORDS
-reads (claims interface alternate rings) image = isImage image
+reads (claims interface alternate) image = isImage image
+reads (commits p) image = isImage image
 reads (releases interface) image = isImage image
 reads (configures value) image = isImage image
 reads (updatesHub ports multi ns) image = isImage image
+reads disconnects image = isImage image
 
 -- The function meets its contract.
 abbrev pub Meets : Exchange → Type 0
@@ -41,18 +43,22 @@ Meets e =
 -- A bring-up may be lent another buffer; every other call is lent the image that the caller has.
 unfoldable pub GivenImage : Asked → List ℕ → List ℕ → Type 0
 GivenImage (bringsUp a) had given = length given ≡ WORDS
-GivenImage (claims interface alternate rings) had given = given ≡ had
+GivenImage (claims interface alternate) had given = given ≡ had
+GivenImage (commits p) had given = given ≡ had
 GivenImage (releases interface) had given = given ≡ had
 GivenImage (configures value) had given = given ≡ had
 GivenImage (updatesHub ports multi ns) had given = given ≡ had
+GivenImage disconnects had given = given ≡ had
 
 -- The image that the caller has after a call.
 unfoldable pub imageAfter : Asked → Bool → ℕ → List ℕ → List ℕ → List ℕ
 imageAfter (bringsUp a) keeps answer had left = cond (keeps && not (eqb answer 0)) had left
-imageAfter (claims interface alternate rings) keeps answer had left = left
+imageAfter (claims interface alternate) keeps answer had left = left
+imageAfter (commits p) keeps answer had left = left
 imageAfter (releases interface) keeps answer had left = left
 imageAfter (configures value) keeps answer had left = left
 imageAfter (updatesHub ports multi ns) keeps answer had left = left
+imageAfter disconnects keeps answer had left = left
 
 abbrev pub imageThen : List ℕ → Exchange → List ℕ
 imageThen had e = imageAfter (e .call .asked) (e .keeps) (e .crossed .answered .answer) had (e .crossed .image)

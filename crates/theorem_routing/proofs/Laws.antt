@@ -15,8 +15,7 @@ use Rattle.record_ring.proofs.Laws.{ring-at, ring-nonzero, offered}
 use Rattle.descriptor.specs.Word.{ENDPOINT, kind, wordOk, endpointDescriptor}
 use Rattle.descriptor.specs.Endpoint.{dciOf}
 use Rattle.descriptor.proofs.Laws.{endpoint-word, dci-word}
-use Rattle.context_block.specs.Blocks.{wordDci}
-use Rattle.context_block.specs.Promises.{someDci}
+use Rattle.context_block.specs.Blocks.{wordDci, someDci}
 use Rattle.context.specs.Steps.{wordDcis}
 use Rattle.transfer.specs.declared.Replaced.the-variants as replace
 use Rattle.transfer.specs.Routes.{Queue, queues, names, routeIndex, routeOf, oldMatch, isFree, newFree, replaced, withReplaced, ringFor, OutsideSlot}

@@ -1,32 +1,49 @@
 -- The plain slot's settings beside the endpoints that a claim or a release leaves.
-use Prim.Native.Nat.{ℕ, _<_}
+use Prim.Native.Nat.{ℕ, suc, _≤_, _<_}
 use mathlib.Core.Path.{_≡_, refl, sym, _∙_}
 use mathlib.Core.Bool.{Bool, true, false, not, cond, _&&_, _||_}
-use mathlib.Core.List.{List, []}
-use mathlib.Core.Logic.{_⊎_, inl, inr}
+use mathlib.Core.List.{List, [], _∷_}
+use mathlib.Core.Logic.{_⊎_, inl, inr, ⊎-elim}
 use native.Mathlib.Omega.{arith}
 use borrow.Author.Tests.{eq-eqb, ne-eqb, eqb-true, not-true}
 use lib.Dec.{eqb}
-use lib.ListN.{getD}
+use lib.ListN.{length, getD}
 use Rattle.laws.proofs.Tests.{and-left, and-right, not-both}
 use Rattle.laws.proofs.Cases.{Decided, decided, or-cases}
 use Rattle.descriptor_list.specs.Valid.{validList}
-use Rattle.context_block.specs.Promises.{someDci}
-use Rattle.record_endpoint.specs.Order.{dciAt}
+use Rattle.descriptor.specs.Word.{endpointDescriptor}
+use Rattle.descriptor.specs.Endpoint.{dciOf}
+use Rattle.context_block.specs.Blocks.{wordDci, someDci}
+use Rattle.record_endpoint.specs.Order.{dciAt, placeOf}
 use Rattle.record_endpoint.specs.EndpointMap.{isOwned, owns, pendingRings, claimedRing, claimedEndpoints}
 use Rattle.record_endpoint.specs.declared.endpoint_map.EndpointMap.{EndpointMap}
 use Rattle.record_endpoint.specs.declared.endpoint_map.Owner.the-variants.{Interface}
-use Rattle.record_endpoint.proofs.Laws.{claimed-ring}
+use Rattle.record_endpoint.proofs.Laws.{dci-low, dci-high, place-dci, claimed-ring}
 use Rattle.record_settings.specs.Held.{settingWords}
 use Rattle.record_settings.specs.Match.{hasPlace, addressesFree}
-use Rattle.record_settings.proofs.Laws.{setting-word, claimed-owned, free-at, free-apart}
-use Rattle.theorem_routing.proofs.Laws.{words-dci, words-name, words-ring, words-low-name}
+use Rattle.record_settings.proofs.Laws.{setting-place, claimed-owned, free-at, free-apart}
+use Rattle.theorem_routing.proofs.Laws.{words-dci, words-name, words-ring}
 use Rattle.theorem_slot.specs.Plain.{HeldSetting, settingOf}
 use Rattle.theorem_slot.proofs.Settings.{Fits}
 
 -- The Dcis of words are at their places.
 pub some-place : (words : List ℕ) (p : ℕ) → p < 30 → someDci (dciAt p) words ≡ hasPlace p words
 some-place words p h = sym (words-dci (dciAt p) words []) ∙ words-name words [] p h
+
+-- They are endpoints'.
+pub words-inside :
+    (words : List ℕ) → ((k : ℕ) → k < length words → placeOf ((endpointDescriptor (getD words k 0)) .address) < 30) → (d : ℕ) →
+    someDci d words ≡ true → (2 ≤ d) × (d < 32)
+unfolding someDci wordDci
+words-inside [] h d e = not-both false e refl
+words-inside (w ∷ ws) h d e =
+    ⊎-elim
+    (λ x.
+    let p = placeOf ((endpointDescriptor w) .address) in
+    let s : dciAt p ≡ d = place-dci ((endpointDescriptor w) .address) (h 0 (omega arith)) ∙ eqb-true (dciOf ((endpointDescriptor w) .address)) d x in
+    (omega (arith, dci-low p (h 0 (omega arith)), s), omega (arith, dci-high p (h 0 (omega arith)), s)))
+    (λ x. words-inside ws (λ k l. h (suc k) (omega arith)) d x)
+    (or-cases (eqb (dciOf ((endpointDescriptor w) .address)) d) (someDci d ws) e)
 
 -- An endpoint that is owned has a ring.
 pub owned-ring : (i : ℕ) (c : EndpointMap) (p : ℕ) → isOwned (Interface i) c p ≡ true → eqb (getD (c .rings) p 0) 0 ≡ false
@@ -105,7 +122,7 @@ fits-other i pending c s n free f =
       ring = λ p h o.
           let w : isOwned (Interface (s .interface)) c p ≡ true = sym (other-owned i (s .interface) pending c p h n (free p h)) ∙ o in
           f .ring p h w ∙ sym (other-ring i (s .interface) pending c p h n (free p h) w);
-      low = f .low;
+      inside = f .inside;
       byte = f .byte;
     }
 
@@ -138,7 +155,7 @@ module _ (list : List ℕ) (valid : validList list ≡ true) (i a : ℕ) (rings 
       record {
         named = λ p h. words-name words rings p h ∙ sym (own-owned p h);
         ring = λ p h o. words-ring words rings p h ∙ sym (own-ring p h (sym (own-owned p h) ∙ o));
-        low = words-low-name words rings (setting-word list valid i a) 0 (omega arith);
+        inside = λ d e. words-inside words (setting-place list valid i a) d (sym (words-dci d words rings) ∙ e);
         byte = b;
       }
 

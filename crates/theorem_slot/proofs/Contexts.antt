@@ -20,20 +20,25 @@ use Rattle.course_claim.specs.Claim.{claimCourse}
 use Rattle.course_claim.proofs.Laws.{claim-cuts}
 use Rattle.course_release.specs.Release.{releaseCourse}
 use Rattle.course_release.proofs.Laws.{release-cuts}
+use Rattle.record_endpoint.specs.EndpointMap.{queuesOf, queueDcis}
+use Rattle.course_disconnect.specs.Disconnect.{disconnectCourse}
+use Rattle.course_disconnect.proofs.Ends.{disconnect-cuts}
 use Rattle.course_set_configuration.specs.SetConfiguration.{setCourse}
 use Rattle.course_set_configuration.proofs.Laws.{set-cuts}
-use Rattle.course_init.specs.Reading.{BringUp, Reading, Brought}
+use Rattle.course_init.specs.Reading.{BringUp, controlRing, Reading, Brought}
 use Rattle.course_init.specs.Init.{step, bringUpSettings, bringUpSet, bringUpConfigs, bringUpDevice, bringUpConfiguration, bringUpPacket, bringUpHeader, bringUpAddress}
 use Rattle.device.specs.declared.record.Device.{Device}
 use Rattle.device.specs.Left.{Left, refused, ended}
 use Rattle.device.specs.Calls.{onCheck, hubContext, hubCourse, hubLeft, hubUpdate}
-use Rattle.device.specs.Claim.{claimIn, claimRecord, claim}
+use Rattle.device.specs.Ask.{commit}
+use Rattle.device.specs.Claim.{drawn, claimIn, claimRecord, claim}
+use Rattle.device.specs.Disconnect.{disconnectRecord, disconnect}
 use Rattle.device.specs.Release.{releaseIn, releaseRecord, release}
 use Rattle.device.specs.SetConfiguration.{settingsIn, setRecord, setConfiguration}
-use Rattle.device.specs.Device.{noDevice}
+use Rattle.device.specs.Device.{endpointMapIn, noDevice}
 use Rattle.context.specs.Place.{spacingOf}
 use Rattle.device_bring_up.specs.BringUp.{bringUpCourse, broughtLeft, bringUp}
-use Rattle.theorem_slot.specs.Call.{Buffers, Asked, bringsUp, claims, releases, configures, updatesHub, left, cutAt, contextCut}
+use Rattle.theorem_slot.specs.Call.{Buffers, Asked, bringsUp, claims, commits, releases, configures, updatesHub, disconnects, left, cutAt, contextCut}
 use Rattle.theorem_slot.specs.Answers.{commandContext, ContextsAgree}
 
 -- The course of a bring-up, where a command is cut.
@@ -96,15 +101,19 @@ module _ (b : Buffers) (d : Device) (routes : List ℕ) (i : ℕ) where
   each :
       (a : Asked) → i < (left a b d routes) .count →
       contextCut (record { asked = a; buffers = b }) d routes i ≡ commandContext a b d routes i
-  unfolding left cutAt contextCut commandContext claim release setConfiguration hubUpdate bringUp ended hubLeft broughtLeft bringUpCourse refused
+  unfolding left cutAt contextCut commandContext claim commit release setConfiguration hubUpdate disconnect bringUp ended hubLeft broughtLeft bringUpCourse refused
   each (bringsUp a) h =
       context-there (λ (x : Brought). x .ctx) (broughtLeft a (spacingOf (length (b .ctx))))
       (bringUpCourse a (spacingOf (length (b .ctx))) (b .ctx) routes) (b .log) (b .outcomes) (λ p. refl) (λ p. refl)
-      (bring-up-cuts a (spacingOf (length (b .ctx))) (withRoute routes (a .slot) 1 (a .ring)) (b .ctx)) _
+      (bring-up-cuts a (spacingOf (length (b .ctx))) (withRoute routes (a .slot) 1 (controlRing a)) (b .ctx)) _
       (λ x. refused noDevice x (b .ctx) routes (b .log)) i (λ x. refl) h
-  each (claims j a rings) h =
-      context-there (λ (x : End). x .ctx) (ended (claimRecord d j a rings)) (claimCourse (claimIn d j a rings) (b .ctx) routes) (b .log)
-      (b .outcomes) (λ p. refl) (λ p. refl) (claim-cuts (claimIn d j a rings) (b .ctx) routes) _
+  each (claims j a) h =
+      context-there (λ (x : End). x .ctx) (ended (claimRecord d j a (drawn d j a))) (claimCourse (claimIn d j a (drawn d j a)) (b .ctx) routes) (b .log)
+      (b .outcomes) (λ p. refl) (λ p. refl) (claim-cuts (claimIn d j a (drawn d j a)) (b .ctx) routes) _
+      (λ x. refused d x (b .ctx) routes (b .log)) i (λ x. refl) h
+  each (commits p) h =
+      context-there (λ (x : End). x .ctx) (ended (claimRecord d (p .interface) (p .alternate) (drawn d (p .interface) (p .alternate)))) (claimCourse (claimIn d (p .interface) (p .alternate) (drawn d (p .interface) (p .alternate))) (b .ctx) routes) (b .log)
+      (b .outcomes) (λ x. refl) (λ x. refl) (claim-cuts (claimIn d (p .interface) (p .alternate) (drawn d (p .interface) (p .alternate))) (b .ctx) routes) _
       (λ x. refused d x (b .ctx) routes (b .log)) i (λ x. refl) h
   each (releases j) h =
       context-there (λ (x : End). x .ctx) (ended (releaseRecord d j)) (releaseCourse (releaseIn d j) (b .ctx) routes) (b .log)
@@ -118,6 +127,11 @@ module _ (b : Buffers) (d : Device) (routes : List ℕ) (i : ℕ) where
       let ctx = hubContext d ports multi ns (b .ctx) in
       context-there (λ (x : Answer). ctx) (hubLeft d ctx routes) (hubCourse ctx) (b .log) (b .outcomes) (λ p. refl) (λ p. refl)
       (hub-cuts ctx) _ (λ x. refused d x (b .ctx) routes (b .log)) i (λ x. refl) h
+  each disconnects h =
+      let dcis = queueDcis (queuesOf ((endpointMapIn d) .rings)) in
+      context-there (λ (x : End). x .ctx) (ended (disconnectRecord d)) (disconnectCourse (d .slot .0) dcis (b .ctx) routes) (b .log)
+      (b .outcomes) (λ p. refl) (λ p. refl) (disconnect-cuts (d .slot .0) dcis (b .ctx) routes) _
+      (λ x. refused d x (b .ctx) routes (b .log)) i (λ x. refl) h
 
 pub contexts-agree : ContextsAgree
 unfolding contextCut

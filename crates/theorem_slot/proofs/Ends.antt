@@ -2,7 +2,8 @@
 use Prim.Native.Nat.{ℕ, zero, suc, _+_, _≤_}
 use mathlib.Core.Path.{_≡_, refl, ap}
 use mathlib.Core.Bool.{Bool, true, false, cond}
-use mathlib.Core.List.{List}
+use mathlib.Core.List.{List, _∷_}
+use mathlib.Core.Logic.{_⊎_, inl, inr}
 use native.Mathlib.Omega.{arith}
 use lib.Dec.{eqb}
 use lib.ListN.{length}
@@ -11,12 +12,12 @@ use Rattle.laws.proofs.Tests.{not-both}
 use Rattle.descriptor_list.specs.Valid.{configurations}
 use Rattle.answer.specs.declared.Answer.{Answer}
 use Rattle.answer.specs.declared.Answer.the-variants as answer
-use Rattle.answer.specs.Answer.{number, codeOf, isCut}
+use Rattle.answer.specs.Answer.{number, codeOf, isCut, isLost}
 use Rattle.command.specs.declared.Command.{Command}
 use Rattle.command.specs.declared.Sent.{Sent}
 use Rattle.command.specs.declared.Sent.the-variants.{Done, Failed, Cut}
-use Rattle.command.specs.Course.{Course, ends, onSent, words, EndsWith}
-use Rattle.command.specs.Sweep.{stopEndpoints, resumeStoppedEndpoints, orCode}
+use Rattle.command.specs.Course.{Course, ends, onSent, then, words, EndsWith}
+use Rattle.command.specs.Sweep.{stopEndpoints, resumeStoppedEndpoints, stopEach, orCode}
 use Rattle.record_endpoint.specs.EndpointMap.{queueDcis}
 use Rattle.transfer.specs.declared.Replaced.{Replaced}
 use Rattle.transfer.specs.declared.Replaced.the-variants as replace
@@ -25,11 +26,27 @@ use Rattle.course_steps.specs.End.{End, settingsKept, answerOf, configureFailed
 use Rattle.course_claim.specs.Claim.{Claim, claimPublished, claimPublish, claimSwitchBack, claimUndone, claimUndo, claimSwitch, claimResume, claimConfigure, claimCourse}
 use Rattle.course_release.specs.Release.{Release, releasePublished, releasePublish, releaseResume, releaseConfigure, releaseCourse}
 use Rattle.course_set_configuration.specs.SetConfiguration.{Settings, setEvaluate, setPublished, setPublish, setRestored, setRestore, setSwitch, setResume, setConfigure, setCourse}
+use Rattle.course_disconnect.specs.Disconnect.{disable, disconnectCourse}
 use Rattle.course_init.specs.Reading.{BringUp, Reading, Brought}
 use Rattle.course_init.specs.Init.{step, bringUpSettings, bringUpSet, bringUpConfigs, bringUpDevice, bringUpConfiguration, bringUpPacket, bringUpHeader, bringUpAddress}
 use Rattle.device.specs.Calls.{hubCourse}
 use Rattle.theorem_slot.specs.Answers.{isRefused}
-use Rattle.command.proofs.Told.{Read, Told, on-read, told-then, ReadSweep, CutSweep, resume-told, stop-told, sends-after-stop}
+use Rattle.command.proofs.Told.{Read, Told, on-read, told-then, ReadSweep, CutSweep, resume-told, stop-told, stop-each-told, sends-after-stop}
+
+-- An unplugging that is broken or cut has moved nothing.
+pub record Stayed (routes : List ℕ) (e : End) : Type 0 where
+  pub kept : e .moved ≡ false
+  pub lost : isLost (e .answer) ≡ true
+  pub left : e .routes ≡ routes
+
+pub unplugging-stayed :
+    (ctx routes : List ℕ) (e : End) →
+    (e ≡ settingsKept answer.InterfaceBroken 0 ctx routes) ⊎ (e ≡ settingsKept answer.Cut 0 ctx routes) → Stayed routes e
+unfolding number
+unplugging-stayed ctx routes e (inl v) =
+    record { kept = ap (λ (x : End). x .moved) v; lost = ap (λ (x : End). isLost (x .answer)) v; left = ap (λ (x : End). x .routes) v }
+unplugging-stayed ctx routes e (inr v) =
+    record { kept = ap (λ (x : End). x .moved) v; lost = ap (λ (x : End). isLost (x .answer)) v; left = ap (λ (x : End). x .routes) v }
 
 -- An answer after a command that is no cut: no refusal either, and where it has a code, one of these.
 pub record Fair (K : ℕ → Type 0) (a : Answer) : Type 0 where
@@ -225,6 +242,14 @@ module _ (K : ℕ → Type 0) where
         (stop-told K ctx (queueDcis (a .old))) (λ r p. rw p refl)
         (λ r p. on-read TellsEnd K (r .sent) _ _ _ p (set-configure ctx routes) (λ code k. fair-broken))
 
+  -- Unplugging.
+  pub disconnect-tells : (slot : ℕ) (dcis ctx routes : List ℕ) → TellsEnd (disconnectCourse slot dcis ctx routes)
+  unfolding Told EndsWith disconnectCourse disable onSent
+  disconnect-tells slot dcis ctx routes =
+      told-then (λ cut. cut ≡ false) (λ cut. cut ≡ true) FairEnd CutEnd K (stopEach ctx (1 ∷ dcis)) _ (stop-each-told K ctx (1 ∷ dcis))
+      (λ cut p. rw p refl)
+      (λ cut p. rw p (refl, λ s r. on-read (λ (e : End). Fair K (e .answer)) K s _ _ _ r fair-accepted (λ code k. fair-broken)))
+
   -- Hub update.
   pub hub-tells : (ctx : List ℕ) → Told (Fair K) (λ a. a ≡ answer.Cut) K (hubCourse ctx)
   unfolding Told EndsWith hubCourse answerOf
@@ -289,6 +314,10 @@ module _ (o ctx routes : List ℕ) where
   pub set-sends : (a : Settings) → 1 ≤ length (words o 0 (setCourse a ctx routes))
   unfolding words setCourse setConfigure onSent
   set-sends a = sends-after-stop o ctx (queueDcis (a .old)) _ (omega arith)
+
+  pub disconnect-sends : (slot : ℕ) (dcis : List ℕ) → 1 ≤ length (words o 0 (disconnectCourse slot dcis ctx routes))
+  unfolding words disconnectCourse stopEach then
+  disconnect-sends slot dcis = omega arith
 
   pub bring-up-sends : (a : BringUp) (spacing : ℕ) → 1 ≤ length (words o 0 (bringUpAddress a spacing ctx routes))
   unfolding words bringUpAddress step

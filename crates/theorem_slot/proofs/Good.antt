@@ -13,19 +13,26 @@ use Rattle.laws.proofs.Cases.{Decided, decided}
 use Rattle.transfer.specs.Routes.{ringFor, names, routeOf, OutsideSlot}
 use Rattle.transfer.proofs.Laws.{ringFor-none}
 use Rattle.record_endpoint.specs.Order.{dciAt}
+use Rattle.record_endpoint.specs.EndpointMap.{ownedRings}
+use Rattle.record_endpoint.specs.declared.endpoint_map.Owner.the-variants.{Interface}
 use Rattle.record_endpoint.specs.declared.endpoint_map.EndpointMap.{EndpointMap}
 use Rattle.record_endpoint.proofs.Laws.{dci-low, dci-high}
 use Rattle.record_settings.specs.Held.{isHeld}
-use Rattle.record_settings.proofs.Laws.{match-facts}
+use Rattle.record_settings.proofs.Laws.{match-facts, match-unheld}
 use Rattle.theorem_routing.specs.Routing.{RoutedBy, NamedBy}
 use Rattle.theorem_routing.proofs.Laws.{each-dci}
 use Rattle.device.specs.declared.record.Device.{Device}
 use Rattle.device.specs.Device.{listOf, endpointMapIn, heldOf}
 use Rattle.device.specs.Sound.{sound}
 use Rattle.device.proofs.Facts.{sound-facts}
-use Rattle.theorem_slot.specs.Plain.{Plain, plainRoute, isHeldDci, heldQueues, hasSetting}
+use Rattle.device.proofs.Made.{sound-clean}
+use Rattle.theorem_slot.specs.Groups.{Parted}
+use Rattle.theorem_slot.specs.Plain.{Plain, isUp, isUnplugged, isNotUp, plainRoute, isHeldDci, heldQueues, hasSetting, queuesOfOne}
 use Rattle.theorem_slot.specs.Theorem.{State, Untouched}
-use Rattle.theorem_slot.proofs.Settings.{AllFit, heldAt, held-low, held-names, held-ring, pairs, pairs-setting}
+use Rattle.theorem_slot.proofs.Settings.{AllFit, heldAt, held-low, held-names, held-ring, held-inside, pairs, pairs-setting}
+use Rattle.theorem_slot.proofs.Kept.{ByPlace}
+use Rattle.theorem_slot.proofs.Owned.{one-by-place}
+use Rattle.theorem_slot.proofs.Record.{AgreeWith, parted-record}
 
 -- A sound record and the plain slot say the same, whether or not it is usable.
 pub record Live (slot : ℕ) (d : Device) (p : Plain) : Type 0 where
@@ -34,20 +41,29 @@ pub record Live (slot : ℕ) (d : Device) (p : Plain) : Type 0 where
   pub list : listOf d ≡ p .list
   pub held : pairs (p .held) ≡ heldOf d
   pub fits : AllFit (endpointMapIn d) (p .held)
+  pub groups : AgreeWith d (p .groups)
 
--- A record of no slot, as a refused bring-up returns it.
-abbrev pub Slotless : Device → Type 0
-Slotless d = (d .usable ≡ false) × (sound d ≡ false)
+-- So they part the given rings.
+pub live-parted : (slot : ℕ) (d : Device) (p : Plain) → Live slot d p → Parted (p .groups)
+live-parted slot d p l = parted-record d (l .is-sound) (p .groups) (l .groups)
+
+-- A record of which every call is refused: a bring-up that was not accepted returns it, and an accepted unplugging.
+abbrev pub Down : Device → Type 0
+Down d = (d .usable ≡ false) × (d .up ≡ false)
 
 -- A slot without routes.
 abbrev pub Unrouted : List ℕ → ℕ → Type 0
 Unrouted routes slot = (d : ℕ) → d < 32 → routeOf routes slot d ≡ 0
 
+-- While it is up.
 pub record Good (slot : ℕ) (before : List ℕ) (s : State) : Type 0 where
+  pub phase : isUp (s .plain .phase) ≡ true
   pub long : length (s .routes) ≡ length before
   pub room : 32 * slot + 32 ≤ length before
   pub others : (k : ℕ) → OutsideSlot slot k → getD (s .routes) k 0 ≡ getD before k 0
-  pub live : Slotless (s .device) ⊎ Live slot (s .device) (s .plain)
+  pub live : Down (s .device) ⊎ Live slot (s .device) (s .plain)
+  pub parted : Parted (s .plain .groups)
+  pub on : s .plain .enabled 1 ≡ true
   pub enabled :
       s .plain .broken ≡ false → s .plain .unheldRelease ≡ false → (d : ℕ) → 2 ≤ d → d < 32 →
       s .plain .enabled d ≡ isHeldDci (s .plain) d
@@ -59,6 +75,76 @@ pub record Good (slot : ℕ) (before : List ℕ) (s : State) : Type 0 where
       routeOf (s .routes) slot (dciAt q) ≡ ringFor (dciAt q) (heldQueues (s .plain .held)) 0
   -- and nothing else, where they were all 0
   pub own : Unrouted before slot → (d : ℕ) → d < 32 → routeOf (s .routes) slot d ≡ plainRoute (s .plain) d
+
+-- While it is unplugged.
+pub record Empty (slot : ℕ) (before : List ℕ) (s : State) : Type 0 where
+  pub phase : isUnplugged (s .plain .phase) ≡ true
+  pub table : Untouched slot before (s .routes)
+  pub room : 32 * slot + 32 ≤ length before
+  pub down : Down (s .device)
+  pub none : Unrouted (s .routes) slot
+  pub plain : (d : ℕ) → plainRoute (s .plain) d ≡ 0
+  pub parted : Parted (s .plain .groups)
+  pub off : (d : ℕ) → s .plain .enabled d ≡ false
+
+-- After a bring-up that failed: control's word is set.
+pub record Failed (slot : ℕ) (before : List ℕ) (s : State) : Type 0 where
+  pub phase : isNotUp (s .plain .phase) ≡ true
+  pub table : Untouched slot before (s .routes)
+  pub room : 32 * slot + 32 ≤ length before
+  pub down : Down (s .device)
+  pub first : routeOf (s .routes) slot 1 ≡ 0 → ⊥
+  pub parted : Parted (s .plain .groups)
+
+-- Wherever it stands.
+abbrev pub Stands : ℕ → List ℕ → State → Type 0
+Stands slot before s = Good slot before s ⊎ (Empty slot before s ⊎ Failed slot before s)
+
+pub stands-table : (slot : ℕ) (before : List ℕ) (s : State) → Stands slot before s → Untouched slot before (s .routes)
+stands-table slot before s (inl g) = record { long = g .long; words = g .others }
+stands-table slot before s (inr (inl g)) = g .table
+stands-table slot before s (inr (inr g)) = g .table
+
+pub stands-room : (slot : ℕ) (before : List ℕ) (s : State) → Stands slot before s → 32 * slot + 32 ≤ length before
+stands-room slot before s (inl g) = g .room
+stands-room slot before s (inr (inl g)) = g .room
+stands-room slot before s (inr (inr g)) = g .room
+
+-- The same slot with another such record.
+pub stands-down :
+    (slot : ℕ) (before : List ℕ) (s : State) (d : Device) → Down d → Stands slot before s →
+    Stands slot before (record { device = d; routes = s .routes; plain = s .plain })
+stands-down slot before s d n (inl g) =
+    inl
+    (record {
+      phase = g .phase;
+      long = g .long;
+      room = g .room;
+      others = g .others;
+      live = inl n;
+      parted = g .parted;
+      on = g .on;
+      enabled = g .enabled;
+      control = g .control;
+      first = g .first;
+      named = g .named;
+      own = g .own;
+    })
+stands-down slot before s d n (inr (inl g)) =
+    inr
+    (inl
+    (record {
+      phase = g .phase;
+      table = g .table;
+      room = g .room;
+      down = n;
+      none = g .none;
+      plain = g .plain;
+      parted = g .parted;
+      off = g .off;
+    }))
+stands-down slot before s d n (inr (inr g)) =
+    inr (inr (record { phase = g .phase; table = g .table; room = g .room; down = n; first = g .first; parted = g .parted }))
 
 -- The plain slot's queues are those of some endpoints.
 pub record Tells (p : Plain) (c : EndpointMap) : Type 0 where
@@ -93,6 +179,27 @@ live-tells slot d p l =
         heldAt (endpointMapIn d) q (p .held) ≡ not (eqb (getD ((endpointMapIn d) .rings) q 0) 0)
     name-all q h (inl e) = rw e
     name-all q h (inr e) = rw (e, owned q h e)
+
+-- The plain slot's queues are those of all its endpoints.
+pub live-by-place : (slot : ℕ) (d : Device) (p : Plain) → Live slot d p → ByPlace (heldQueues (p .held)) ((endpointMapIn d) .rings)
+live-by-place slot d p l =
+    let t = live-tells slot d p l in
+    record {
+      long = sound-clean d (l .is-sound) .whole .rings;
+      named = t .named;
+      ring = t .ring;
+      inside = held-inside (endpointMapIn d) (p .held) (l .fits);
+    }
+
+-- Those of one interface are those of its endpoints.
+pub live-one :
+    (slot : ℕ) (d : Device) (p : Plain) → Live slot d p → (i : ℕ) → ByPlace (queuesOfOne i (p .held)) (ownedRings (Interface i) (endpointMapIn d))
+live-one slot d p l i =
+    one-by-place (endpointMapIn d) i (p .held) (l .fits)
+    (λ q h n.
+    match-unheld (listOf d) (heldOf d) (endpointMapIn d)
+    (match-facts (listOf d) (heldOf d) (endpointMapIn d) (sound-facts d (l .is-sound) .endpoints)) i q
+    (sym (pairs-setting i (p .held) ∙ ap (isHeld i) (l .held)) ∙ n) h)
 
 -- The plain slot's routes.
 pub route-zero : (p : Plain) → names 0 (heldQueues (p .held)) ≡ false → plainRoute p 0 ≡ 0
@@ -145,25 +252,36 @@ named-of slot routes p c n t q h e =
     n q h (λ z. not-both (names (dciAt q) (heldQueues (p .held))) e (t .named q h ∙ ap not (eq-eqb (getD (c .rings) q 0) 0 z)))
     ∙ sym (t .ring q h)
 
-module _ (slot : ℕ) (before : List ℕ) (s now : State) (g : Good slot before s) where
+-- What a call leaves of the plain slot, an unplugging that is accepted and a bring-up apart.
+pub record Upheld (s now : State) : Type 0 where
+  pub phase : now .plain .phase ≡ s .plain .phase
+  pub control : now .plain .control ≡ s .plain .control
+  pub on : now .plain .enabled 1 ≡ s .plain .enabled 1
+
+module _ (slot : ℕ) (before : List ℕ) (s now : State) (g : Good slot before s) (u : Upheld s now) where
+  same : now .plain .control ≡ s .plain .control
+  same = u .control
+
   -- A call that moves routes of the slot: words 0 and 1 stay, and the others are those of the endpoints that the plain slot tells of.
   pub good-moved :
       Untouched slot (s .routes) (now .routes) →
       (old c : EndpointMap) → Tells (s .plain) old → Tells (now .plain) c → NamedBy (now .routes) slot c →
       (Unrouted before slot → RoutedBy (now .routes) slot c) →
       ((d : ℕ) → d < 2 → routeOf (now .routes) slot d ≡ routeOf (s .routes) slot d) →
-      now .plain .control ≡ s .plain .control →
       (now .plain .broken ≡ false → now .plain .unheldRelease ≡ false → (q : ℕ) → q < 30 →
       now .plain .enabled (dciAt q) ≡ not (eqb (getD (c .rings) q 0) 0)) →
-      Slotless (now .device) ⊎ Live slot (now .device) (now .plain) →
+      Live slot (now .device) (now .plain) →
       Good slot before now
   unfolding isHeldDci
-  good-moved u old c was t n r low same e l =
+  good-moved w old c was t n r low e l =
       record {
-        long = u .long ∙ g .long;
+        phase = ap isUp (u .phase) ∙ g .phase;
+        on = u .on ∙ g .on;
+        long = w .long ∙ g .long;
         room = g .room;
-        others = λ k o. u .words k o ∙ g .others k o;
-        live = l;
+        others = λ k o. w .words k o ∙ g .others k o;
+        live = inr l;
+        parted = live-parted slot (now .device) (now .plain) l;
         enabled = λ b f.
             each-dci (λ d. now .plain .enabled d ≡ names d (heldQueues (now .plain .held)))
             (λ q h. e b f q h ∙ sym (t .named q h));
@@ -178,23 +296,26 @@ module _ (slot : ℕ) (before : List ℕ) (s now : State) (g : Good slot before 
 
   -- A call that leaves routes and held settings.
   pub good-same :
-      now .routes ≡ s .routes → now .plain .control ≡ s .plain .control → now .plain .held ≡ s .plain .held →
+      now .routes ≡ s .routes → now .plain .held ≡ s .plain .held →
       (now .plain .broken ≡ false → now .plain .unheldRelease ≡ false → (d : ℕ) → 2 ≤ d → d < 32 →
       now .plain .enabled d ≡ isHeldDci (s .plain) d) →
-      Slotless (now .device) ⊎ Live slot (now .device) (now .plain) →
+      Live slot (now .device) (now .plain) →
       Good slot before now
   unfolding isHeldDci plainRoute
-  good-same r c h e l =
+  good-same r h e l =
       record {
+        phase = ap isUp (u .phase) ∙ g .phase;
+        on = u .on ∙ g .on;
         long = rw r (g .long);
         room = g .room;
         others = λ k o. rw r (g .others k o);
-        live = l;
+        live = inr l;
+        parted = live-parted slot (now .device) (now .plain) l;
         enabled = λ b f d two k. rw h (e b f d two k);
-        control = λ z. g .control (sym c ∙ z);
-        first = rw (r, c) (g .first);
+        control = λ z. g .control (sym same ∙ z);
+        first = rw (r, same) (g .first);
         named = λ q k. rw (r, h) (g .named q k);
-        own = λ x d k. rw (r, c, h) (g .own x d k);
+        own = λ x d k. rw (r, same, h) (g .own x d k);
       }
 
 -- While neither mark is set, the enabled endpoints are the record's.
@@ -206,19 +327,26 @@ unfolding isHeldDci
 enabled-was slot before s g l b f q h =
     g .enabled b f (dciAt q) (dci-low q h) (dci-high q h) ∙ live-tells slot (s .device) (s .plain) l .named q h
 
--- A sound record, as one that passed its checks is.
+-- A record that passed its checks.
 pub live-here :
-    (slot : ℕ) (before : List ℕ) (s : State) → Good slot before s → sound (s .device) ≡ true → Live slot (s .device) (s .plain)
+    (slot : ℕ) (before : List ℕ) (s : State) → Good slot before s → s .device .usable ≡ true → Live slot (s .device) (s .plain)
 live-here slot before s g t = go (g .live)
   where
-    go : Slotless (s .device) ⊎ Live slot (s .device) (s .plain) → Live slot (s .device) (s .plain)
-    go (inl n) = not-both (sound (s .device)) t (n .1)
+    go : Down (s .device) ⊎ Live slot (s .device) (s .plain) → Live slot (s .device) (s .plain)
+    go (inl n) = not-both (s .device .usable) t (n .0)
+    go (inr l) = l
+
+-- And one that is up.
+pub live-up :
+    (slot : ℕ) (before : List ℕ) (s : State) → Good slot before s → s .device .up ≡ true → Live slot (s .device) (s .plain)
+live-up slot before s g t = go (g .live)
+  where
+    go : Down (s .device) ⊎ Live slot (s .device) (s .plain) → Live slot (s .device) (s .plain)
+    go (inl n) = not-both (s .device .up) t (n .1)
     go (inr l) = l
 
 -- A usable record is sound.
-pub usable-sound : (slot : ℕ) (before : List ℕ) (s : State) → Good slot before s → s .device .usable ≡ true → sound (s .device) ≡ true
-usable-sound slot before s g u = go (g .live)
-  where
-    go : Slotless (s .device) ⊎ Live slot (s .device) (s .plain) → sound (s .device) ≡ true
-    go (inl n) = not-both (s .device .usable) u (n .0)
-    go (inr l) = l .is-sound
+pub usable-sound : (slot : ℕ) (before : List ℕ) (s : State) → Stands slot before s → s .device .usable ≡ true → sound (s .device) ≡ true
+usable-sound slot before s (inl g) u = live-here slot before s g u .is-sound
+usable-sound slot before s (inr (inl g)) u = not-both (s .device .usable) u (g .down .0)
+usable-sound slot before s (inr (inr g)) u = not-both (s .device .usable) u (g .down .0)

@@ -21,11 +21,12 @@ use Rattle.device.specs.Calls.{onCheck, hubContext, hubCourse, hubLeft, hubUpda
 use Rattle.device.proofs.Made.{marked-made}
 use Rattle.device.proofs.Laws.{passed}
 use Rattle.theorem_slot.specs.Call.{Buffers, updatesHub, left, cutAt, contextCut}
-use Rattle.theorem_slot.specs.Plain.{nothing, effectOf, heldAfter, isUnheldRelease, anew, observed, seen}
+use Rattle.theorem_slot.specs.Plain.{nothing, effectOf, heldAfter, groupsAfter, isUnheldRelease, anew, observed, seen}
 use Rattle.theorem_slot.specs.Theorem.{State}
-use Rattle.theorem_slot.proofs.Good.{Good, live-here}
+use Rattle.theorem_slot.proofs.Good.{Good, Upheld, live-here}
 use Rattle.theorem_slot.proofs.Step.{checked, good-checked, mild-hub, calledHere}
-use Rattle.theorem_slot.proofs.Made.{made-same}
+use Rattle.theorem_slot.proofs.Moved.{marked-quarantined}
+use Rattle.theorem_slot.proofs.Made.{agree-made, made-same}
 use Rattle.theorem_slot.proofs.Words.{taken-words}
 
 module _ (slot : ℕ) (before : List ℕ) (s : State) (buffers : Buffers) (ports : ℕ) (multi : Bool) (ns : ℕ) (g : Good slot before s) where
@@ -41,12 +42,18 @@ module _ (slot : ℕ) (before : List ℕ) (s : State) (buffers : Buffers) (ports
         plain = seen nothing buffers a (commandWord command.Evaluate ∷ []) (s .plain .enabled) (s .plain);
       }
 
+  upheld : (a : Answer) → Upheld s (answered a)
+  unfolding answered seen
+  upheld a = record { phase = refl; control = refl; on = refl }
+
   good-answered : s .device .usable ≡ true → sound (s .device) ≡ true → (a : Answer) → Good slot before (answered a)
-  unfolding answered seen heldAfter isUnheldRelease
+  unfolding answered seen heldAfter groupsAfter isUnheldRelease
   good-answered u t a =
-      let l = live-here slot before s g t in
-      made-same slot before s (answered a) g l (heldOf (s .device)) (endpointMapIn (s .device)) (isLost a) (marked-made (s .device) u t a) refl
-      refl (l .held) (l .fits) refl refl
+      let l = live-here slot before s g u in
+      made-same slot before s (answered a) g l (heldOf (s .device)) (endpointMapIn (s .device)) (isLost a) (marked-made (s .device) u t a) (upheld a)
+      refl (l .held) (l .fits)
+      (agree-made (s .device) (marked a (s .device)) _ _ _ (s .plain .groups) (marked-made (s .device) u t a) refl (marked-quarantined a (s .device)) (l .groups))
+      refl refl
       (λ b f. g .enabled (or-left-false (s .plain .broken) _ b) (or-left-false (s .plain .unheldRelease) _ f))
 
   run : List ℕ → Left
@@ -68,7 +75,7 @@ module _ (slot : ℕ) (before : List ℕ) (s : State) (buffers : Buffers) (ports
   pub hub-good : Good slot before (calledHere s (record { asked = updatesHub ports multi ns; buffers = buffers }))
   unfolding calledHere contextCut cutAt left effectOf hubUpdate checked run refuse ctx
   hub-good =
-      good-checked slot before s nothing buffers run (buffers .ctx) (buffers .log) _ (mild-hub (s .device) _ _ _ ns) g
+      good-checked (Good slot before) s nothing buffers run (buffers .ctx) (buffers .log) _ (mild-hub (s .device) _ _ _ ns) g
       (λ e.
       let p = passed (s .device) _ _ _ _ e .0 in
       rw (evaluated (omega (arith, one-word, p .room)))

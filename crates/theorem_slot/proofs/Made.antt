@@ -3,7 +3,6 @@ use Prim.Native.Nat.{ℕ, zero, suc, _≤_, _<_}
 use mathlib.Core.Path.{_≡_, sym, _∙_, ap}
 use mathlib.Core.Bool.{Bool, false, not}
 use mathlib.Core.List.{List, [], _∷_}
-use mathlib.Core.Logic.{inr}
 use native.Mathlib.Omega.{arith}
 use lib.Dec.{eqb}
 use lib.ListN.{getD}
@@ -17,40 +16,53 @@ use Rattle.record_settings.specs.Held.{Held}
 use Rattle.theorem_routing.specs.Routing.{RoutedBy, NamedBy}
 use Rattle.theorem_routing.proofs.Laws.{low-kept, outside-kept, length-kept}
 use Rattle.device.specs.declared.record.Device.{Device}
-use Rattle.device.specs.Device.{endpointMapIn}
+use Rattle.device.specs.Device.{endpointMapIn, quarantinedOf, givenOf}
 use Rattle.device.proofs.Made.{Made}
+use Rattle.theorem_slot.specs.Groups.{Groups}
 use Rattle.theorem_slot.specs.Plain.{HeldSetting, Plain, isHeldDci}
 use Rattle.theorem_slot.specs.Theorem.{State}
 use Rattle.theorem_slot.proofs.Settings.{AllFit, fit-other, pairs}
-use Rattle.theorem_slot.proofs.Good.{Live, Unrouted, Good, Tells, live-tells, good-moved, good-same}
+use Rattle.theorem_slot.proofs.Record.{usedBy, inDoubt, AgreeWith, used-same, doubt-same}
+use Rattle.theorem_slot.proofs.Agree.{agree-same}
+use Rattle.theorem_slot.proofs.Good.{Live, Unrouted, Good, Upheld, Tells, live-tells, good-moved, good-same}
 
 -- Which endpoints are active does not matter.
 pub fit-active : (who : Owner) (n : ℕ) (c : EndpointMap) (ss : List HeldSetting) → AllFit c ss → AllFit (withActive who n c) ss
 unfolding withActive isOwned
 fit-active who n c ss f =
     fit-other c (withActive who n c) ss
-    (λ s x. record { named = x .named; ring = x .ring; low = x .low; byte = x .byte })
+    (λ s x. record { named = x .named; ring = x .ring; inside = x .inside; byte = x .byte })
     f
+
+-- The groups of a record that keeps its rings.
+pub agree-made :
+    (d e : Device) (hs : List Held) (c : EndpointMap) (lost : Bool) (g : Groups) → Made d e hs c lost →
+    c .rings ≡ (endpointMapIn d) .rings → quarantinedOf e ≡ quarantinedOf d → AgreeWith d g → AgreeWith e g
+agree-made d e hs c lost g m r q a =
+    rw (m .same .given)
+    (agree-same (givenOf d) (usedBy d) (inDoubt d) (usedBy e) (inDoubt e) g a
+    (used-same d e (ap (λ (k : EndpointMap). k .rings) (m .endpoints) ∙ r) (m .same .control)) (doubt-same d e q))
 
 -- A record, lost or not, and a plain slot with its settings and endpoints.
 pub made-live :
     (slot : ℕ) (d e : Device) (p q : Plain) (hs : List Held) (c : EndpointMap) (lost : Bool) → Made d e hs c lost → Live slot d p →
-    q .list ≡ p .list → pairs (q .held) ≡ hs → AllFit c (q .held) → Live slot e q
-made-live slot d e p q hs c lost m l same held fits =
+    q .list ≡ p .list → pairs (q .held) ≡ hs → AllFit c (q .held) → AgreeWith e (q .groups) → Live slot e q
+made-live slot d e p q hs c lost m l same held fits groups =
     record {
       is-sound = m .is-sound;
       place = ap (λ x. x .0) (m .same .slot) ∙ l .place;
       list = m .same .list ∙ l .list ∙ sym same;
       held = held ∙ sym (m .held);
       fits = rw (m .endpoints) fits;
+      groups = groups;
     }
 
 module _ (slot : ℕ) (before : List ℕ) (s now : State) (g : Good slot before s) (l : Live slot (s .device) (s .plain))
     (hs : List Held) (c : EndpointMap) (lost : Bool) (m : Made (s .device) (now .device) hs c lost)
-    (control : now .plain .control ≡ s .plain .control) (list : now .plain .list ≡ s .plain .list)
-    (held : pairs (now .plain .held) ≡ hs) (fits : AllFit c (now .plain .held)) where
+    (upheld : Upheld s now) (list : now .plain .list ≡ s .plain .list)
+    (held : pairs (now .plain .held) ≡ hs) (fits : AllFit c (now .plain .held)) (groups : AgreeWith (now .device) (now .plain .groups)) where
   live-now : Live slot (now .device) (now .plain)
-  live-now = made-live slot (s .device) (now .device) (s .plain) (now .plain) hs c lost m l list held fits
+  live-now = made-live slot (s .device) (now .device) (s .plain) (now .plain) hs c lost m l list held fits groups
 
   now-tells : Tells (now .plain) c
   now-tells = rw (← m .endpoints) (live-tells slot (now .device) (now .plain) live-now)
@@ -64,13 +76,13 @@ module _ (slot : ℕ) (before : List ℕ) (s now : State) (g : Good slot before 
       now .plain .enabled (dciAt q) ≡ not (eqb (getD (c .rings) q 0) 0)) →
       Good slot before now
   made-moved x y r n routed e =
-      good-moved slot before s now g
+      good-moved slot before s now g upheld
       (record {
         long = rw r (length-kept (s .routes) slot x y);
         words = λ k o. rw r (outside-kept (s .routes) slot x y k o);
       })
       (endpointMapIn (s .device)) c (live-tells slot (s .device) (s .plain) l) now-tells (rw r n) (λ z. rw r (routed z))
-      (λ d h. rw r (low-kept (s .routes) slot x y d h)) control e (inr live-now)
+      (λ d h. rw r (low-kept (s .routes) slot x y d h)) e live-now
 
   -- It left them.
   pub made-same :
@@ -78,7 +90,7 @@ module _ (slot : ℕ) (before : List ℕ) (s now : State) (g : Good slot before 
       (now .plain .broken ≡ false → now .plain .unheldRelease ≡ false → (d : ℕ) → 2 ≤ d → d < 32 →
       now .plain .enabled d ≡ isHeldDci (s .plain) d) →
       Good slot before now
-  made-same r h e = good-same slot before s now g r control h e (inr live-now)
+  made-same r h e = good-same slot before s now g upheld r h e live-now
 
 -- The Dcis of the queues of rings by place are bytes.
 small-dcis : (qs : List Queue) (k : ℕ) → Small qs → getD (queueDcis qs) k 0 < 256

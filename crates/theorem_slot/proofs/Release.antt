@@ -15,25 +15,25 @@ use Rattle.answer.specs.declared.Answer.the-variants as answer
 use Rattle.answer.specs.declared.Check.the-variants.{Pass}
 use Rattle.answer.specs.Answer.{number, isAccepted, isLost}
 use Rattle.command.specs.Course.{Course, ends, sends, words, result, played}
-use Rattle.command.proofs.Operations.{ByteOperands, EachCommand}
-use Rattle.context_block.specs.Promises.{someDci}
+use Rattle.command.proofs.Operations.{ByteOperands, operation, EachCommand}
+use Rattle.context_block.specs.Blocks.{someDci}
 use Rattle.context.specs.Place.{Spaced}
 use Rattle.transfer.specs.declared.Replaced.the-variants as replace
 use Rattle.transfer.specs.Routes.{replaced, withReplaced}
 use Rattle.record_endpoint.specs.Order.{PLACES, dciAt}
 use Rattle.record_endpoint.specs.EndpointMap.{isOwned, ownedRings, queuesOf, claimedEndpoints, withActive}
 use Rattle.record_endpoint.specs.declared.endpoint_map.Owner.the-variants.{Interface}
-use Rattle.record_endpoint.proofs.Laws.{queues-fit, dci-low, dci-high}
+use Rattle.record_endpoint.proofs.Laws.{active-rings, queues-fit, dci-low, dci-high}
 use Rattle.record_settings.specs.Held.{isHeld, alternateOf, settingWords, withoutSetting}
 use Rattle.record_settings.proofs.Laws.{match-facts, match-unheld}
 use Rattle.theorem_routing.specs.Routing.{InTable, RoutedBy, NamedBy}
 use Rattle.theorem_routing.proofs.Laws.{no-queues, claim-named, release-done, release-routed}
 use Rattle.course_steps.specs.End.{End}
-use Rattle.theorem_controller.specs.Controller.{enabledAfter}
+use Rattle.theorem_controller.specs.Controller.{DISABLE, enabledAfter}
 use Rattle.theorem_controller.proofs.Followed.{followed}
 use Rattle.course_release.specs.Release.{releaseCourse}
 use Rattle.course_release.proofs.Laws.{release-words, release-cuts, Gone, Stayed, Says, release-says, OneAnswer, release-answers}
-use Rattle.course_release.proofs.Controlled.{release-operands, release-accepted-enabled, release-failed-enabled}
+use Rattle.course_release.proofs.Controlled.{release-sends, release-operands, release-accepted-enabled, release-failed-enabled}
 use Rattle.device.specs.declared.record.Device.{Device}
 use Rattle.device.specs.Device.{listOf, endpointMapIn, heldOf}
 use Rattle.device.specs.Left.{Left, refused, ended}
@@ -42,12 +42,16 @@ use Rattle.device.specs.Release.{releaseCheck, releaseIn, releaseRecord, releas
 use Rattle.device.proofs.Laws.{Passed, passed}
 use Rattle.device.proofs.Kept.{release-moves, release-stays}
 use Rattle.theorem_slot.specs.Call.{Buffers, releases, left, cutAt, contextCut}
-use Rattle.theorem_slot.specs.Plain.{Plain, isHeldDci, without, hasSetting, Effect, endsOne, effectOf, heldAfter, isUnheldRelease, anew, seen}
+use Rattle.theorem_slot.specs.Groups.{returnedGroups}
+use Rattle.theorem_slot.specs.Plain.{Plain, isHeldDci, without, hasSetting, Effect, endsOne, effectOf, heldAfter, groupsAfter, queuesOfOne, isUnheldRelease, anew, seen}
 use Rattle.theorem_slot.specs.Theorem.{State}
 use Rattle.theorem_slot.proofs.Settings.{AllFit, pairs, pairs-setting, pairs-without, fit-without}
-use Rattle.theorem_slot.proofs.Good.{Live, Unrouted, Good, live-tells, routed-from, named-from, enabled-was, live-here}
-use Rattle.theorem_slot.proofs.Step.{lost-not, checked, good-checked, mild-release, ran, checked-ran, calledHere}
-use Rattle.theorem_slot.proofs.Made.{fit-active, made-moved, made-same, byte-dcis}
+use Rattle.theorem_slot.proofs.Good.{Live, Unrouted, Good, live-tells, routed-from, named-from, Upheld, enabled-was, live-here, live-one}
+use Rattle.theorem_slot.proofs.Step.{lost-not, checked, good-checked, mild-release, ran, ran-upheld, checked-ran, calledHere}
+use Rattle.theorem_slot.proofs.Kept.{kept-has}
+use Rattle.theorem_slot.proofs.Record.{AgreeWith}
+use Rattle.theorem_slot.proofs.Moved.{release-keeps, agree-released}
+use Rattle.theorem_slot.proofs.Made.{fit-active, agree-made, made-moved, made-same, byte-dcis}
 use Rattle.theorem_slot.proofs.Claimed.{some-place, fits-other, claimed-some}
 
 -- A course that sent nothing leaves the endpoints as they are.
@@ -80,6 +84,13 @@ module _ (slot : ℕ) (before : List ℕ) (s : State) (buffers : Buffers) (i : �
 
   now : State
   now = ran s effect buffers (releaseRecord d i) course
+
+  upheld : Upheld s now
+  unfolding now course operation
+  upheld =
+      ran-upheld s effect buffers _ course
+      (release-sends (λ c. eqb (operation c) DISABLE ≡ false) (releaseIn d i)
+      (record { configure = refl; stop = λ k. refl; resume = λ k. refl }) (buffers .ctx) (s .routes))
 
   run : List ℕ → Left
   run o = ended (releaseRecord d i) (played o 0 course (buffers .log))
@@ -199,6 +210,23 @@ module _ (slot : ℕ) (before : List ℕ) (s : State) (buffers : Buffers) (i : �
         (λ q h z. not-both (eqb (getD none q 0) 0) (zero-pending q h) z))
         (l .fits)
 
+    ended-groups : end .moved ≡ true → isAccepted (end .answer) ≡ true → AgreeWith (now .device) (now .plain .groups)
+    unfolding now ran seen groupsAfter end course
+    ended-groups moved e =
+        let same : now .plain .groups ≡ returnedGroups (queuesOfOne i (p .held)) (p .groups) = rw e refl in
+        rw same
+        (agree-released d (pass .is-sound) (p .groups) (l .groups) (pass .usable) i (releaseRecord d i end) _ _ (release-moves d _ _ _ i k end moved)
+        (release-keeps d i end) (queuesOfOne i (p .held))
+        (kept-has (queuesOfOne i (p .held)) old (live-one slot d p l i)))
+
+    stayed-groups : end .moved ≡ false → isAccepted (end .answer) ≡ false → AgreeWith (now .device) (now .plain .groups)
+    unfolding now ran seen groupsAfter end course
+    stayed-groups moved n =
+        let same : now .plain .groups ≡ p .groups = rw n refl in
+        rw same
+        (agree-made d (releaseRecord d i end) _ _ _ (p .groups) (release-stays d _ _ _ i k end moved)
+        (active-rings (Interface i) (endpointMapIn d) (end .active)) (release-keeps d i end) (l .groups))
+
     -- Accepted: the interface's setting is ended.
     gone-good : Gone (releaseIn d i) (s .routes) end → Good slot before now
     unfolding now ran seen heldAfter end course releaseIn number
@@ -208,8 +236,8 @@ module _ (slot : ℕ) (before : List ℕ) (s : State) (buffers : Buffers) (i : �
         let held : now .plain .held ≡ without i (p .held) = rw e refl in
         let same : pairs (now .plain .held) ≡ withoutSetting i (heldOf d) =
         ap pairs held ∙ pairs-without i (p .held) ∙ ap (withoutSetting i) (l .held) in
-        made-moved slot before s now g l (withoutSetting i (heldOf d)) (claimedEndpoints i none (endpointMapIn d)) (isLost (end .answer)) m refl refl
-        same (rw held settings-fit) old none
+        made-moved slot before s now g l (withoutSetting i (heldOf d)) (claimedEndpoints i none (endpointMapIn d)) (isLost (end .answer)) m upheld refl
+        same (rw held settings-fit) (ended-groups (v .moved) (rw e refl)) old none
         (v .left ∙ ap (λ x. withReplaced (s .routes) x (queuesOf old) []) (l .place)
         ∙ ap (withReplaced (s .routes) slot (queuesOf old)) (sym no-queues))
         named routed (accepted-enabled e)
@@ -225,8 +253,8 @@ module _ (slot : ℕ) (before : List ℕ) (s : State) (buffers : Buffers) (i : �
         let m = release-stays d _ _ _ i k end (v .kept) in
         let n : isAccepted (end .answer) ≡ false = ne-eqb (number (end .answer)) 0 (λ z. omega (arith, v .refused, z)) in
         let held : now .plain .held ≡ p .held = rw n refl in
-        made-same slot before s now g l (heldOf d) (withActive (Interface i) (end .active) (endpointMapIn d)) (isLost (end .answer)) m refl refl
-        (ap pairs held ∙ l .held) (rw held (fit-active (Interface i) (end .active) (endpointMapIn d) (p .held) (l .fits))) (v .left)
+        made-same slot before s now g l (heldOf d) (withActive (Interface i) (end .active) (endpointMapIn d)) (isLost (end .answer)) m upheld refl
+        (ap pairs held ∙ l .held) (rw held (fit-active (Interface i) (end .active) (endpointMapIn d) (p .held) (l .fits))) (stayed-groups (v .kept) n) (v .left)
         held e
 
     failed-enabled :
@@ -270,12 +298,12 @@ module _ (slot : ℕ) (before : List ℕ) (s : State) (buffers : Buffers) (i : �
     run-good : Good slot before (checked s effect buffers Pass run refuse)
     unfolding run now anew course
     run-good =
-        rw (checked-ran s effect buffers (releaseRecord d i) course refuse (λ b q. refl) few
-        (release-cuts (releaseIn d i) (buffers .ctx) (s .routes)) bytes)
+        rw (checked-ran s effect buffers (releaseRecord d i) course refuse few
+        (release-cuts (releaseIn d i) (buffers .ctx) (s .routes)) bytes (λ b o ws q. refl))
         good-end
 
   pub release-good : Good slot before (calledHere s (record { asked = releases i; buffers = buffers }))
   unfolding calledHere contextCut cutAt left effectOf release checked run refuse course
   release-good =
-      good-checked slot before s effect buffers run (buffers .ctx) (buffers .log) _ (mild-release d _ _ _ i) g
-      (λ k. run-good k (live-here slot before s g (passed d _ _ _ _ k .0 .is-sound)))
+      good-checked (Good slot before) s effect buffers run (buffers .ctx) (buffers .log) _ (mild-release d _ _ _ i) g
+      (λ k. run-good k (live-here slot before s g (passed d _ _ _ _ k .0 .usable)))

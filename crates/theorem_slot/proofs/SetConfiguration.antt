@@ -15,9 +15,9 @@ use Rattle.answer.specs.declared.Answer.the-variants as answer
 use Rattle.answer.specs.declared.Check.the-variants.{Pass}
 use Rattle.answer.specs.Answer.{number, isLost}
 use Rattle.command.specs.Course.{Course, words, result, played}
-use Rattle.command.proofs.Operations.{ByteOperands, EachCommand}
+use Rattle.command.proofs.Operations.{ByteOperands, operation, EachCommand}
 use Rattle.descriptor.specs.Word.{endpointDescriptor}
-use Rattle.context_block.specs.Promises.{someDci}
+use Rattle.context_block.specs.Blocks.{someDci}
 use Rattle.context.specs.Place.{Spaced}
 use Rattle.transfer.specs.declared.Replaced.the-variants as replace
 use Rattle.transfer.specs.Routes.{replaced, withReplaced}
@@ -25,17 +25,17 @@ use Rattle.record_endpoint.specs.Order.{PLACES, placeOf, dciAt}
 use Rattle.record_endpoint.specs.EndpointMap.{isOwned, owns, queuesOf, noEndpoints, withActive}
 use Rattle.record_endpoint.specs.declared.endpoint_map.EndpointMap.{EndpointMap}
 use Rattle.record_endpoint.specs.declared.endpoint_map.Owner.the-variants.{Any, Interface}
-use Rattle.record_endpoint.proofs.Laws.{queues-fit, dci-low, dci-high}
+use Rattle.record_endpoint.proofs.Laws.{active-rings, queues-fit, dci-low, dci-high}
 use Rattle.record_settings.specs.Held.{Held, isHeld, alternateOf, settingWords, heldWords, eachSetting}
 use Rattle.record_settings.specs.Match.{hasPlace, agree, ownsPlaces, allOwn, endpointsMatch}
 use Rattle.record_settings.proofs.Laws.{each-at, match-facts}
 use Rattle.theorem_routing.specs.Routing.{RoutedBy, NamedBy}
 use Rattle.theorem_routing.proofs.Laws.{each-dci, no-queues, bare-done, bare-routed}
 use Rattle.course_steps.specs.End.{End}
-use Rattle.theorem_controller.specs.Controller.{SET-CONFIGURATION, enabledAfter, doneWord}
+use Rattle.theorem_controller.specs.Controller.{SET-CONFIGURATION, DISABLE, enabledAfter, doneWord}
 use Rattle.theorem_controller.proofs.Followed.{followed}
 use Rattle.course_set_configuration.specs.SetConfiguration.{setCourse}
-use Rattle.course_set_configuration.proofs.Laws.{set-words, set-cuts, OneAnswer, Answered, set-answers, set-moved, set-operands, set-out}
+use Rattle.course_set_configuration.proofs.Laws.{set-words, set-cuts, OneAnswer, Answered, set-answers, set-moved, set-sends, set-operands, set-out}
 use Rattle.course_set_configuration.proofs.Controlled.{set-accepted-enabled, set-failed-enabled}
 use Rattle.device.specs.declared.record.Device.{Device}
 use Rattle.device.specs.Device.{listOf, endpointMapIn, heldOf}
@@ -45,12 +45,16 @@ use Rattle.device.specs.SetConfiguration.{settingsIn, setRecord, setConfigurati
 use Rattle.device.proofs.Laws.{Passed, passed}
 use Rattle.device.proofs.Kept.{set-moves, set-stays}
 use Rattle.theorem_slot.specs.Call.{Buffers, configures, left, cutAt, contextCut}
-use Rattle.theorem_slot.specs.Plain.{Plain, isHeldDci, Effect, endsAll, effectOf, heldAfter, anew, seen}
+use Rattle.theorem_slot.specs.Groups.{returnedGroups}
+use Rattle.theorem_slot.specs.Plain.{Plain, heldQueues, isHeldDci, Effect, endsAll, effectOf, heldAfter, groupsAfter, anew, seen}
 use Rattle.theorem_slot.specs.Theorem.{State}
 use Rattle.theorem_slot.proofs.Settings.{AllFit, pairs}
-use Rattle.theorem_slot.proofs.Good.{Live, Unrouted, Good, live-tells, routed-from, named-from, enabled-was, live-here}
-use Rattle.theorem_slot.proofs.Step.{lost-not, checked, good-checked, mild-set, ran, checked-ran, calledHere}
-use Rattle.theorem_slot.proofs.Made.{fit-active, made-moved, made-same, byte-dcis}
+use Rattle.theorem_slot.proofs.Good.{Live, Unrouted, Good, live-tells, routed-from, named-from, Upheld, enabled-was, live-here, live-by-place}
+use Rattle.theorem_slot.proofs.Step.{lost-not, checked, good-checked, mild-set, ran, ran-upheld, checked-ran, calledHere}
+use Rattle.theorem_slot.proofs.Kept.{kept-has}
+use Rattle.theorem_slot.proofs.Record.{AgreeWith}
+use Rattle.theorem_slot.proofs.Moved.{set-keeps, agree-bare}
+use Rattle.theorem_slot.proofs.Made.{fit-active, agree-made, made-moved, made-same, byte-dcis}
 use Rattle.theorem_slot.proofs.Claimed.{some-place, owned-ring}
 
 -- Places of the words of several settings.
@@ -137,6 +141,13 @@ module _ (slot : ℕ) (before : List ℕ) (s : State) (buffers : Buffers) (value
   now : State
   now = ran s effect buffers (setRecord d value) course
 
+  upheld : Upheld s now
+  unfolding now course operation
+  upheld =
+      ran-upheld s effect buffers _ course
+      (set-sends (λ c. eqb (operation c) DISABLE ≡ false) (settingsIn d value)
+      (record { configure = refl; switch = refl; evaluate = refl; stop = λ k. refl; resume = λ k. refl }) (buffers .ctx) (s .routes))
+
   run : List ℕ → Left
   run o = ended (setRecord d value) (played o 0 course (buffers .log))
 
@@ -210,6 +221,22 @@ module _ (slot : ℕ) (before : List ℕ) (s : State) (buffers : Buffers) (value
         go (inl t) = rw t
         go (inr t) = rw (t, ring-word q h t)
 
+    ended-groups : end .moved ≡ true → AgreeWith (now .device) (now .plain .groups)
+    unfolding now ran seen groupsAfter end course
+    ended-groups t =
+        let same : now .plain .groups ≡ returnedGroups (heldQueues (p .held)) (p .groups) = ap (λ x. cond x (returnedGroups (heldQueues (p .held)) (p .groups)) (p .groups)) (log-tells ∙ t) in
+        rw same
+        (agree-bare d (pass .is-sound) (p .groups) (l .groups) (pass .usable) (setRecord d value end) _ _ (set-moves d _ _ _ value k end t)
+        (set-keeps d value end) (heldQueues (p .held)) (kept-has (heldQueues (p .held)) rings (live-by-place slot d p l)))
+
+    stayed-groups : end .moved ≡ false → AgreeWith (now .device) (now .plain .groups)
+    unfolding now ran seen groupsAfter end course
+    stayed-groups t =
+        let same : now .plain .groups ≡ p .groups = ap (λ x. cond x (returnedGroups (heldQueues (p .held)) (p .groups)) (p .groups)) (log-tells ∙ t) in
+        rw same
+        (agree-made d (setRecord d value end) _ _ _ (p .groups) (set-stays d _ _ _ value k end t)
+        (active-rings Any (endpointMapIn d) (end .active)) (set-keeps d value end) (l .groups))
+
     -- All held settings are ended.
     moved-good :
         end .moved ≡ true → OneAnswer (end .answer) → Answered (settingsIn d value) (s .routes) end → Good slot before now
@@ -218,7 +245,7 @@ module _ (slot : ℕ) (before : List ℕ) (s : State) (buffers : Buffers) (value
         let v = set-moved (settingsIn d value) (s .routes) (buffers .outcomes) (buffers .ctx) 0 in
         let m = set-moves d _ _ _ value k end t in
         let held : now .plain .held ≡ [] = ap (λ x. cond x [] (p .held)) (log-tells ∙ t) in
-        made-moved slot before s now g l [] noEndpoints (isLost (end .answer)) m refl refl (ap pairs held) (rw held tt) rings (replicate PLACES 0)
+        made-moved slot before s now g l [] noEndpoints (isLost (end .answer)) m upheld refl (ap pairs held) (rw held tt) (ended-groups t) rings (replicate PLACES 0)
         (v .gone t .2 ∙ ap (λ x. withReplaced (s .routes) x (queuesOf rings) []) (l .place)
         ∙ ap (withReplaced (s .routes) slot (queuesOf rings)) (sym no-queues))
         (none-named _ slot) routed
@@ -255,8 +282,8 @@ module _ (slot : ℕ) (before : List ℕ) (s : State) (buffers : Buffers) (value
         let v = set-moved (settingsIn d value) (s .routes) (buffers .outcomes) (buffers .ctx) 0 in
         let m = set-stays d _ _ _ value k end t in
         let held : now .plain .held ≡ p .held = ap (λ x. cond x [] (p .held)) (log-tells ∙ t) in
-        made-same slot before s now g l (heldOf d) (withActive Any (end .active) (endpointMapIn d)) (isLost (end .answer)) m refl refl
-        (ap pairs held ∙ l .held) (rw held (fit-active Any (end .active) (endpointMapIn d) (p .held) (l .fits))) (v .kept t) held
+        made-same slot before s now g l (heldOf d) (withActive Any (end .active) (endpointMapIn d)) (isLost (end .answer)) m upheld refl
+        (ap pairs held ∙ l .held) (rw held (fit-active Any (end .active) (endpointMapIn d) (p .held) (l .fits))) (stayed-groups t) (v .kept t) held
         (λ b f. enabled a (or-left-false (p .broken) _ b) (or-left-false (p .unheldRelease) _ f) (or-right-false (p .broken) _ b))
       where
         enabled :
@@ -291,12 +318,12 @@ module _ (slot : ℕ) (before : List ℕ) (s : State) (buffers : Buffers) (value
     run-good : Good slot before (checked s effect buffers Pass run refuse)
     unfolding run now anew course
     run-good =
-        rw (checked-ran s effect buffers (setRecord d value) course refuse (λ b q. refl) few
-        (set-cuts (settingsIn d value) (buffers .ctx) (s .routes)) bytes)
+        rw (checked-ran s effect buffers (setRecord d value) course refuse few
+        (set-cuts (settingsIn d value) (buffers .ctx) (s .routes)) bytes (λ b o ws q. refl))
         good-end
 
   pub set-good : Good slot before (calledHere s (record { asked = configures value; buffers = buffers }))
   unfolding calledHere contextCut cutAt left effectOf setConfiguration checked run refuse course
   set-good =
-      good-checked slot before s effect buffers run (buffers .ctx) (buffers .log) _ (mild-set d _ _ _) g
-      (λ k. run-good k (live-here slot before s g (passed d _ _ _ _ k .0 .is-sound)))
+      good-checked (Good slot before) s effect buffers run (buffers .ctx) (buffers .log) _ (mild-set d _ _ _) g
+      (λ k. run-good k (live-here slot before s g (passed d _ _ _ _ k .0 .usable)))

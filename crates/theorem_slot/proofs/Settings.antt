@@ -1,14 +1,15 @@
 -- The plain slot's held settings: their queues, and the endpoints of a record that they fit.
-use Prim.Native.Nat.{ℕ, _<_}
+use Prim.Native.Nat.{ℕ, _≤_, _<_}
 use mathlib.Core.Path.{_≡_, refl, sym, _∙_}
 use native.Mathlib.Omega.{arith}
 use mathlib.Core.Bool.{Bool, true, false, not, cond, _&&_, _||_}
 use mathlib.Core.List.{List, [], _∷_, _++_, append-assoc, append-nil}
-use mathlib.Core.Logic.{inl, inr}
+use mathlib.Core.Logic.{inl, inr, ⊎-elim}
 use borrow.Author.Tests.{eq-eqb, ne-eqb, eqb-true, eqb-false}
 use lib.Dec.{eqb}
 use lib.ListN.{getD}
-use Rattle.laws.proofs.Cases.{Decided, decided, or-none}
+use Rattle.laws.proofs.Tests.{not-both}
+use Rattle.laws.proofs.Cases.{Decided, decided, false-if, or-none, or-cases}
 use Rattle.transfer.specs.Routes.{ringFor, names}
 use Rattle.record_endpoint.specs.Order.{dciAt}
 use Rattle.record_endpoint.specs.EndpointMap.{isOwned, owns}
@@ -23,18 +24,30 @@ pub record Fits (c : EndpointMap) (s : HeldSetting) : Type 0 where
   pub named : (p : ℕ) → p < 30 → names (dciAt p) (s .queues) ≡ isOwned (Interface (s .interface)) c p
   pub ring :
       (p : ℕ) → p < 30 → isOwned (Interface (s .interface)) c p ≡ true → ringFor (dciAt p) (s .queues) 0 ≡ getD (c .rings) p 0
-  pub low : names 0 (s .queues) ≡ false
+  pub inside : (d : ℕ) → names d (s .queues) ≡ true → (2 ≤ d) × (d < 32)
   pub byte : s .alternate < 256
 
 unfoldable pub AllFit : EndpointMap → List HeldSetting → Type 0
 AllFit c [] = Unit {0}
 AllFit c (s ∷ ss) = Fits c s × AllFit c ss
 
--- They name no slot context.
+-- It names no slot context.
+fits-low : (c : EndpointMap) (s : HeldSetting) → Fits c s → names 0 (s .queues) ≡ false
+fits-low c s f = false-if (names 0 (s .queues)) (λ e. omega (arith, f .inside 0 e .0))
+
+-- They name none.
 pub held-low : (c : EndpointMap) (ss : List HeldSetting) → AllFit c ss → names 0 (heldQueues ss) ≡ false
 unfolding AllFit heldQueues names
 held-low c [] f = refl
-held-low c (s ∷ ss) f = names-append 0 (s .queues) (heldQueues ss) ∙ rw (f .0 .low, held-low c ss (f .1))
+held-low c (s ∷ ss) f = names-append 0 (s .queues) (heldQueues ss) ∙ rw (fits-low c s (f .0), held-low c ss (f .1))
+
+-- They name endpoints only.
+pub held-inside : (c : EndpointMap) (ss : List HeldSetting) → AllFit c ss → (d : ℕ) → names d (heldQueues ss) ≡ true → (2 ≤ d) × (d < 32)
+unfolding AllFit heldQueues names
+held-inside c [] f d e = not-both false e refl
+held-inside c (s ∷ ss) f d e =
+    ⊎-elim (λ h. f .0 .inside d h) (λ h. held-inside c ss (f .1) d h)
+    (or-cases (names d (s .queues)) (names d (heldQueues ss)) (sym (names-append d (s .queues) (heldQueues ss)) ∙ e))
 
 pub eqb-turned : (a b : ℕ) → eqb a b ≡ eqb b a
 eqb-turned a b = go (decided (eqb b a))

@@ -6,7 +6,7 @@ use native.Mathlib.Omega.{arith}
 use lib.ListN.{length, take, length-take}
 use lib.Seq.{sets, length-sets, getD-take, ext-getD, take-length}
 use Rattle.command.specs.Course.{Course, words, played}
-use Rattle.command.proofs.Laws.{sets-there}
+use Rattle.laws.proofs.Stores.{sets-there}
 
 -- The first of some words stored from the front of a log that has room for them.
 pub stored-first : (m : ℕ) (ws log : List ℕ) → m ≤ length ws → length ws ≤ length log → take m (sets log 0 ws) ≡ take m ws

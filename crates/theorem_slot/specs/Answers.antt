@@ -13,21 +13,23 @@ use Rattle.device.specs.declared.record.Device.{Device}
 use Rattle.device.specs.Left.{Left, refused}
 use Rattle.device.specs.Sound.{sound}
 use Rattle.command.specs.Course.{contextAt}
+use Rattle.record_endpoint.specs.EndpointMap.{queuesOf, queueDcis}
 use Rattle.course_claim.specs.Claim.{claimCourse}
+use Rattle.course_disconnect.specs.Disconnect.{disconnectCourse}
 use Rattle.course_release.specs.Release.{releaseCourse}
 use Rattle.course_set_configuration.specs.SetConfiguration.{setCourse}
 use Rattle.device.specs.Calls.{hubContext, hubCourse}
-use Rattle.device.specs.Claim.{claimIn}
+use Rattle.device.specs.Claim.{drawn, claimIn}
 use Rattle.device.specs.Release.{releaseIn}
 use Rattle.device.specs.SetConfiguration.{settingsIn}
 use Rattle.context.specs.Place.{spacingOf}
-use Rattle.device.specs.Device.{noDevice}
+use Rattle.device.specs.Device.{endpointMapIn, noDevice}
 use Rattle.device_bring_up.specs.BringUp.{bringUpCourse}
-use Rattle.theorem_slot.specs.Call.{Buffers, Asked, bringsUp, claims, releases, configures, updatesHub, Call, left, cutAt, contextCut}
+use Rattle.theorem_slot.specs.Call.{Buffers, Asked, bringsUp, claims, commits, releases, configures, updatesHub, disconnects, Call, left, cutAt, contextCut}
 
--- Refused before any command: 1 to 12 and 17.
+-- Refused before any command: 1 to 12, 17, 21 and 22.
 unfoldable pub isRefused : Answer → Bool
-isRefused a = (leb 1 (number a) && leb (number a) 12) || eqb (number a) 17
+isRefused a = (leb 1 (number a) && leb (number a) 12) || (eqb (number a) 17 || (eqb (number a) 21 || eqb (number a) 22))
 
 -- A code that is the outcome of a logged command, and not 0.
 pub record CodeOfOutcome (outcomes : List ℕ) (count code : ℕ) : Type 0 where
@@ -72,13 +74,17 @@ CutsAgree =
 unfoldable pub commandContext : Asked → Buffers → Device → List ℕ → ℕ → List ℕ
 commandContext (bringsUp a) b d routes i =
     contextAt (b .outcomes) 0 i (bringUpCourse a (spacingOf (length (b .ctx))) (b .ctx) routes)
-commandContext (claims interface alternate rings) b d routes i =
-    contextAt (b .outcomes) 0 i (claimCourse (claimIn d interface alternate rings) (b .ctx) routes)
+commandContext (claims interface alternate) b d routes i =
+    contextAt (b .outcomes) 0 i (claimCourse (claimIn d interface alternate (drawn d interface alternate)) (b .ctx) routes)
+commandContext (commits p) b d routes i =
+    contextAt (b .outcomes) 0 i (claimCourse (claimIn d (p .interface) (p .alternate) (drawn d (p .interface) (p .alternate))) (b .ctx) routes)
 commandContext (releases interface) b d routes i =
     contextAt (b .outcomes) 0 i (releaseCourse (releaseIn d interface) (b .ctx) routes)
 commandContext (configures value) b d routes i = contextAt (b .outcomes) 0 i (setCourse (settingsIn d value) (b .ctx) routes)
 commandContext (updatesHub ports multi ns) b d routes i =
     contextAt (b .outcomes) 0 i (hubCourse (hubContext d ports multi ns (b .ctx)))
+commandContext disconnects b d routes i =
+    contextAt (b .outcomes) 0 i (disconnectCourse (d .slot .0) (queueDcis (queuesOf ((endpointMapIn d) .rings))) (b .ctx) routes)
 
 -- It is the one that the call cut there leaves: so the plain slot's controller reads each command with its own context.
 abbrev pub ContextsAgree : Type 0
@@ -90,27 +96,59 @@ ContextsAgree =
 -- The record that a refused call returns: the one that came, of a bring-up the empty one.
 unfoldable pub refusedRecord : Asked → Device → Device
 refusedRecord (bringsUp a) d = noDevice
-refusedRecord (claims interface alternate rings) d = d
+refusedRecord (claims interface alternate) d = d
+refusedRecord (commits p) d = d
 refusedRecord (releases interface) d = d
 refusedRecord (configures value) d = d
 refusedRecord (updatesHub ports multi ns) d = d
+refusedRecord disconnects d = d
 
--- Whether the record is usable after an answer: not after 14 and 15, and of a bring-up after 0 only.
+-- Whether the record is usable after an answer that is no refusal: not after 14 and 15, of a bring-up after 0 only, of an unplugging
+-- never.
 unfoldable pub usableAfter : Asked → Answer → Bool
 usableAfter (bringsUp a) x = isAccepted x
-usableAfter (claims interface alternate rings) x = not (isLost x)
+usableAfter (claims interface alternate) x = not (isLost x)
+usableAfter (commits p) x = not (isLost x)
 usableAfter (releases interface) x = not (isLost x)
 usableAfter (configures value) x = not (isLost x)
 usableAfter (updatesHub ports multi ns) x = not (isLost x)
+usableAfter disconnects x = false
+
+-- Whether it is up: of a bring-up after 0 only, of an unplugging after 14 and 15; every other call leaves it as it was.
+unfoldable pub upAfter : Asked → Answer → Bool → Bool
+upAfter (bringsUp a) x was = isAccepted x
+upAfter (claims interface alternate) x was = was
+upAfter (commits p) x was = was
+upAfter (releases interface) x was = was
+upAfter (configures value) x was = was
+upAfter (updatesHub ports multi ns) x was = was
+upAfter disconnects x was = isLost x
+
+unfoldable pub isBringUp : Asked → Bool
+isBringUp (bringsUp a) = true
+isBringUp (claims interface alternate) = false
+isBringUp (commits p) = false
+isBringUp (releases interface) = false
+isBringUp (configures value) = false
+isBringUp (updatesHub ports multi ns) = false
+isBringUp disconnects = false
 
 pub record GivenBack (c : Call) (d : Device) (routes : List ℕ) (l : Left) : Type 0 where
   -- refused: nothing that was lent is changed, and the count is 0
   pub refusal :
       isRefused (l .answer) ≡ true →
       l ≡ refused (refusedRecord (c .asked) d) (l .answer) (c .buffers .ctx) routes (c .buffers .log)
-  -- any other answer: the record is unusable or sound
+  -- any other answer: its marks, and that it is sound, of a bring-up where it is usable
   pub usable : isRefused (l .answer) ≡ false → l .device .usable ≡ usableAfter (c .asked) (l .answer)
-  pub is-sound : isRefused (l .answer) ≡ false → (l .device .usable ≡ false) ⊎ (sound (l .device) ≡ true)
+  pub up : isRefused (l .answer) ≡ false → l .device .up ≡ upAfter (c .asked) (l .answer) (d .up)
+  pub is-sound :
+      isRefused (l .answer) ≡ false → (isBringUp (c .asked) && not (l .device .usable)) ≡ false → sound (l .device) ≡ true
 
 abbrev pub SoundReturned : Type 0
 SoundReturned = (c : Call) (d : Device) (routes : List ℕ) → GivenBack c d routes (left (c .asked) (c .buffers) d routes)
+
+-- So every call on a sound record returns a sound one, usable or not, bring-ups apart.
+abbrev pub SoundStays : Type 0
+SoundStays =
+    (c : Call) (d : Device) (routes : List ℕ) → isBringUp (c .asked) ≡ false → sound d ≡ true →
+    sound ((left (c .asked) (c .buffers) d routes) .device) ≡ true

@@ -1,4 +1,7 @@
 pub mod Answers
 pub mod Call
+pub mod Groups
 pub mod Plain
+pub mod Rings
 pub mod Theorem
+pub mod Unplugging

@@ -1,5 +1,5 @@
 -- What the calls on the routes answer, and each word that they leave. Callers use these laws and not the definitions' text.
-use Prim.Native.Nat.{ℕ, suc, _<_}
+use Prim.Native.Nat.{ℕ, suc, _+_, _*_, _≤_, _<_}
 use mathlib.Core.Path.{_≡_, refl, sym, _∙_}
 use mathlib.Core.Bool.{Bool, true, false, cond, _||_}
 use mathlib.Core.List.{List, [], _∷_}
@@ -7,13 +7,14 @@ use mathlib.Core.Logic.{inl, inr}
 use native.Mathlib.Omega.{arith}
 use borrow.Author.Tests.{eq-eqb, eqb-true, eqb-false}
 use lib.Dec.{eqb}
-use lib.ListN.{length, getD, drop, length-set}
-use lib.Seq.{getD-set-same, getD-set-other}
+use lib.ListN.{length, getD, drop, length-set, replicate, getD-replicate}
+use lib.Seq.{length-sets, getD-set-same, getD-set-other}
+use Rattle.laws.proofs.Stores.{sets-past, sets-before, sets-there}
 use Rattle.laws.proofs.Tests.{not-both}
 use Rattle.transfer.specs.declared.Registered.the-variants as register
 use Rattle.transfer.specs.declared.Replaced.{Replaced}
 use Rattle.transfer.specs.declared.Replaced.the-variants as replace
-use Rattle.transfer.specs.Routes.{routeIndex, routeOf, withRoute, Queue, queues, names, registered, withRegistered, oldMatch, newFree, cleared, published, replaced, moved, withReplaced, ringFor, Small, OutsideSlot}
+use Rattle.transfer.specs.Routes.{routeIndex, routeOf, withRoute, withoutSlot, Queue, queues, names, registered, withRegistered, oldMatch, newFree, cleared, published, replaced, moved, withReplaced, ringFor, Small, OutsideSlot}
 
 -- A slot's endpoint is told by its word.
 pub index-same : (slot d e : ℕ) → routeIndex slot d ≡ routeIndex slot e → d ≡ e
@@ -267,3 +268,18 @@ module _ (routes : List ℕ) (slot dci : ℕ) where
     -- Whatever the answer, a word outside the slot stays.
     pub registered-outside : (k : ℕ) → dci < 32 → OutsideSlot slot k → getD (withRegistered routes slot dci ring) k 0 ≡ getD routes k 0
     registered-outside k l h = registered-other k (index-inside slot dci k l h)
+
+-- Without a slot's routes the table has its length, every other word, and 0 for each of the slot's.
+module _ (routes : List ℕ) (slot : ℕ) where
+  pub without-length : length (withoutSlot routes slot) ≡ length routes
+  unfolding withoutSlot
+  without-length = length-sets routes (32 * slot) (replicate 32 0)
+
+  pub without-others : (k : ℕ) → OutsideSlot slot k → getD (withoutSlot routes slot) k 0 ≡ getD routes k 0
+  unfolding withoutSlot
+  without-others k (inl h) = sets-before (replicate 32 0) routes (32 * slot) k h
+  without-others k (inr h) = sets-past (replicate 32 0) routes (32 * slot) k h
+
+  pub without-own : 32 * slot + 32 ≤ length routes → (d : ℕ) → d < 32 → routeOf (withoutSlot routes slot) slot d ≡ 0
+  unfolding withoutSlot routeOf routeIndex
+  without-own room d h = sets-there (replicate 32 0) routes (32 * slot) d h room ∙ getD-replicate 32 d 0 0 h

@@ -1,17 +1,19 @@
 -- One turn of each loop: what a definition says of the queues from the i-th on.
-use Prim.Native.Nat.{ℕ, zero, suc, _+_, _≤_, _<_}
+use Prim.Native.Nat.{ℕ, zero, suc, _+_, _-_, _*_, _≤_, _<_}
 use mathlib.Core.Path.{_≡_, refl, sym, ap, _∙_}
 use mathlib.Core.Bool.{not, true, false, _&&_, _||_, or-true}
 use mathlib.Core.Logic.{_⊎_, inl, inr}
 use mathlib.Core.List.{List, [], _∷_}
 use native.Mathlib.Omega.{arith}
+use native.Mathlib.Nat.{add-zero}
 use native.Mathlib.Numerals.{add-one}
 use borrow.Author.Tests.{not-true, not-false}
 use lib.Dec.{eqb}
-use lib.ListN.{length, getD, drop, drop-of-length-le}
+use lib.ListN.{length, getD, set, drop, replicate, drop-of-length-le}
+use lib.Seq.{sets, set-out}
 use Rattle.transfer.proofs.Laws.{invalid-replaced, full-replaced, done-replaced, invalid-kept, full-kept, done-moved}
 use Rattle.transfer.specs.declared.Replaced.the-variants as replace
-use Rattle.transfer.specs.Routes.{Queue, queues, names, routeOf, withRoute, oldMatch, isFree, newFree, cleared, published, replaced, withReplaced}
+use Rattle.transfer.specs.Routes.{Queue, queues, names, routeIndex, routeOf, withRoute, oldMatch, isFree, newFree, cleared, published, replaced, withReplaced, withoutSlot}
 
 length-queues : (ds rs : List ℕ) → length (queues ds rs) ≡ length ds
 unfolding queues
@@ -121,3 +123,29 @@ module _ (routes : List ℕ) (slot : ℕ) (ds rs : List ℕ) (new : List Queue) 
       let f : newFree routes slot (queues ds rs) new ≡ true = rw (free-rings routes slot ds rs new) (not-false (newFree routes slot (queues ds []) new) n) in
       let e : replaced routes slot (queues ds rs) new ≡ replace.Done = done-replaced routes slot (queues ds rs) new (not-false (oldMatch routes slot (queues ds rs)) o) f in
       (sym e, rw (done-moved routes slot (queues ds rs) new e, clear-rings routes slot ds rs) m)
+
+-- The slot's words as 0, from a Dci on.
+unfoldable pub clearedFrom : List ℕ → ℕ → ℕ → List ℕ
+clearedFrom routes slot dci = sets routes (32 * slot + dci) (replicate (32 - dci) 0)
+
+module _ (routes : List ℕ) (slot : ℕ) where
+  pub clear-start : withoutSlot routes slot ≡ clearedFrom routes slot 0
+  unfolding withoutSlot clearedFrom
+  clear-start = rw (add-zero (32 * slot))
+
+  module _ (dci : ℕ) where
+    pub clear-end : 32 ≤ dci → clearedFrom routes slot dci ≡ routes
+    unfolding clearedFrom
+    clear-end h = let e : 32 - dci ≡ 0 = omega arith in rw e
+
+    -- a word that is there, and one that is not
+    module _ (word : ℕ) (h : dci < 32) (w : word ≡ routeIndex slot dci) where
+      pub clear-next : clearedFrom routes slot dci ≡ clearedFrom (set routes word 0) slot (dci + 1)
+      unfolding clearedFrom routeIndex
+      clear-next =
+          let e : 32 - dci ≡ suc (32 - (dci + 1)) = omega arith in
+          let n : 32 * slot + (dci + 1) ≡ suc (32 * slot + dci) = omega arith in
+          rw (e, n, w)
+
+      pub clear-out : length routes ≤ word → clearedFrom routes slot dci ≡ clearedFrom routes slot (dci + 1)
+      clear-out l = clear-next ∙ rw (set-out routes word 0 l)

@@ -4,7 +4,8 @@ use mathlib.Core.Bool.{Bool, true, false, cond, _&&_, _||_}
 use mathlib.Core.List.{List, [], _∷_}
 use mathlib.Core.Logic.{_⊎_}
 use lib.Dec.{eqb}
-use lib.ListN.{getD, set, drop}
+use lib.ListN.{getD, set, drop, replicate}
+use lib.Seq.{sets}
 use Rattle.transfer.specs.declared.Registered.{Registered}
 use Rattle.transfer.specs.declared.Registered.the-variants as register
 use Rattle.transfer.specs.declared.Replaced.{Replaced}
@@ -19,6 +20,10 @@ routeOf routes slot dci = getD routes (routeIndex slot dci) 0
 
 unfoldable pub withRoute : List ℕ → ℕ → ℕ → ℕ → List ℕ
 withRoute routes slot dci ring = set routes (routeIndex slot dci) ring
+
+-- The table without any route of a slot.
+unfoldable pub withoutSlot : List ℕ → ℕ → List ℕ
+withoutSlot routes slot = sets routes (32 * slot) (replicate 32 0)
 
 -- An endpoint and its ring.
 pub record Queue : Type 0 where

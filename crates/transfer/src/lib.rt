@@ -4,7 +4,7 @@ use def::SlotId;
 ghost use mathlib.Core.Path.{_≡_};
 ghost use mathlib.Core.List.{[]};
 ghost use lib.ListN.{getD};
-ghost use Rattle.transfer.specs.Routes.{routeIndex, queues, names, registered, withRegistered, oldMatch, newFree, published, replaced, withReplaced};
+ghost use Rattle.transfer.specs.Routes.{routeIndex, queues, names, registered, withRegistered, oldMatch, newFree, published, replaced, withReplaced, withoutSlot};
 
 pub enum Registered {
     Done,
@@ -108,6 +108,20 @@ fn put_routes(routes: &mut [u64], slot: SlotId, dcis: &[u8], rings: &[u64])
     }
 }
 
+// Takes every route of a slot out; a word past the end is not written.
+pub fn clear_slot(routes: &mut [u64], slot: SlotId)
+    ensures { λ r. ⌜ now (routes .exit) ≡ withoutSlot (now (routes .entry)) (slot .0) ⌝ }
+{
+    let mut dci = 0;
+    while dci < 32 {
+        let word = route_index(slot, Dci(dci));
+        dci += 1;
+        if word < routes.len() {
+            routes[word] = 0;
+        }
+    }
+}
+
 // Takes the old endpoints' routes out and puts the new ones in, or refuses and changes nothing.
 pub fn replace_queues(
     routes: &mut [u64],
@@ -117,7 +131,10 @@ pub fn replace_queues(
     new_dcis: &[u8],
     new_rings: &[u64],
 ) -> Replaced
-    ensures { λ r. ⌜ (r ≡ replaced (now (routes .entry)) (slot .0) (queues (now («old_dcis» .entry)) (now («old_rings» .entry))) (queues (now («new_dcis» .entry)) (now («new_rings» .entry)))) × (now (routes .exit) ≡ withReplaced (now (routes .entry)) (slot .0) (queues (now («old_dcis» .entry)) (now («old_rings» .entry))) (queues (now («new_dcis» .entry)) (now («new_rings» .entry)))) ⌝ }
+    ensures { λ r. ⌜ (r ≡ replaced (now (routes .entry)) (slot .0)
+        (queues (now («old_dcis» .entry)) (now («old_rings» .entry))) (queues (now («new_dcis» .entry)) (now («new_rings» .entry))))
+        × (now (routes .exit) ≡ withReplaced (now (routes .entry)) (slot .0)
+        (queues (now («old_dcis» .entry)) (now («old_rings» .entry))) (queues (now («new_dcis» .entry)) (now («new_rings» .entry)))) ⌝ }
 {
     if !old_match(routes, slot, old_dcis, old_rings) {
         return Replaced::InvalidEndpoint;

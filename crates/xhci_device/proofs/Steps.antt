@@ -17,12 +17,14 @@ use Rattle.device.specs.declared.record.Device.{Device}
 use Rattle.device.specs.declared.record.Called.{Called}
 use Rattle.device.specs.Device.{withEndpoints, withHeld, withConfiguration, withQuarantined, unusable}
 use Rattle.device.specs.Sound.{slotSound, sound}
-use Rattle.device.specs.Check.{recordCheck}
+use Rattle.device.specs.Check.{recordCheck, disconnectCheck}
 use Rattle.device.specs.Left.{Left, leaves, refused, marked, ended}
 use Rattle.device.specs.Calls.{onCheck, hubLeft, hubUpdate}
-use Rattle.device.specs.Claim.{quarantines, claimRecord, claim}
+use Rattle.device.specs.Claim.{drawn, quarantines, claimRecord, claim}
+use Rattle.device.specs.Ask.{Ask, asking, noAsk, askCheck, returned, ask, commit, PreviewAs}
 use Rattle.device.specs.Release.{releaseRecord, release}
 use Rattle.device.specs.SetConfiguration.{bare, setRecord, setConfiguration}
+use Rattle.device.specs.Disconnect.{allRevoked, unplugged, disconnectRecord, disconnect}
 use Rattle.device_image.specs.Layout.{WORDS}
 use Rattle.device_image.specs.Image.{encode, stored, isSet, read, isImage, decode}
 use Rattle.device_image.specs.Fits.{Fits}
@@ -43,11 +45,15 @@ pub zeros-unusable : read [] .usable ≡ false
 unfolding read isSet
 zeros-unusable = refl
 
+pub zeros-not-up : read [] .up ≡ false
+unfolding read isSet
+zeros-not-up = refl
+
 pub zeros-unsound : sound (read []) ≡ false
 unfolding read sound slotSound
 zeros-unsound = refl
 
-zeros-slot : (l : List ℕ) → isImage l ≡ false → decode l .slot .0 ≡ 0
+pub zeros-slot : (l : List ℕ) → isImage l ≡ false → decode l .slot .0 ≡ 0
 unfolding decode read
 zeros-slot l e = rw e
 
@@ -56,20 +62,27 @@ pub record Keeps (d : Device) (ctx routes log : List ℕ) (left : Left) : Type 0
   pub slot : left .device .slot ≡ d .slot
   pub none : d .slot .0 ≡ 0 → left ≡ refused d Unusable ctx routes log
 
-none-sound : (d : Device) → d .slot .0 ≡ 0 → (d .usable && sound d) ≡ false
+none-sound : (mark : Bool) (d : Device) → d .slot .0 ≡ 0 → (mark && sound d) ≡ false
 unfolding sound slotSound
-none-sound d e = rw e (go (d .usable))
+none-sound mark d e = rw e (go mark)
   where
     go : (b : Bool) → (b && false) ≡ false
     go true = refl
     go false = refl
 
+pub none-passed : (d : Device) (m n k : ℕ) (next : Check) → d .slot .0 ≡ 0 → recordCheck d m n k next ≡ Refuse Unusable
+unfolding recordCheck
+none-passed d m n k next e = rw (none-sound (d .usable) d e)
+
+none-disconnected : (d : Device) (m n k : ℕ) → d .slot .0 ≡ 0 → disconnectCheck d m n k ≡ Refuse Unusable
+unfolding disconnectCheck
+none-disconnected d m n k e = rw (none-sound (d .up) d e)
+
 checked :
-    (d : Device) (ctx routes log : List ℕ) (m n k : ℕ) (next : Check) (left : Left) → left .device .slot ≡ d .slot →
-    Keeps d ctx routes log (onCheck (recordCheck d m n k next) left (λ a. refused d a ctx routes log))
-unfolding recordCheck onCheck refused
-checked d ctx routes log m n k next left e =
-    record { slot = go (recordCheck d m n k next); none = λ z. rw (none-sound d z) refl }
+    (d : Device) (ctx routes log : List ℕ) (c : Check) (left : Left) → (d .slot .0 ≡ 0 → c ≡ Refuse Unusable) → left .device .slot ≡ d .slot →
+    Keeps d ctx routes log (onCheck c left (λ a. refused d a ctx routes log))
+unfolding onCheck refused
+checked d ctx routes log c left h e = record { slot = go c; none = λ z. rw (h z) refl }
   where
     go : (c : Check) → (onCheck c left (λ a. refused d a ctx routes log)) .device .slot ≡ d .slot
     go Pass = e
@@ -102,22 +115,36 @@ unfolding setRecord bare withConfiguration withHeld withEndpoints
 set-slot d value e =
     marked-slot (e .answer) _ ∙ cond-slot (e .moved) _ _ d (cond-slot (isAccepted (e .answer)) _ _ d refl refl) refl
 
+disconnect-slot : (d : Device) (e : End) → (disconnectRecord d e) .slot ≡ d .slot
+unfolding disconnectRecord unplugged quarantines withQuarantined allRevoked
+disconnect-slot d e =
+    cond-slot (e .moved) _ _ d refl (marked-slot (e .answer) _ ∙ cond-slot (isBroken (e .answer)) _ _ d refl refl)
+
 module _ (d : Device) (ctx routes log outcomes : List ℕ) where
-  pub claim-keeps : (i a : ℕ) (rings : List ℕ) → Keeps d ctx routes log (claim d ctx routes log outcomes i a rings)
+  pub claim-keeps : (i a : ℕ) → Keeps d ctx routes log (claim d ctx routes log outcomes i a)
   unfolding claim ended
-  claim-keeps i a rings = checked d ctx routes log _ _ _ _ _ (claim-slot d i a rings _)
+  claim-keeps i a = checked d ctx routes log _ _ (none-passed d _ _ _ _) (claim-slot d i a (drawn d i a) _)
+
+  pub commit-keeps : (p : Ask) → Keeps d ctx routes log (commit d ctx routes log outcomes p)
+  unfolding commit askCheck ended
+  commit-keeps p =
+      checked d ctx routes log _ _ (none-passed d _ _ _ _) (claim-slot d (p .interface) (p .alternate) (drawn d (p .interface) (p .alternate)) _)
 
   pub release-keeps : (i : ℕ) → Keeps d ctx routes log (release d ctx routes log outcomes i)
   unfolding release ended
-  release-keeps i = checked d ctx routes log _ _ _ _ _ (release-slot d i _)
+  release-keeps i = checked d ctx routes log _ _ (none-passed d _ _ _ _) (release-slot d i _)
 
   pub set-keeps : (value : ℕ) → Keeps d ctx routes log (setConfiguration d ctx routes log outcomes value)
   unfolding setConfiguration ended
-  set-keeps value = checked d ctx routes log _ _ _ _ _ (set-slot d value _)
+  set-keeps value = checked d ctx routes log _ _ (none-passed d _ _ _ _) (set-slot d value _)
 
   pub hub-keeps : (ports : ℕ) (multi : Bool) (ns : ℕ) → Keeps d ctx routes log (hubUpdate d ctx routes log outcomes ports multi ns)
   unfolding hubUpdate hubLeft
-  hub-keeps ports multi ns = checked d ctx routes log _ _ _ _ _ (marked-slot _ d)
+  hub-keeps ports multi ns = checked d ctx routes log _ _ (none-passed d _ _ _ _) (marked-slot _ d)
+
+  pub disconnect-keeps : Keeps d ctx routes log (disconnect d ctx routes log outcomes)
+  unfolding disconnect ended
+  disconnect-keeps = checked d ctx routes log _ _ (none-disconnected d _ _ _) (disconnect-slot d _)
 
 -- What a call leaves, beside an image.
 abbrev beside : Left → List ℕ → Crossed

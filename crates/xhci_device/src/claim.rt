@@ -14,11 +14,13 @@ pub extern "C" fn xhci_device_claim(
     outcomes: &[u8],
     interface: u8,
     alternate: u8,
-    rings: &[u64],
 ) -> Answered
-    ensures { λ r. ⌜ CrossedAs (crosses r (now (image .exit)) (now (ctx .exit)) (now (routes .exit)) (now (log .exit))) (isImage (now (image .entry))) (claim (decode (now (image .entry))) (now (ctx .entry)) (now (routes .entry)) (now (log .entry)) (now (outcomes .entry)) interface alternate (now (rings .entry))) (now (image .entry)) (now (ctx .entry)) (now (routes .entry)) (now (log .entry)) ⌝ }
+    ensures { λ r. ⌜ CrossedAs (crosses r (now (image .exit)) (now (ctx .exit)) (now (routes .exit)) (now (log .exit))) (isImage (now (image .entry)))
+        (claim (decode (now (image .entry))) (now (ctx .entry)) (now (routes .entry)) (now (log .entry)) (now (outcomes .entry))
+        interface alternate)
+        (now (image .entry)) (now (ctx .entry)) (now (routes .entry)) (now (log .entry)) ⌝ }
 {
     let d = device_image::decode(image);
-    let called = d.claim(ctx, routes, log, outcomes, interface, alternate, rings);
+    let called = d.claim(ctx, routes, log, outcomes, interface, alternate);
     returned::finish(called, image)
 }

@@ -16,7 +16,10 @@ pub extern "C" fn xhci_device_hub_update(
     multi: u8,
     ns: u32,
 ) -> Answered
-    ensures { λ r. ⌜ CrossedAs (crosses r (now (image .exit)) (now (ctx .exit)) (now (routes .exit)) (now (log .exit))) (isImage (now (image .entry))) (hubUpdate (decode (now (image .entry))) (now (ctx .entry)) (now (routes .entry)) (now (log .entry)) (now (outcomes .entry)) ports (isSet multi) ns) (now (image .entry)) (now (ctx .entry)) (now (routes .entry)) (now (log .entry)) ⌝ }
+    ensures { λ r. ⌜ CrossedAs (crosses r (now (image .exit)) (now (ctx .exit)) (now (routes .exit)) (now (log .exit))) (isImage (now (image .entry)))
+        (hubUpdate (decode (now (image .entry))) (now (ctx .entry)) (now (routes .entry)) (now (log .entry)) (now (outcomes .entry))
+        ports (isSet multi) ns)
+        (now (image .entry)) (now (ctx .entry)) (now (routes .entry)) (now (log .entry)) ⌝ }
 {
     let d = device_image::decode(image);
     let called = d.hub_update(ctx, routes, log, outcomes, ports, multi != 0, ns);

@@ -19,3 +19,12 @@ pub extern "C" fn xhci_device_is_usable(image: &[u64]) -> bool
     let d = device_image::decode(image);
     d.usable
 }
+
+// Whether its device may be unplugged: brought up, and not unplugged since.
+#[no_mangle]
+pub extern "C" fn xhci_device_is_up(image: &[u64]) -> bool
+    ensures { λ r. ⌜ r ≡ isImage (now (image .entry)) && decode (now (image .entry)) .up ⌝ }
+{
+    let d = device_image::decode(image);
+    d.up
+}

@@ -32,7 +32,9 @@ pub fn answer_of(a: Answer, count: usize) -> Answered
 
 // The end of a call on a record, which goes back. A buffer that holds none was read as a record of slot 0, and stays as it is.
 pub fn finish(called: Called, image: &mut [u64]) -> Answered
-    ensures { λ r. ⌜ (r ≡ answeredOf (called .answer) (called .count)) × (now (image .exit) ≡ cond (eqb (called .device .slot .0) 0) (now (image .entry)) (stored (called .device) (now (image .entry)))) × (eqb (called .device .slot .0) 0 ≡ false → length (now (image .entry)) ≡ WORDS → Fits (called .device)) ⌝ }
+    ensures { λ r. ⌜ (r ≡ answeredOf (called .answer) (called .count))
+        × (now (image .exit) ≡ cond (eqb (called .device .slot .0) 0) (now (image .entry)) (stored (called .device) (now (image .entry))))
+        × (eqb (called .device .slot .0) 0 ≡ false → length (now (image .entry)) ≡ WORDS → Fits (called .device)) ⌝ }
 {
     let d = called.device;
     let a = called.answer;

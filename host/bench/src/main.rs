@@ -47,11 +47,11 @@ fn repeat(layer: &str, scenario: &Scenario, times: u32) -> Result<(Answer, f64),
     for step in before {
         session.run(&mut *layer, &completed(step))?;
     }
-    let (record, buffers) = session.prepare(&completed(last));
+    let (call, record, buffers) = session.prepare(&completed(last));
     let mut answer = Answer::default();
     start_clock();
     for _ in 0..times {
-        (_, answer) = layer.call(&record, &last.call, &mut buffers.clone())?;
+        (_, answer) = layer.call(&record, &call, &mut buffers.clone())?;
     }
     Ok((answer, stop_clock().as_nanos() as f64 / f64::from(times.max(1))))
 }

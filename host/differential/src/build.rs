@@ -62,18 +62,22 @@ pub fn alternates(list: &[u32]) -> Vec<(u8, u8, Vec<u8>)> {
     found
 }
 
-/// How many rings a claim must be offered.
-pub fn rings_wanted(list: &[u32], interface: u8, alternate: u8) -> usize {
-    let found = alternates(list);
-    let first = found.iter().find(|a| (a.0, a.1) == (interface, alternate));
-    first.map_or(0, |a| a.2.len())
+/// The addresses that a claim draws rings for, in the order of the endpoint words.
+pub fn rings_wanted(list: &[u32], interface: u8, alternate: u8) -> Vec<u8> {
+    let first = alternates(list).into_iter().find(|a| (a.0, a.1) == (interface, alternate));
+    first.map_or(Vec::new(), |a| a.2)
+}
+
+/// As many rings as a slot may be given, rising.
+pub fn all_rings() -> Vec<u64> {
+    (1..=64).map(|at| 0x1000 * at).collect()
 }
 
 pub fn buffers(ctx: Vec<u8>, routes: Vec<u64>, outcomes: Vec<u8>) -> Buffers {
     Buffers { ctx, routes, log: filled_words(LOG_LEN), outcomes }
 }
 
-/// A plain bring-up of slot 1 of 2 with a list.
+/// A plain bring-up of slot 1 of 2 with a list. Control's ring is 0x1000.
 pub fn plain(speed: u8, list: &[u32]) -> BringUp {
     BringUp {
         slot: 1,
@@ -81,7 +85,7 @@ pub fn plain(speed: u8, list: &[u32]) -> BringUp {
         speed,
         port: 1,
         root_port: 1,
-        ring: 0x1000,
+        rings: all_rings(),
         header: 8,
         packet: if speed > 3 { 9 } else { 64 },
         list: list.to_vec(),

@@ -21,9 +21,12 @@ impl Case {
         match self.call {
             Call::BringUp(_) => "bringup",
             Call::Claim(_) => "claim",
+            Call::Ask(_) => "ask",
+            Call::Commit(_) => "commit",
             Call::Release { .. } => "release",
             Call::SetConfiguration { .. } => "setconfig",
             Call::HubUpdate(_) => "hubupdate",
+            Call::Disconnect => "disconnect",
         }
     }
 

@@ -1,9 +1,12 @@
 //! Two layers on one case, and the listed differences between them.
 
-use scenario::{Answer, BringUp, Buffers, Call, Cannot, Layer, Left, Outcome, Record, left_text, scenario_text};
+use scenario::{
+    Answer, Asked, BringUp, Buffers, Call, Called, Cannot, Claim, Layer, Left, Record, left_text, scenario_text,
+};
 
 use crate::case::Case;
 use crate::fields;
+use crate::groups;
 use crate::refusal::{self, chain_fault};
 use crate::rows;
 use crate::tally::Tally;
@@ -26,11 +29,14 @@ pub struct Done {
     pub buffers: Buffers,
     /// The record in the order in which it was returned.
     pub returned: Record,
+    /// What an accepted ask returned.
+    pub asked: Option<Asked>,
 }
 
 impl Done {
     fn same(&self, other: &Done) -> bool {
-        self.record == other.record && self.answer == other.answer && self.buffers == other.buffers
+        let asked = self.asked == other.asked;
+        asked && self.record == other.record && self.answer == other.answer && self.buffers == other.buffers
     }
 }
 
@@ -41,15 +47,19 @@ pub struct Pair {
     pub listed: bool,
 }
 
-fn done(outcome: Outcome, buffers: Buffers) -> Result<Done, Cannot> {
-    outcome.map(|(returned, answer)| Done { record: returned.sorted(), answer, buffers, returned })
+fn done(called: Result<Called, Cannot>, buffers: Buffers) -> Result<Done, Cannot> {
+    let done = |Called { record: returned, answer, asked }| {
+        let record = Record::sorted(&returned);
+        Done { record, answer, buffers, returned, asked }
+    };
+    called.map(done)
 }
 
 impl Pair {
     fn ask(layer: &mut dyn Layer, case: &Case) -> Result<Done, Cannot> {
         let mut buffers = case.buffers.clone();
-        let outcome = layer.call(&case.record, &case.call, &mut buffers);
-        done(outcome, buffers)
+        let called = layer.called(&case.record, &case.call, &mut buffers);
+        done(called, buffers)
     }
 
     pub fn judge(&mut self, case: &Case) -> (Result<Done, Cannot>, Verdict) {
@@ -67,11 +77,20 @@ impl Pair {
         }
         let number = subject.answer.number;
         let expected = refusal::expected(case);
-        let judged = case.genuine || !case.record.usable;
+        let allowed = refusal::allowed(&case.call, &case.record);
+        let judged = case.genuine || !allowed;
         if judged && (expected.is_some() || refusal::is_known(case, number)) && expected != Some(number) {
             return Verdict::Different("the refusal");
         }
-        if number == 12 && case.record.usable && self.listed {
+        if let Call::Claim(args) = &case.call
+            && !self.in_two(case, args, subject)
+        {
+            return Verdict::Different("a claim, and its ask with its commit");
+        }
+        if case.genuine && !groups::agree(case, subject) {
+            return Verdict::Different("the groups of rings");
+        }
+        if number == 12 && allowed && self.listed {
             return Verdict::Uncompared("12: the record is not sound");
         }
         let reference = self.ask_reference(case);
@@ -80,6 +99,18 @@ impl Pair {
             _ if !self.listed => Verdict::Different("the layers"),
             _ => rule(case, subject, &reference),
         }
+    }
+
+    /// Whether the subject's ask of a claim is refused as the claim is, or its commit leaves what the claim left.
+    fn in_two(&mut self, case: &Case, args: &Claim, claimed: &Done) -> bool {
+        let Ok(ask) = Self::ask(&mut *self.subject, &Case { call: Call::Ask(args.clone()), ..case.clone() }) else {
+            return false;
+        };
+        if ask.answer.number != 0 {
+            return ask.answer == claimed.answer && ask.asked.is_none();
+        }
+        let commit = Case { call: Call::Commit(ask.asked), ..case.clone() };
+        Self::ask(&mut *self.subject, &commit).is_ok_and(|committed| committed.same(claimed))
     }
 
     /// Counts a case and hands back what the subject left.
@@ -144,6 +175,7 @@ fn unlike(subject: &Done, reference: &Done) -> Vec<&'static str> {
         ("context", subject.buffers.ctx == reference.buffers.ctx),
         ("routes", subject.buffers.routes == reference.buffers.routes),
         ("record", subject.record == reference.record),
+        ("what is asked", subject.asked == reference.asked),
     ];
     parts.iter().filter(|part| !part.1).map(|part| part.0).collect()
 }
@@ -151,16 +183,21 @@ fn unlike(subject: &Done, reference: &Done) -> Vec<&'static str> {
 fn describe(text: &mut String, done: Result<Done, Cannot>) {
     match done {
         Err(cannot) => text.push_str(&format!("no answer: {cannot:?}\n")),
-        Ok(Done { record, answer, buffers, .. }) => {
+        Ok(Done { record, answer, buffers, asked, .. }) => {
             let Buffers { ctx, routes, log, .. } = buffers;
-            left_text(text, &Left { answer, record, log, ctx, table: routes });
+            left_text(text, &Left { answer, record, log, ctx, table: routes, asked: asked.map(Some) });
         }
     }
 }
 
-/// A refusal has changed nothing and logged no word.
+/// A refusal has changed nothing, logged no word and shown nothing; no ask has, but that an accepted one has shown
+/// something.
 fn left_alone(case: &Case, subject: &Done) -> bool {
-    let refused = matches!(subject.answer.number, 1..=12 | 17 | 20..);
+    let ask = matches!(case.call, Call::Ask(_));
+    if subject.asked.is_some() != (ask && subject.answer.number == 0) {
+        return false;
+    }
+    let refused = ask || matches!(subject.answer.number, 1..=12 | 17 | 20..);
     let record = match case.call {
         Call::BringUp(_) => Record::default(),
         _ => case.record.sorted(),
@@ -174,7 +211,11 @@ fn rule(case: &Case, subject: &Done, reference: &Result<Done, Cannot>) -> Verdic
     match (&case.call, number) {
         (Call::BringUp(args), 4 | 5 | 6 | 10 | 11) => refused_bring_up(args, number, reference),
         (_, 1..=3) if no_such_input(reference) => Verdict::Uncompared("1, 2, 3: lengths"),
-        (Call::Claim(_), 10) if no_such_input(reference) => Verdict::Uncompared("10: rings of the caller's choice"),
+        (Call::Ask(_), _) if no_such_input(reference) => Verdict::Uncompared("an ask"),
+        (Call::Commit(_), 22) => Verdict::Uncompared("22: an ask that is outdated"),
+        (Call::Claim(_) | Call::Commit(_), 21) if no_such_input(reference) => {
+            Verdict::Uncompared("21: a store of rings")
+        }
         (Call::HubUpdate(args), _) if args.think > 65535 && no_such_input(reference) => {
             Verdict::Uncompared("a think time of more than 16 bits")
         }
@@ -185,6 +226,7 @@ fn rule(case: &Case, subject: &Done, reference: &Result<Done, Cannot>) -> Verdic
         (Call::HubUpdate(args), 7) if args.think < 666 => Verdict::Listed(rows::THINK_SHORT),
         (Call::HubUpdate(_), 7) => Verdict::Listed(rows::THINK_LONG),
         (Call::BringUp(_), 19) if reference.is_ok() => Verdict::Listed(rows::PACKET_EXPONENT),
+        (Call::Disconnect, 0 | 14) => unplugged(case, subject, reference),
         (_, 13) => failed_configure(case, subject, reference),
         _ => Verdict::Different("the layers"),
     }
@@ -208,7 +250,7 @@ fn refused_bring_up(args: &BringUp, number: u8, reference: &Result<Done, Cannot>
         4 if no_such_input(reference) => Verdict::Uncompared("4: a word that stands for nothing"),
         4 => Verdict::Listed(rows::LIST_LIMITS),
         5 => refused_chain(chain_fault(args), reference),
-        10 if no_such_input(reference) => Verdict::Uncompared("10: rings of the caller's choice"),
+        10 if no_such_input(reference) => Verdict::Uncompared("10: rings that a slot is given"),
         _ => Verdict::Different("the bring-up"),
     }
 }
@@ -234,7 +276,7 @@ fn failed_configure(case: &Case, subject: &Done, reference: &Result<Done, Cannot
     let operation = |index: usize| buffers.log[index] >> 28;
     let outcome = |index: usize| case.buffers.outcomes.get(index).copied().unwrap_or(0);
     let configure = (0..answer.count).find(|i| operation(*i) == CONFIGURE);
-    let disables = !matches!(case.call, Call::Claim(_) | Call::HubUpdate(_));
+    let disables = !matches!(case.call, Call::Claim(_) | Call::Commit(_) | Call::HubUpdate(_));
     if configure.map(outcome) != Some(answer.code)
         || !disables
         || reference.buffers != *buffers
@@ -254,4 +296,75 @@ fn failed_configure(case: &Case, subject: &Done, reference: &Result<Done, Cannot
         }
         _ => Verdict::Different("the layers"),
     }
+}
+
+/// The rows on an unplugging: commands, context and handles are the same, and of the rest what the row says.
+fn unplugged(case: &Case, subject: &Done, reference: &Result<Done, Cannot>) -> Verdict {
+    let Ok(reference) = reference else {
+        return Verdict::Different("the layers");
+    };
+    let Done { answer, buffers, record, .. } = subject;
+    let sent = reference.answer.count == answer.count
+        && reference.buffers.log == buffers.log
+        && reference.buffers.ctx == buffers.ctx
+        && reference.record.control_revoked
+        && reference.record.endpoints.iter().all(|endpoint| !endpoint.active);
+    if !sent || reference.answer.code != 0 {
+        return Verdict::Different("the unplugging");
+    }
+    let broken = broken_twice(&case.record);
+    match (answer.number, reference.answer.number) {
+        // The ring entered again.
+        (14, 14) if reference.buffers == *buffers && reference.record == broken => match *record == once(&broken) {
+            true => Verdict::Listed(rows::QUARANTINED_TWICE),
+            false => Verdict::Different("the quarantine"),
+        },
+        (0, 14) if reference.buffers.routes == case.buffers.routes && reference.record == broken => {
+            Verdict::Listed(if control_at_0(case) { rows::FOREIGN_WORD } else { rows::CONTROL_ROUTE })
+        }
+        (0, 0) if control_at_0(case) && reference.record == *record && routes_at_0(case, reference) => {
+            Verdict::Listed(rows::CONTROL_ROUTE)
+        }
+        _ => Verdict::Different("the unplugging"),
+    }
+}
+
+/// Whether the slot's word at Dci 0, where the original looks for it, is control's ring.
+fn control_at_0(case: &Case) -> bool {
+    case.buffers.routes[32 * usize::from(case.record.slot)] == case.record.control
+}
+
+/// Whether of the slot's words those at Dci 0 and at the endpoints' Dcis were cleared, and no other.
+fn routes_at_0(case: &Case, reference: &Done) -> bool {
+    let mut routes = case.buffers.routes.clone();
+    let row = 32 * usize::from(case.record.slot);
+    let dci = |address: u8| usize::from(address & 15) * 2 + usize::from(address >> 7);
+    for cleared in [0].into_iter().chain(case.record.endpoints.iter().map(|e| dci(e.address))) {
+        routes[row + cleared] = 0;
+    }
+    reference.buffers.routes == routes
+}
+
+/// The record that the original leaves when it breaks: control's ring and every live one enter quarantine, there
+/// already or not.
+fn broken_twice(record: &Record) -> Record {
+    let mut broken = record.sorted();
+    broken.usable = false;
+    broken.control_revoked = true;
+    broken.endpoints.iter_mut().for_each(|endpoint| endpoint.active = false);
+    let rings: Vec<u64> = broken.endpoints.iter().map(|endpoint| endpoint.ring).collect();
+    broken.quarantined.push(record.control);
+    broken.quarantined.extend(rings);
+    broken
+}
+
+/// A record with each quarantined ring in the place where it first entered.
+fn once(record: &Record) -> Record {
+    let mut quarantined: Vec<u64> = Vec::new();
+    for ring in &record.quarantined {
+        if !quarantined.contains(ring) {
+            quarantined.push(*ring);
+        }
+    }
+    Record { quarantined, ..record.clone() }
 }

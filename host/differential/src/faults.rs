@@ -1,6 +1,6 @@
 //! Inputs with faults: sets of them for the order of the checks, and records that are not sound.
 
-use scenario::{Buffers, Call, Claim, Endpoint, HubUpdate, Record};
+use scenario::{Asked, Buffers, Call, Claim, Endpoint, HubUpdate, Record};
 
 use crate::build::*;
 use crate::case::Case;
@@ -24,12 +24,14 @@ pub fn refusals(pair: &mut Pair, tally: &mut Tally) {
         }
         pair.compare(tally, &case);
     }
-    for call in calls(&sharing_list()) {
-        for faults in subsets(4) {
+    for call in calls() {
+        for faults in subsets(6) {
             let mut case = Case::new(call.clone(), &sound_record(), sound_buffers());
             for fault in faults {
                 match fault {
                     0 => case.record.usable = false,
+                    4 => case.record.up = false,
+                    5 => case.record.given.truncate(5),
                     _ => spoil_lengths(&mut case.buffers, fault),
                 }
             }
@@ -39,19 +41,28 @@ pub fn refusals(pair: &mut Pair, tally: &mut Tally) {
 }
 
 /// Calls with a fault of their own, and some without.
-fn calls(list: &[u32]) -> [Call; 11] {
+fn calls() -> [Call; 17] {
+    let asked = |interface, alternate, drops, adds, rings: &[u64]| {
+        Call::Commit(Some(Asked { interface, alternate, drops, adds, rings: rings.to_vec() }))
+    };
     [
-        claim(list, 1, 0, 0x9000),
-        claim(list, 1, 1, 0x9000),
-        claim(list, 7, 7, 0x9000),
-        Call::Claim(Claim { interface: 1, alternate: 0, rings: vec![0x9000] }),
-        Call::Claim(Claim { interface: 1, alternate: 1, rings: vec![0x2000] }),
-        Call::Claim(Claim { interface: 7, alternate: 7, rings: vec![8] }),
+        claim(0, 0),
+        claim(0, 1),
+        claim(1, 0),
+        claim(1, 1),
+        claim(7, 7),
+        Call::Ask(Claim { interface: 1, alternate: 0 }),
+        Call::Ask(Claim { interface: 1, alternate: 1 }),
+        Call::Commit(None),
+        asked(1, 0, 0xC0, 0xC0, &[0x6000, 0x7000]),
+        asked(1, 0, 0xC0, 0xC0, &[0x7000, 0x6000]),
+        asked(1, 1, 0xC0, 8, &[0x6000]),
         Call::Release { interface: 0 },
         Call::Release { interface: 7 },
         Call::SetConfiguration { value: 1 },
         Call::HubUpdate(HubUpdate { ports: 1, multi: false, think: 0 }),
         Call::HubUpdate(HubUpdate { ports: 1, multi: false, think: 1 }),
+        Call::Disconnect,
     ]
 }
 
@@ -92,16 +103,22 @@ fn spoil_bring_up(case: &mut Case, fault: usize) {
         4 => args.speed = 6,
         5 => args.list.push(endpoint(1, BULK, 8, 0, 0)),
         6 => args.has_parent = true,
-        7 => args.ring = 8,
+        7 => args.rings = vec![8],
         _ => args.slot = 3,
     }
 }
 
 /// Records with one thing wrong, or merely unusual. (The original does not judge them; another layer does.)
 pub fn records(pair: &mut Pair, tally: &mut Tally) {
-    let calls =
-        [claim(&sharing_list(), 0, 1, 0x9000), Call::Release { interface: 1 }, Call::SetConfiguration { value: 1 }];
-    for record in altered(&sound_record()) {
+    let calls = [
+        claim(0, 1),
+        claim(1, 0),
+        Call::Release { interface: 1 },
+        Call::SetConfiguration { value: 1 },
+        Call::Disconnect,
+    ];
+    let broken = Record { usable: false, quarantined: vec![0x1000, 0x6000], ..sound_record() };
+    for record in altered(&sound_record()).into_iter().chain(altered(&broken)) {
         let mut given = sound_buffers();
         given.ctx.resize(33 * record.spacing, 0);
         given.routes.resize(32 * (usize::from(record.n) + 1), 0);
@@ -112,16 +129,19 @@ pub fn records(pair: &mut Pair, tally: &mut Tally) {
     }
 }
 
-/// Each word of the slot's row, with rings that are offered, live or strange in it. A word that already holds a
-/// ring offered has no counterpart in the original, which makes its rings itself.
+/// Each word of the slot's row, with rings that are drawn, live or strange in it. A word that already holds a
+/// ring drawn has no counterpart in the original, which makes its rings itself.
 pub fn routes(pair: &mut Pair, tally: &mut Tally) {
-    let rings: &[u64] = if pair.listed { &[0, 0x7000] } else { &[0, 1, 0x1000, 0x2000, 0x7000, 0x9000, 0x9010] };
-    for call in calls(&sharing_list()) {
+    let rings: &[u64] = if pair.listed { &[0, 0x9000] } else { &[0, 1, 0x1000, 0x2000, 0x6000, 0x7000, 0x9000] };
+    for call in calls() {
         for place in 0..32 * rings.len() {
             let (dci, ring) = (place / rings.len(), rings[place % rings.len()]);
             for outcomes in [vec![0; 64], vec![0, 0, 0, 9], vec![0, 0, 0, 0, 9, 9]] {
                 let mut given = Buffers { outcomes, ..sound_buffers() };
                 given.routes[32 + dci] = ring;
+                pair.compare(tally, &Case::new(call.clone(), &sound_record(), given.clone()));
+                // Where the original looks for control's ring in an unplugging.
+                given.routes[32] = 0x1000;
                 pair.compare(tally, &Case::new(call.clone(), &sound_record(), given));
             }
         }
@@ -156,13 +176,29 @@ fn altered_numbers(with: With) {
         with(&|r| r.spacing = spacing);
     }
     with(&|r| r.control_revoked = true);
+    with(&|r| r.up = false);
     with(&|r| r.config = None);
 }
 
 fn altered_rings(sound: &Record, with: With) {
+    let live: Vec<u64> = sound.endpoints.iter().map(|e| e.ring).chain([sound.control]).collect();
+    for rings in 0..=61 {
+        let others = (0..rings).map(|i| 0x10_0000 + 16 * i);
+        with(&|r| r.quarantined = others.clone().collect());
+        with(&|r| r.quarantined = live.iter().copied().chain(others.clone()).take(61).collect());
+        let given = |r: &Record| r.given.iter().rev().take(rings as usize).copied().collect();
+        with(&|r| r.quarantined = given(r));
+    }
+    for count in 0..=64 {
+        with(&|r| r.given.truncate(count));
+        with(&|r| _ = r.given.drain(..count));
+    }
+    with(&|r| r.given.reverse());
     for ring in [0, 1, 8, 15, 16, 0x2000, 0x3000, 0x9000, u64::MAX, u64::MAX - 15] {
         with(&|r| r.control = ring);
         with(&|r| r.quarantined.push(ring));
+        with(&|r| r.given[63] = ring);
+        with(&|r| r.given[0] = ring);
         for at in 0..sound.endpoints.len() {
             with(&|r| r.endpoints[at].ring = ring);
         }

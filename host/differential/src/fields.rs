@@ -5,25 +5,27 @@ use scenario::{BringUp, Call, Record};
 use crate::case::Case;
 use crate::compare::Done;
 
-/// A field of an endpoint's block: doubleword, lowest bit, width (xHCI 1.2, section 6.2.3).
+/// A field of the slot's or an endpoint's block: doubleword, lowest bit, width (xHCI 1.2, sections 6.2.2 and 6.2.3).
 struct Field {
     doubleword: usize,
     low: u32,
     width: u32,
 }
 
+const CONTEXT_ENTRIES: Field = Field { doubleword: 0, low: 27, width: 5 };
 const INTERVAL: Field = Field { doubleword: 0, low: 16, width: 8 };
 const MAX_PACKET_SIZE: Field = Field { doubleword: 1, low: 16, width: 16 };
 
-/// What a document decides of one call: the field of each of these Dcis' blocks, and its value.
+/// What a document decides of one call: the field of each of these Dcis' blocks, 0 being the slot's, and its value.
 struct Decided {
     field: Field,
     values: Vec<(u8, u32)>,
 }
 
 /// The table; docs/DIFFERENCES.md says what the original has in these places.
-fn table(case: &Case, reference: &Done) -> [Decided; 2] {
+fn table(case: &Case, reference: &Done) -> [Decided; 3] {
     [
+        Decided { field: CONTEXT_ENTRIES, values: last_in_use(case, reference) },
         Decided { field: MAX_PACKET_SIZE, values: super_packet_size(case, reference) },
         Decided { field: INTERVAL, values: full_isochronous(case, reference) },
     ]
@@ -62,27 +64,53 @@ fn full_isochronous(case: &Case, reference: &Done) -> Vec<(u8, u32)> {
     words.map(|word| (dci(word), (word >> 2 & 0xFF).clamp(1, 16) + 2)).collect()
 }
 
+/// xHCI 1.2, section 6.2.2: the index of the last endpoint context in use, once a Configure is done.
+fn last_in_use(case: &Case, reference: &Done) -> Vec<(u8, u32)> {
+    let Some(last) = configures(case, reference).pop() else { return Vec::new() };
+    let dropped: Vec<u8> = last.dropped.into_iter().map(dci).collect();
+    let recorded = case.record.endpoints.iter().map(|e| 2 * (e.address & 15) + (e.address >> 7));
+    let recorded = recorded.filter(|_| !matches!(case.call, Call::BringUp(_)));
+    let staying = recorded.filter(|dci| !dropped.contains(dci));
+    let entries = staying.chain(last.added.into_iter().map(dci)).max().unwrap_or(1);
+    vec![(0, entries.into())]
+}
+
 fn dci(word: u32) -> u8 {
     ((word >> 25 & 15) * 2 + (word >> 29 & 1)) as u8
 }
 
-/// The endpoint words that the call's Configures added, in their order.
-fn added(case: &Case, reference: &Done) -> Vec<u32> {
+/// The endpoint words of a Configure.
+struct Configure {
+    dropped: Vec<u32>,
+    added: Vec<u32>,
+}
+
+/// The Configures that the call sent, in their order.
+fn configures(case: &Case, reference: &Done) -> Vec<Configure> {
     const CONFIGURE: u32 = 3;
     let sent = &reference.buffers.log[..reference.answer.count];
-    let configures = sent.iter().filter(|word| *word >> 28 == CONFIGURE).count();
-    let held = |interface: Option<u8>| {
-        let of = case.record.held.iter().filter(move |held| interface.is_none_or(|i| held.0 == i));
-        of.flat_map(|(interface, alternate)| words(&case.record, *interface, *alternate))
-    };
-    match (&case.call, configures) {
-        (Call::Claim(args), 1) => words(&case.record, args.interface, args.alternate),
-        (Call::Claim(args), 2) => {
-            words(&case.record, args.interface, args.alternate).into_iter().chain(held(Some(args.interface))).collect()
+    let count = sent.iter().filter(|word| *word >> 28 == CONFIGURE).count();
+    let record = &case.record;
+    let held = |interface: u8| record.held.iter().find(|held| held.0 == interface).map(|held| held.1);
+    let (dropped, added) = match (&case.call, case.call.claimed()) {
+        (_, Some(args)) => {
+            let old = held(args.interface).map(|alternate| words(record, args.interface, alternate));
+            (old.unwrap_or_default(), words(record, args.interface, args.alternate))
         }
-        (Call::SetConfiguration { .. }, 2) => held(None).collect(),
-        _ => Vec::new(),
-    }
+        (Call::Release { interface }, None) => (words(record, *interface, held(*interface).unwrap_or(0)), Vec::new()),
+        (Call::SetConfiguration { .. }, None) => {
+            (record.held.iter().flat_map(|held| words(record, held.0, held.1)).collect(), Vec::new())
+        }
+        _ => (Vec::new(), Vec::new()),
+    };
+    // The second undoes the first.
+    let undone = Configure { dropped: added.clone(), added: dropped.clone() };
+    [Configure { dropped, added }, undone].into_iter().take(count).collect()
+}
+
+/// The endpoint words that they added.
+fn added(case: &Case, reference: &Done) -> Vec<u32> {
+    configures(case, reference).into_iter().flat_map(|configure| configure.added).collect()
 }
 
 /// The endpoint words of the first alternate that matches.

@@ -7,6 +7,7 @@ mod compare;
 mod exhaustive;
 mod faults;
 mod fields;
+mod groups;
 mod random;
 mod raw;
 mod refusal;
@@ -38,8 +39,8 @@ original.
   --seed N            of the random calls (1)
   --calls N           how many of them (600000)
   --cases N           how many random cases of raw descriptors (2000000)
-  --part PART         one part instead of all: refusals, records, routes, outcomes, intervals, ports, packets, think,
-                      slots, random or raw (which the original has not)
+  --part PART         one part instead of all: refusals, records, routes, outcomes, store, asks, intervals, ports,
+                      packets, think, slots, random or raw (which the original has not)
   --sample            print a small scenario for each call and answer, or case for each function and answer, instead
                       of the counts
   --store FOLDER      write a sample of the reference's answers to original_CALL/stdin and stdout in FOLDER
@@ -237,7 +238,7 @@ mod tests {
         random::run(&mut pair, &mut tally, 8, 40_000);
         let store = tally.store.take().expect("what was kept");
         let crates = Path::new(env!("CARGO_MANIFEST_DIR")).join("../../crates");
-        assert_eq!(store.names().len(), 5);
+        assert_eq!(store.names().len(), 6);
         for name in store.names() {
             let kept = |file| fs::read_to_string(crates.join(Store::replay(name)).join(file)).expect("a file");
             assert!(store.stdin(name) == kept("stdin"));

@@ -1,6 +1,6 @@
 //! Random scenarios: a bring-up and calls after it, each given what the last one left.
 
-use scenario::{BringUp, Buffers, Call, Claim, HubUpdate, Record, filled_words};
+use scenario::{Asked, BringUp, Buffers, Call, Claim, GIVEN_ROOM, HubUpdate, Record, filled_words};
 
 use crate::build::*;
 use crate::case::Case;
@@ -23,6 +23,8 @@ struct State {
     record: Record,
     routes: Vec<u64>,
     ctx: Vec<u8>,
+    /// What the last accepted ask returned.
+    asked: Option<Asked>,
 }
 
 fn scenario(pair: &mut Pair, tally: &mut Tally, rng: &mut Rng) {
@@ -30,7 +32,8 @@ fn scenario(pair: &mut Pair, tally: &mut Tally, rng: &mut Rng) {
         return;
     };
     for _ in 0..rng.below(14) {
-        if !state.record.usable && rng.percent(80) || !step(pair, tally, rng, &mut state) {
+        let ends = if state.record.up { 20 } else { 80 };
+        if !state.record.usable && rng.percent(ends) || !step(pair, tally, rng, &mut state) {
             return;
         }
     }
@@ -50,7 +53,7 @@ fn begin(pair: &mut Pair, tally: &mut Tally, rng: &mut Rng) -> Option<State> {
     if done.buffers.routes.len() == routes.len() {
         routes = done.buffers.routes;
     }
-    Some(State { slot, n, record: done.returned, routes, ctx })
+    Some(State { slot, n, record: done.returned, routes, ctx, asked: None })
 }
 
 fn step(pair: &mut Pair, tally: &mut Tally, rng: &mut Rng, state: &mut State) -> bool {
@@ -58,13 +61,16 @@ fn step(pair: &mut Pair, tally: &mut Tally, rng: &mut Rng, state: &mut State) ->
         spoil(rng, &mut state.routes);
     }
     context(rng, &mut state.ctx);
-    let call = if rng.percent(3) { again(rng, state.slot, state.n) } else { call(rng, &state.record) };
+    let call = next(rng, state);
     let memory = given(rng, &state.ctx, &state.routes, 55);
     let mut case = Case::new(call, &state.record, memory);
     disturb(rng, &mut case);
     let Some(done) = pair.compare(tally, &case) else {
         return false;
     };
+    if done.asked.is_some() {
+        state.asked = done.asked;
+    }
     if case.genuine && done.buffers.routes.len() == state.routes.len() {
         state.record = done.returned;
         state.routes = done.buffers.routes;
@@ -97,7 +103,9 @@ fn outcomes(rng: &mut Rng, all_done: u64) -> Vec<u8> {
 fn spoil(rng: &mut Rng, routes: &mut [u64]) {
     let row = rng.index(routes.len() / 32);
     let dci = rng.index(32);
-    routes[32 * row + dci] = rng.of(&[0, 0x10, 0x2000, 0x7000, u64::MAX]);
+    // Now and then the ring of another endpoint, control's at Dci 0 say.
+    let other = routes[32 * row + rng.index(4)];
+    routes[32 * row + dci] = rng.of(&[0, 0x10, 0x2000, 0x7000, u64::MAX, other]);
 }
 
 /// Buffers, now and then of a wrong length.
@@ -125,7 +133,7 @@ fn bring_up(rng: &mut Rng) -> BringUp {
         speed: if rng.percent(98) { 1 + rng.below(5) as u8 } else { rng.byte() & 15 },
         port: port(rng),
         root_port: rng.byte(),
-        ring: ring(rng),
+        rings: rings(rng),
         header: if rng.percent(98) { 8 } else { rng.below(20) as u32 },
         packet: rng.byte(),
         config: rng.byte(),
@@ -137,8 +145,8 @@ fn bring_up(rng: &mut Rng) -> BringUp {
         args.packet = 9;
     }
     hubs(rng, &mut args);
-    if rng.percent(1) {
-        args.ring = rng.of(&[0, 8, 0x1001]);
+    if rng.percent(2) {
+        wrong_rings(rng, &mut args.rings);
     }
     args
 }
@@ -155,7 +163,7 @@ fn ring(rng: &mut Rng) -> u64 {
 
 fn word(rng: &mut Rng, numbers: u64) -> u32 {
     let number = 1 + rng.below(numbers) as u8;
-    let input = if number == 15 { 0 } else { rng.of(&[0, 0x80]) };
+    let input = rng.of(&[0, 0x80]);
     let kind = rng.of(&[ISOCHRONOUS, BULK, INTERRUPT]);
     endpoint(input | number, kind, rng.below(2048) as u32, rng.below(4) as u32, rng.byte())
 }
@@ -189,7 +197,7 @@ pub fn broken_list(rng: &mut Rng) -> Vec<u32> {
         0 => list.insert(0, alternate(0, 0)),
         1 => list.push(3 << 30 | rng.next() as u32 >> 2),
         2 => list.extend([configuration(1), endpoint(0x81, BULK, 8, 0, 0)]),
-        3 => list.extend([configuration(1), alternate(0, 0), endpoint(0x8F, BULK, 8, 0, 0)]),
+        3 => list.extend([configuration(1), alternate(0, 0), endpoint(0x80, BULK, 8, 0, 0)]),
         4 => list = vec![configuration(1); 9],
         5 => {
             list = (0..=255)
@@ -267,6 +275,42 @@ fn fault(rng: &mut Rng, hubs: &mut [Hub], at: usize) {
     }
 }
 
+/// An unplugging, mostly of what is broken; another bring-up of the slot, mostly of what was unplugged; or another
+/// call.
+fn next(rng: &mut Rng, state: &State) -> Call {
+    let (unplugs, brings_up) = match (state.record.usable, state.record.up) {
+        (true, _) => (5, 3),
+        (false, true) => (70, 10),
+        (false, false) => (10, 70),
+    };
+    if rng.percent(unplugs) {
+        Call::Disconnect
+    } else if rng.percent(brings_up) {
+        again(rng, state.slot, state.n)
+    } else if rng.percent(8) {
+        Call::Commit(Some(asked(rng, state)))
+    } else {
+        call(rng, &state.record)
+    }
+}
+
+/// What the last ask returned, now and then with one thing changed.
+fn asked(rng: &mut Rng, state: &State) -> Asked {
+    let mut asked = state.asked.clone().unwrap_or_default();
+    if rng.percent(20) {
+        match rng.below(7) {
+            0 => asked.interface = interface(rng),
+            1 => asked.alternate ^= 1,
+            2 => asked.drops ^= 1 << rng.below(32),
+            3 => asked.adds ^= 1 << rng.below(32),
+            4 => drop(asked.rings.pop()),
+            5 => asked.rings.resize(rng.index(40), ring(rng)),
+            _ => asked.rings.reverse(),
+        }
+    }
+    asked
+}
+
 /// Another bring-up of the slot.
 fn again(rng: &mut Rng, slot: u8, n: u32) -> Call {
     Call::BringUp(BringUp { slot, n, ..bring_up(rng) })
@@ -274,7 +318,8 @@ fn again(rng: &mut Rng, slot: u8, n: u32) -> Call {
 
 fn call(rng: &mut Rng, record: &Record) -> Call {
     match rng.below(20) {
-        0..=11 => Call::Claim(claim(rng, record)),
+        0..=8 => Call::Claim(claim(rng, record)),
+        9..=11 => Call::Ask(claim(rng, record)),
         12..=15 => {
             let held = rng.percent(70) && !record.held.is_empty();
             let interface = if held { record.held[rng.index(record.held.len())].0 } else { interface(rng) };
@@ -303,28 +348,33 @@ fn claim(rng: &mut Rng, record: &Record) -> Claim {
             (one.0, one.1)
         }
     };
-    let wanted = rings_wanted(&record.list, interface, alternate);
-    let base = ring(rng);
-    let mut rings: Vec<u64> = (0..wanted as u64).map(|i| base.wrapping_add(16 * i)).collect();
-    if rng.percent(4) {
-        wrong_rings(rng, &mut rings, record);
-    }
-    Claim { interface, alternate, rings }
+    Claim { interface, alternate }
 }
 
-fn wrong_rings(rng: &mut Rng, rings: &mut Vec<u64>, record: &Record) {
-    if rings.is_empty() || rng.percent(20) {
-        rings.push(ring(rng));
-        return;
+/// 1 to 64 rings in any order; now and then too few for most claims.
+fn rings(rng: &mut Rng) -> Vec<u64> {
+    let count = if rng.percent(20) { 1 + rng.below(6) } else { 1 + rng.below(64) };
+    let (base, step) = (ring(rng), 16 << rng.below(9));
+    let mut rings: Vec<u64> = (0..count).map(|at| base.wrapping_add(step * at)).filter(|ring| *ring != 0).collect();
+    if rng.percent(60) {
+        for at in 0..rings.len() {
+            let other = rng.index(rings.len());
+            rings.swap(at, other);
+        }
     }
+    rings
+}
+
+/// Rings that break a rule.
+fn wrong_rings(rng: &mut Rng, rings: &mut Vec<u64>) {
     let at = rng.index(rings.len());
     match rng.below(6) {
-        0 => drop(rings.pop()),
-        1 => rings[at] = rings[0],
-        2 => rings[at] = 0,
-        3 => rings[at] |= 1 << rng.below(4),
-        4 => rings[at] = record.control,
-        _ => rings[at] = record.endpoints.first().map_or(0, |e| e.ring),
+        0 => rings.clear(),
+        1 => rings[at] = 0,
+        2 => rings[at] |= 1 << rng.below(4),
+        3 => rings.push(rings[at]),
+        4 => rings.insert(at, rings[0]),
+        _ => *rings = (1..66 + rng.below(3)).map(|at| 16 * at).collect(),
     }
 }
 
@@ -334,12 +384,13 @@ fn disturb(rng: &mut Rng, case: &mut Case) {
     if rng.percent(10) {
         record.endpoints.reverse();
         record.held.reverse();
+        record.given.reverse();
     }
     if !rng.percent(3) {
         return;
     }
     case.genuine = false;
-    match rng.below(12) {
+    match rng.below(16) {
         0 => record.slot = rng.byte() & 15,
         1 => record.n = rng.byte() & 15,
         2 => record.spacing = rng.of(&[0, 32, 33, 64, 128]),
@@ -351,6 +402,13 @@ fn disturb(rng: &mut Rng, case: &mut Case) {
         8 => drop(record.list.pop()),
         9 => record.list.insert(0, rng.next() as u32),
         10 => record.held.push((interface(rng), 0)),
+        11 => record.up = !record.up,
+        12 => record.quarantined.push(record.control),
+        13 => drop(record.given.pop()),
+        14 => {
+            record.given.truncate(GIVEN_ROOM - 1);
+            record.given.push(ring(rng) | rng.below(2));
+        }
         _ => {
             if let Some(e) = record.endpoints.first_mut() {
                 match rng.below(4) {

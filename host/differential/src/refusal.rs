@@ -32,17 +32,33 @@ fn bring_up(args: &BringUp, buffers: &Buffers) -> Option<u8> {
         .or((args.speed == 0 || args.speed > 5).then_some(6))
         .or(list_fault(&args.list).then_some(4))
         .or(chain_fault(args).map(|_| 5))
-        .or((args.ring == 0 || args.ring & 15 != 0).then_some(10))
+        .or(rings_fault(&args.rings).then_some(10))
         .or_else(|| (buffers.routes[own_word] != 0).then_some(17))
 }
 
-/// 12, 1, 2, 3, and 7 of a hub update; 8, 9 and 10 are the original's to tell.
+/// What is wrong with the rings that a slot is given: their number, an address, one that is there twice.
+fn rings_fault(rings: &[u64]) -> bool {
+    let mut sorted = rings.to_vec();
+    sorted.sort();
+    sorted.dedup();
+    rings.is_empty()
+        || rings.len() > 64
+        || sorted.len() != rings.len()
+        || rings.iter().any(|ring| *ring == 0 || ring & 15 != 0)
+}
+
+/// 12, 1, 2, 3, and 7 of a hub update; 8 and 9 are the original's to tell, and 21 is the store's.
 fn on_record(call: &Call, record: &Record, buffers: &Buffers) -> Option<u8> {
-    if !record.usable {
+    if !allowed(call, record) {
         return Some(12);
     }
     let seven = matches!(call, Call::HubUpdate(args) if record.speed == 3 && think_fault(args));
     lengths(buffers, record.spacing, record.n.into()).or(seven.then_some(7))
+}
+
+/// The record's mark for this call: an unplugging asks whether it is up.
+pub fn allowed(call: &Call, record: &Record) -> bool {
+    if matches!(call, Call::Disconnect) { record.up } else { record.usable }
 }
 
 fn lengths(buffers: &Buffers, spacing: usize, n: u32) -> Option<u8> {
@@ -107,7 +123,7 @@ pub fn list_fault(list: &[u32]) -> bool {
     let word_fault = |w: &u32| match w >> 30 {
         0 => w & 0x3F_FFFF != 0,
         1 => w & 0x3FFF != 0,
-        2 => w & 3 != 0 || w >> 25 & 15 == 0 || w >> 23 & 3 == 0 || w >> 25 & 31 == 31,
+        2 => w & 3 != 0 || w >> 25 & 15 == 0 || w >> 23 & 3 == 0,
         _ => true,
     };
     let misplaced = kinds.windows(2).any(|pair| pair == [0, 2]) || kinds.first().is_some_and(|k| *k != 0);

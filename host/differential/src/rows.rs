@@ -18,8 +18,11 @@ pub const CONFIGURE_CODE: &str = "the code of a failed Configure, in a release, 
 pub const RESUME_FAILS_TOO: &str = "a failed Configure whose resume fails too, in a release or a set configuration";
 
 pub const PACKET_EXPONENT: &str = "a packet byte other than 9 at SuperSpeed";
+pub const CONTROL_ROUTE: &str = "control's route in an unplugging";
+pub const FOREIGN_WORD: &str = "a foreign word in an unplugging";
+pub const QUARANTINED_TWICE: &str = "a ring that is in quarantine already";
 
-pub const ALL: [&str; 17] = [
+pub const ALL: [&str; 20] = [
     UNKNOWN_SPEED,
     HUB_MISSING,
     NO_ROOT_HUB,
@@ -37,6 +40,9 @@ pub const ALL: [&str; 17] = [
     CONFIGURE_CODE,
     RESUME_FAILS_TOO,
     PACKET_EXPONENT,
+    CONTROL_ROUTE,
+    FOREIGN_WORD,
+    QUARANTINED_TWICE,
 ];
 
 #[cfg(test)]

@@ -9,8 +9,7 @@ use crate::compare::Pair;
 pub fn size(case: &Case) -> usize {
     let nonzero = |bytes: &[u8]| bytes.iter().filter(|b| **b != 0).count();
     let of_call = match &case.call {
-        Call::BringUp(args) => 8 * (args.list.len() + args.hubs.len()) + args.n as usize,
-        Call::Claim(args) => args.rings.len(),
+        Call::BringUp(args) => 8 * (args.list.len() + args.hubs.len()) + args.rings.len() + args.n as usize,
         _ => 0,
     };
     let routes = case.buffers.routes.iter().filter(|w| **w != 0).count();
@@ -19,6 +18,7 @@ pub fn size(case: &Case) -> usize {
         + nonzero(&case.buffers.outcomes)
         + 2 * routes
         + 8 * (case.record.list.len() + case.record.endpoints.len())
+        + case.record.given.len()
         + case.buffers.ctx.len() / 1000
         + of_call
 }
@@ -63,6 +63,9 @@ fn smaller(case: &Case) -> Vec<Case> {
     for address in case.record.endpoints.iter().map(|e| e.address) {
         with(&|c| without_endpoint(c, address));
     }
+    for at in 0..case.record.given.len() {
+        with(&|c| _ = c.record.given.remove(at));
+    }
     of_call(case, &mut with);
     found
 }
@@ -78,26 +81,17 @@ fn without_endpoint(case: &mut Case, address: u8) {
 type With<'a> = &'a mut dyn FnMut(&dyn Fn(&mut Case));
 
 fn of_call(case: &Case, with: With) {
-    match &case.call {
-        Call::BringUp(args) => {
-            for at in 0..args.list.len() {
-                with(&|c| edit_bring_up(c, |a| _ = a.list.remove(at)));
-            }
-            for at in 0..args.hubs.len() {
-                with(&|c| edit_bring_up(c, |a| a.hubs.truncate(at)));
-            }
-        }
-        Call::Claim(args) => {
-            for at in 0..args.rings.len() {
-                with(&|c| {
-                    if let Call::Claim(a) = &mut c.call {
-                        a.rings.remove(at);
-                    }
-                    c.record.list = without_endpoint_word(&c.record.list, at);
-                });
-            }
-        }
-        _ => {}
+    let Call::BringUp(args) = &case.call else {
+        return;
+    };
+    for at in 0..args.list.len() {
+        with(&|c| edit_bring_up(c, |a| _ = a.list.remove(at)));
+    }
+    for at in 0..args.rings.len() {
+        with(&|c| edit_bring_up(c, |a| _ = a.rings.remove(at)));
+    }
+    for at in 0..args.hubs.len() {
+        with(&|c| edit_bring_up(c, |a| a.hubs.truncate(at)));
     }
 }
 
@@ -105,17 +99,6 @@ fn edit_bring_up(case: &mut Case, edit: impl Fn(&mut scenario::BringUp)) {
     if let Call::BringUp(args) = &mut case.call {
         edit(args);
     }
-}
-
-/// The list without its endpoint word of that number.
-fn without_endpoint_word(list: &[u32], number: usize) -> Vec<u32> {
-    let mut seen = 0;
-    let keep = |w: &&u32| {
-        let endpoint = **w >> 30 == 2;
-        seen += usize::from(endpoint);
-        !endpoint || seen != number + 1
-    };
-    list.iter().filter(keep).copied().collect()
 }
 
 /// The smallest case that can be reached from one by leaving things out, as long as it is wanted.

@@ -11,9 +11,10 @@ use scenario::{Buffers, Call, Record};
 use crate::case::Case;
 use crate::compare::{Done, Pair, Verdict};
 
-/// Calls with these are taken: so many slots, and no more hubs than the program has room for.
+/// Calls with these are taken: so many slots, and no more hubs and rings than the program has room for.
 const SLOTS: usize = 4;
 const HUBS: usize = 16;
+const RINGS: usize = 65;
 const CONTENT: u8 = 0x5A;
 const LOG_WORD: u32 = 0xA500_0000;
 
@@ -31,6 +32,9 @@ impl Store {
     /// Keeps a case that fits, over contents of its own. The program prints arrays as they stand, so both layers
     /// must leave them in rising order.
     pub fn offer(&mut self, pair: &mut Pair, case: &Case, number: u8) {
+        if matches!(case.call, Call::Ask(_) | Call::Commit(_)) {
+            return;
+        }
         let kept = self.kept.entry((case.name(), number)).or_default();
         if kept.len() >= wanted(number) || !fits(case) {
             return;
@@ -58,6 +62,7 @@ impl Store {
             "release" => "replay_release",
             "setconfig" => "replay_set_configuration",
             "hubupdate" => "replay_hub_update",
+            "disconnect" => "replay_disconnect",
             _ => unreachable!("no crate replays {name}"),
         }
     }
@@ -85,13 +90,13 @@ impl Store {
 
 fn fits(case: &Case) -> bool {
     let Buffers { routes, log, outcomes, .. } = &case.buffers;
-    let hubs = match &case.call {
-        Call::BringUp(args) => args.hubs.len(),
-        _ => 0,
+    let roomy = match &case.call {
+        Call::BringUp(args) => args.hubs.len() <= HUBS && args.rings.len() <= RINGS,
+        _ => true,
     };
     let spaced = [1056, 2112].contains(&case.buffers.ctx.len());
     let in_order = case.record == case.record.sorted();
-    spaced && in_order && routes.len() == 32 * (SLOTS + 1) && log.len() == 64 && outcomes.len() <= 64 && hubs <= HUBS
+    spaced && in_order && routes.len() == 32 * (SLOTS + 1) && log.len() == 64 && outcomes.len() <= 64 && roomy
 }
 
 /// The words of a record's image.
@@ -149,17 +154,17 @@ impl Numbers {
     fn call(&mut self, call: &Call) {
         match call {
             Call::BringUp(args) => {
+                self.counted(&args.rings);
                 self.counted(&args.hubs);
                 self.counted(&wide(&args.list));
                 let parent = if args.has_parent { args.parent } else { 0 };
                 let first = [args.slot.into(), args.n.into(), args.speed.into(), args.has_parent.into()];
-                let second = [parent.into(), args.port.into(), args.root_port.into(), args.ring];
+                let second = [parent.into(), args.port.into(), args.root_port.into()];
                 let third = [args.header.into(), args.packet.into(), args.config.into()];
                 first.into_iter().chain(second).chain(third).for_each(|number| self.put(number));
             }
             Call::Claim(args) => {
                 [args.interface, args.alternate].into_iter().for_each(|number| self.put(number.into()));
-                self.counted(&args.rings);
             }
             Call::Release { interface } => self.put((*interface).into()),
             Call::SetConfiguration { value } => self.put((*value).into()),
@@ -167,6 +172,8 @@ impl Numbers {
                 let numbers = [args.ports.into(), args.multi.into(), args.think.into()];
                 numbers.into_iter().for_each(|number| self.put(number));
             }
+            Call::Disconnect => {}
+            Call::Ask(_) | Call::Commit(_) => unreachable!("not kept"),
         }
     }
 }

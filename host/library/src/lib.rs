@@ -3,8 +3,10 @@
 
 pub mod words;
 
-use scenario::{Answer, BringUp, Buffers, Cannot, Claim, Functions, HubUpdate, Layer, Outcome, Record, Reply, proper};
-use xhci_device::{Memory, RawRefusal, SlotId};
+use scenario::{
+    Answer, Asked, BringUp, Buffers, Cannot, Claim, Functions, HubUpdate, Layer, Outcome, Record, Reply, Shown, proper,
+};
+use xhci_device::{Memory, RawRefusal, Setting, SlotId};
 
 pub struct Library;
 
@@ -24,6 +26,16 @@ fn on(record: &Record, call: impl FnOnce(&mut xhci_device::Record) -> (xhci_devi
     Ok((words::record(&record), answer))
 }
 
+fn asked(shown: xhci_device::Asked) -> Asked {
+    Asked {
+        interface: shown.interface(),
+        alternate: shown.alternate(),
+        drops: shown.drop_flags(),
+        adds: shown.add_flags(),
+        rings: shown.rings().to_vec(),
+    }
+}
+
 impl Layer for Library {
     fn bring_up(&mut self, args: &BringUp, buffers: &mut Buffers) -> Outcome {
         let args = xhci_device::BringUp {
@@ -33,7 +45,7 @@ impl Layer for Library {
             parent: args.has_parent.then_some(args.parent as usize),
             port: args.port,
             root_port: args.root_port,
-            ring: args.ring,
+            rings: &args.rings,
             header: args.header as usize,
             packet: args.packet,
             value: args.config,
@@ -45,7 +57,21 @@ impl Layer for Library {
     }
 
     fn claim(&mut self, record: &Record, args: &Claim, buffers: &mut Buffers) -> Outcome {
-        on(record, |r| r.claim(memory(buffers), args.interface, args.alternate, &args.rings))
+        on(record, |r| r.claim(memory(buffers), args.interface, args.alternate))
+    }
+
+    fn ask(&mut self, record: &Record, args: &Claim, buffers: &Buffers) -> Shown {
+        let record = words::image(record).ok_or(Cannot::NoSuchInput)?;
+        let Buffers { ctx, routes, log, .. } = buffers;
+        let shown = proper(|| record.ask(ctx, routes, log, args.interface, args.alternate));
+        let number = shown.as_ref().err().map_or(0, |refused| refused.number());
+        Ok((Answer { number, code: 0, count: 0 }, shown.ok().map(asked)))
+    }
+
+    fn commit(&mut self, record: &Record, asked: &Asked, buffers: &mut Buffers) -> Outcome {
+        let Asked { interface, alternate, drops, adds, rings } = asked;
+        let setting = Setting { interface: *interface, alternate: *alternate };
+        on(record, |r| r.commit_parts(memory(buffers), setting, (*drops, *adds), rings))
     }
 
     fn release(&mut self, record: &Record, interface: u8, buffers: &mut Buffers) -> Outcome {
@@ -58,6 +84,10 @@ impl Layer for Library {
 
     fn hub_update(&mut self, record: &Record, args: &HubUpdate, buffers: &mut Buffers) -> Outcome {
         on(record, |r| r.hub_update(memory(buffers), args.ports, args.multi, args.think))
+    }
+
+    fn disconnect(&mut self, record: &Record, buffers: &mut Buffers) -> Outcome {
+        on(record, |r| r.disconnect(memory(buffers)))
     }
 }
 

@@ -39,12 +39,12 @@ fn answers_have_their_numbers_and_names() {
         assert_eq!(text.trim_end_matches("\";"), words.trim_end_matches(", with code 0"), "{name}");
         count += 1;
     }
-    assert_eq!((count, Answer::of(20, 0)), (21, None));
+    assert_eq!((count, Answer::of(20, 0)), (23, None));
 }
 
 #[test]
 fn operations_have_their_numbers() {
-    for operation in 1..=11 {
+    for operation in 1..=12 {
         let command = Command::of(operation << 28).expect("a command").to_string();
         let name = command.split(' ').next().expect("a name").to_string();
         let is_it = |line: &&str| {
@@ -54,7 +54,7 @@ fn operations_have_their_numbers() {
         let line = HEADER.lines().find(is_it).unwrap_or_else(|| panic!("{name} in the header"));
         assert_eq!(number(line.trim().split(' ').next().expect("a name")), operation as usize);
     }
-    assert_eq!(Command::of(12 << 28), None);
+    assert_eq!(Command::of(13 << 28), None);
 }
 
 #[test]

@@ -99,7 +99,8 @@ impl Context<'_> {
         }
     }
 
-    /// `prepare_configure_context`. The entries are one above the highest Dci of the record and of what is added.
+    /// `prepare_configure_context`. The entries are the highest Dci of what is added and of what the record has and is not
+    /// dropped, 1 where there is neither.
     pub fn configure(
         &mut self,
         setting: (u8, u8),
@@ -119,8 +120,9 @@ impl Context<'_> {
             self.endpoint(added, speed);
         }
         let added = add.iter().map(|added| added.word.dci());
-        let highest = record_dcis.iter().copied().chain(added).max().unwrap_or(1);
-        self.put(SLOT, 0, 27, 5, u32::from(highest) + 1);
+        let staying = record_dcis.iter().copied().filter(|dci| drop.iter().all(|word| word.dci() != *dci));
+        let last = staying.chain(added).max().unwrap_or(1);
+        self.put(SLOT, 0, 27, 5, last.into());
     }
 
     fn endpoint(&mut self, added: &Added, speed: u8) {

@@ -40,6 +40,7 @@ const READ_HEADER: u32 = 8;
 const READ_CONFIGURATION: u32 = 9;
 const READ_DEVICE: u32 = 10;
 const READ_CONFIG: u32 = 11;
+const DISABLE: u32 = 12;
 
 pub struct Course<'a> {
     pub record: Record,
@@ -121,7 +122,7 @@ impl<'a> Course<'a> {
         self.record.endpoints.iter().map(|e| (e.address, e.ring)).collect()
     }
 
-    /// `replace_queues`: everything is tested before anything is written. A word that already holds the ring offered
+    /// `replace_queues`: everything is tested before anything is written. A word that already holds the ring drawn
     /// does not stop it.
     fn replace_queues(&mut self, old: &[u8], new: &BTreeMap<u8, u64>) -> bool {
         let rings = self.rings();
@@ -148,8 +149,10 @@ impl<'a> Course<'a> {
         self.record.n = args.n as u8;
         self.record.spacing = self.buffers.ctx.len() / 33;
         self.record.speed = args.speed;
-        self.record.control = args.ring;
-        self.buffers.routes[32 * usize::from(args.slot) + 1] = args.ring;
+        let ring = args.rings.iter().copied().min().unwrap_or(0);
+        self.record.given = args.rings.clone();
+        self.record.control = ring;
+        self.buffers.routes[32 * usize::from(args.slot) + 1] = ring;
 
         let chain = chain(args).unwrap_or_default();
         let address = Address {
@@ -157,7 +160,7 @@ impl<'a> Course<'a> {
             route: route_string(&chain, args.port),
             root_port: args.root_port,
             translator: translator(&chain, args.speed, args.port),
-            ring: args.ring,
+            ring,
         };
         self.context().address(&address);
         self.send(ADDRESS, 0, 0)?;
@@ -186,13 +189,13 @@ impl<'a> Course<'a> {
 
     /// `_claim_interface`.
     pub fn claim(&mut self, args: &Claim) -> Run {
-        let Claim { interface, alternate, rings } = args;
+        let Claim { interface, alternate } = args;
         let new = self.lookup(*interface, *alternate);
         let old_alternate = self.record.held.iter().find(|h| h.0 == *interface).map(|h| h.1);
         let old_words = old_alternate.map(|a| self.lookup(*interface, a)).unwrap_or_default();
         let old = self.addresses(|e| e.owner == *interface);
-        // Of an address that is listed twice the last ring stays.
-        let pending: BTreeMap<u8, u64> = new.iter().map(EndpointWord::address).zip(rings.iter().copied()).collect();
+        // One for each word, the first word gets the lowest; of an address that is listed twice the last ring stays.
+        let pending: BTreeMap<u8, u64> = new.iter().map(EndpointWord::address).zip(self.record.free()).collect();
 
         self.stop_owned(&old)?;
         let configured = self.configure((*interface, *alternate), &old_words, &new, &pending);
@@ -215,7 +218,7 @@ impl<'a> Course<'a> {
             |(address, ring): (&u8, &u64)| Endpoint { address: *address, ring: *ring, owner: *interface, active: true };
         self.record.endpoints.extend(pending.iter().map(claimed));
         self.record.held.push((*interface, *alternate));
-        self.record = self.record.sorted();
+        self.sort_maps();
         Ok(())
     }
 
@@ -237,7 +240,7 @@ impl<'a> Course<'a> {
         Ok(())
     }
 
-    /// 14 quarantines the rings offered; a cut forgets them.
+    /// 14 quarantines the rings drawn; after a cut they are free.
     fn broken_claim(&mut self, end: Ended, pending: &BTreeMap<u8, u64>) -> Ended {
         let end = broken(end);
         if end.number == 14 {
@@ -260,6 +263,11 @@ impl<'a> Course<'a> {
         stopped
     }
 
+    fn sort_maps(&mut self) {
+        self.record.endpoints.sort_by_key(|e| e.address);
+        self.record.held.sort();
+    }
+
     fn forget(&mut self, interface: u8) {
         self.record.endpoints.retain(|e| e.owner != interface);
         self.record.held.retain(|h| h.0 != interface);
@@ -276,7 +284,7 @@ impl<'a> Course<'a> {
             return Err(INVALID_ENDPOINT);
         }
         self.forget(interface);
-        self.record = self.record.sorted();
+        self.sort_maps();
         Ok(())
     }
 
@@ -323,6 +331,39 @@ impl<'a> Course<'a> {
         let speed = self.record.speed;
         self.context().hub(speed, args.ports, args.multi, think_time(args.think).unwrap_or(0));
         self.send(EVALUATE, 0, 0)
+    }
+
+    /// `_disconnect`, with control's route at Dci 1. A stop that fails does not count; Disable decides.
+    pub fn disconnect(&mut self) -> Run {
+        let old = self.addresses(|_| true);
+        self.record.control_revoked = true;
+        self.set_active(&old, false);
+        for stopped in [1].into_iter().chain(old.iter().map(|address| dci(*address))) {
+            if let Err(CUT_SHORT) = self.send(STOP, stopped, 0).map_err(|end| end.number) {
+                return Err(CUT);
+            }
+        }
+        let disabled = self.send(DISABLE, 0, 0);
+        if let Err(Ended { number: 13, .. }) = disabled {
+            self.quarantine_live(&old);
+        }
+        disabled.map_err(broken)?;
+        let row = 32 * usize::from(self.record.slot);
+        self.buffers.routes[row..row + 32].fill(0);
+        self.record.endpoints.clear();
+        self.record.held.clear();
+        (self.record.usable, self.record.up) = (false, false);
+        Ok(())
+    }
+
+    /// Control's ring, then the endpoints' by rising address; each enters once.
+    fn quarantine_live(&mut self, addresses: &[u8]) {
+        let rings = self.rings();
+        for ring in [self.record.control].into_iter().chain(addresses.iter().map(|address| rings[address])) {
+            if !self.record.quarantined.contains(&ring) {
+                self.record.quarantined.push(ring);
+            }
+        }
     }
 }
 

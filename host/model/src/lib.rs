@@ -1,4 +1,4 @@
-//! The five calls once more, in plain Rust, read from 01 and from docs/DECISIONS.md, not from the Rattle sources: a
+//! The calls once more, in plain Rust, read from 01 and from docs/DECISIONS.md, not from the Rattle sources: a
 //! second reading to hold the library against. docs/BEHAVIOUR.md tells what they do.
 //! The functions outside a slot are read from 02.
 #![forbid(unsafe_code)]
@@ -10,7 +10,7 @@ mod list;
 mod raw;
 mod topology;
 
-use scenario::{Answer, BringUp, Buffers, Claim, Functions, HubUpdate, Layer, Outcome, Record, Reply};
+use scenario::{Answer, Asked, BringUp, Buffers, Claim, Functions, HubUpdate, Layer, Outcome, Record, Reply, Shown};
 
 use course::{Course, Ended};
 
@@ -39,6 +39,7 @@ impl Layer for Model {
         let mut course = Course::new(Record::default(), buffers);
         let result = course.bring_up(args);
         course.record.usable = result.is_ok();
+        course.record.up = result.is_ok();
         ended(course, result)
     }
 
@@ -49,6 +50,23 @@ impl Layer for Model {
         let mut course = Course::new(record.clone(), buffers);
         let result = course.claim(args);
         ended(course, result)
+    }
+
+    /// "Runs the checks, changes nothing."
+    fn ask(&mut self, record: &Record, args: &Claim, buffers: &Buffers) -> Shown {
+        let checked = check::record(record, buffers).and_then(|()| check::claim(record, args));
+        let number = checked.err().unwrap_or(0);
+        let asked = (number == 0).then(|| check::ask_of(record, args.interface, args.alternate));
+        Ok((Answer { number, code: 0, count: 0 }, asked))
+    }
+
+    /// "Runs the commands."
+    fn commit(&mut self, record: &Record, asked: &Asked, buffers: &mut Buffers) -> Outcome {
+        if let Err(number) = check::record(record, buffers).and_then(|()| check::commit(record, asked)) {
+            return refused(number, record.clone());
+        }
+        let Asked { interface, alternate, .. } = *asked;
+        self.claim(record, &Claim { interface, alternate }, buffers)
     }
 
     fn release(&mut self, record: &Record, interface: u8, buffers: &mut Buffers) -> Outcome {
@@ -75,6 +93,15 @@ impl Layer for Model {
         }
         let mut course = Course::new(record.clone(), buffers);
         let result = course.hub_update(args);
+        ended(course, result)
+    }
+
+    fn disconnect(&mut self, record: &Record, buffers: &mut Buffers) -> Outcome {
+        if let Err(number) = check::disconnect(record, buffers) {
+            return refused(number, record.clone());
+        }
+        let mut course = Course::new(record.clone(), buffers);
+        let result = course.disconnect();
         ended(course, result)
     }
 }

@@ -57,7 +57,7 @@ pub fn word(word: u32) -> Option<Word> {
                 packets: bits(word, 20, 2),
                 interval: bits(word, 22, 8) as u8,
             };
-            if endpoint.number == 0 || endpoint.kind == 0 || endpoint.address() == 0x8F {
+            if endpoint.number == 0 || endpoint.kind == 0 {
                 return None;
             }
             (Word::Endpoint(endpoint), 30)

@@ -234,9 +234,11 @@ fn list_rules_give_4() {
     let endpoints = |count: u8| of(1, [interface(0, 0, count), ENDPOINT.repeat(count.into())].concat());
     assert_eq!(valued(read(&endpoints(30))), Ok(32));
     assert_eq!(valued(read(&endpoints(31))), Err(4));
-    for address in [0, 0x80, 0x8F] {
-        assert_eq!(read(&of(1, [interface(0, 0, 1), endpoint(address, 2, 8, 0)].concat())), Err(4));
+    let one = |address: u8| of(1, [interface(0, 0, 1), endpoint(address, 2, 8, 0)].concat());
+    for address in [0, 0x80] {
+        assert_eq!(read(&one(address)), Err(4));
     }
+    assert_eq!(valued(read(&one(0x8F))), Ok(3));
     assert_eq!(read(&of(1, [interface(0, 0, 1), endpoint(0x81, 0, 8, 0)].concat())), Err(4));
     assert_eq!(read(&ENDPOINT), Err(4));
     assert_eq!(read(&of(0, ENDPOINT.to_vec())), Err(4));

@@ -62,7 +62,7 @@ pub async fn send(word: u32) -> Result<(), TransferError> {
     }
 }
 
-/// The next ring offered, 0 if there are too few.
+/// The next ring that may be drawn, 0 if there are too few.
 pub fn next_ring() -> u64 {
     SCRIPT.with_borrow_mut(|script| {
         script.rings_taken += 1;

@@ -44,8 +44,6 @@ pub struct Hardware {
     output: u64,
     /// The blocks that the controller has taken, by Dci; 0 is the slot's. None: not enabled.
     pub taken: [Option<Block>; 32],
-    /// The highest Dci among those that the last Configure added and the record's, given up ones included.
-    pub highest_known: u8,
     /// Byte 7 of the device descriptor.
     pub packet_byte: u8,
     /// The configuration descriptors as they were read.
@@ -68,7 +66,6 @@ impl Hardware {
             input,
             output,
             taken: [None; 32],
-            highest_known: 0,
             packet_byte: 0,
             configurations: vec![],
             invented: &[],
@@ -134,6 +131,7 @@ impl<'a> Wire<'a> {
             Command::ReadConfiguration => self.request([0x80, 8, 0, 0, 0, 0, 1, 0], due),
             Command::ReadDevice => self.request([0x80, 6, 0, 1, 0, 0, 18, 0], due),
             Command::ReadConfig(index) => self.read_configuration(index, due),
+            Command::Disable => done(self.controller.disable_slot(slot, routes)),
         }
     }
 
@@ -155,18 +153,13 @@ impl<'a> Wire<'a> {
         let code = self.controller.context_command(kind, self.hardware.input, self.hardware.slot, due.routes);
         if code == SUCCESS {
             let written = spoilt.is_some_and(|spoilt| spoilt.written);
-            self.take(due, if written { &bytes } else { due.ctx });
+            self.take(if written { &bytes } else { due.ctx });
         }
         code
     }
 
     /// What the controller has by now: the blocks that the context flags.
-    fn take(&mut self, due: &Due<'_>, ctx: &[u8]) {
-        if due.command == Command::Configure {
-            let recorded = due.record.endpoints().map(|endpoint| endpoint.dci());
-            let highest = due.added().chain(recorded).max().unwrap_or(Dci::CONTROL);
-            self.hardware.highest_known = highest.0;
-        }
+    fn take(&mut self, ctx: &[u8]) {
         let [drop, add] = words_of(ctx);
         for i in (2..32).filter(|i| drop >> i & 1 != 0) {
             self.hardware.taken[i] = None;

@@ -34,7 +34,7 @@ pub const SILENT: u8 = 254;
 
 /// Commands (xHCI 1.2, table 6-91).
 pub const ENABLE_SLOT: u32 = 9;
-pub const DISABLE_SLOT: u32 = 10;
+const DISABLE_SLOT: u32 = 10;
 pub const ADDRESS_DEVICE: u32 = 11;
 pub const CONFIGURE_ENDPOINT: u32 = 12;
 pub const EVALUATE_CONTEXT: u32 = 13;
@@ -353,6 +353,10 @@ impl Controller {
     pub fn idle(&mut self, routes: &[u64]) {
         sleep(Duration::from_millis(30));
         self.take_events(routes);
+    }
+
+    pub fn disable_slot(&mut self, slot: SlotId, routes: &[u64]) -> u8 {
+        self.command([0, 0, 0, DISABLE_SLOT << 10 | u32::from(slot.0) << 24], routes).0
     }
 
     /// Enable Slot: the slot, and its output context, which the controller knows from now on.

@@ -3,10 +3,9 @@
 use std::collections::BTreeMap;
 
 /// Departures that are known: rows of docs/DIFFERENCES.md by name. One that no longer occurs is to be removed.
-pub const ENTRIES: &str = "context entries one high";
 pub const LOOKUP: &str = "lookup outside the active configuration";
 pub const HUB_FIELDS: &str = "hub fields leave no trace";
-pub const DEPARTURES: [&str; 3] = [ENTRIES, LOOKUP, HUB_FIELDS];
+pub const DEPARTURES: [&str; 2] = [LOOKUP, HUB_FIELDS];
 
 /// By what a fault was noticed.
 #[derive(Clone, Copy, Debug, PartialEq, Eq, PartialOrd, Ord)]

@@ -7,10 +7,10 @@ use std::time::Duration;
 use xhci_device::{Answer, Attached, Call, Command, Dci, Hub, Pending, Record, SlotId, route_index};
 
 use crate::bus::{Hardware, Wire};
-use crate::controller::{Controller, DISABLE_SLOT, SUCCESS};
+use crate::controller::{Controller, SUCCESS};
 use crate::descriptors;
 use crate::findings::{Findings, Kind, LOOKUP};
-use crate::scenario::{Action, At, Key, Rings, Scenario};
+use crate::scenario::{Action, At, Key, Scenario};
 use crate::seen::{Place, Seen};
 use crate::text;
 
@@ -19,6 +19,9 @@ const PATIENCE: Duration = Duration::from_secs(20);
 
 const STOPPED: u8 = 26;
 
+/// How many rings a slot is given: for control, and for the old and the new setting of a claim.
+const GIVEN: usize = 9;
+
 /// A device with its record.
 struct Device {
     record: Record,
@@ -26,8 +29,6 @@ struct Device {
     hardware: Hardware,
     at: At,
     speed: u8,
-    /// The rings of the last claim.
-    rings: Vec<u64>,
     /// A transfer that nothing ends: Dci and TRB.
     pending: Option<(Dci, u64)>,
 }
@@ -56,14 +57,12 @@ pub fn play(scenario: &Scenario, notes: bool) -> io::Result<Rig> {
 fn call_text(call: &Call<'_>) -> String {
     match call {
         Call::BringUp(_) => "bring-up".into(),
-        Call::Claim { interface, alternate, rings } => {
-            let rings: Vec<String> = rings.iter().map(|ring| format!("{ring:x}")).collect();
-            let rings = if rings.is_empty() { "none".into() } else { rings.join(" ") };
-            format!("claim of interface {interface}, alternate {alternate}, rings {rings}")
-        }
+        Call::Claim { interface, alternate } => format!("claim of interface {interface}, alternate {alternate}"),
+        Call::Commit(asked) => format!("commit of interface {}, alternate {}", asked.interface(), asked.alternate()),
         Call::Release { interface } => format!("release of interface {interface}"),
         Call::SetConfiguration { value } => format!("set configuration {value}"),
         Call::HubUpdate { ports, .. } => format!("hub update, {ports} ports"),
+        Call::Disconnect => "unplugging".into(),
     }
 }
 
@@ -88,8 +87,8 @@ impl Rig {
             Action::BringUpWith(at, speed, invented) => {
                 self.bring_up(at, speed, Answer::Accepted, invented, prepared);
             }
-            Action::Claim(interface, alternate, rings, answer) => {
-                self.claim(device, interface, alternate, rings, answer);
+            Action::Claim(interface, alternate, answer) => {
+                self.claim(device, interface, alternate, answer);
             }
             Action::Release(interface, answer) => self.call(device, Call::Release { interface }, answer),
             Action::SetConfiguration(value, answer) => {
@@ -113,6 +112,7 @@ impl Rig {
             Action::StallConfiguration(stalls) => self.devices[device].hardware.stalls_configuration = stalls,
             Action::Pull(id, code) => self.pull(device, id, code),
             Action::Disable => self.disable(device),
+            Action::Disconnect => self.disconnect(device),
         }
     }
 
@@ -144,12 +144,13 @@ impl Rig {
         let mut hardware = Hardware::new(&mut self.controller, &self.routes);
         hardware.invented = invented;
         prepared(&mut hardware);
-        let (slot, n, ring) = (hardware.slot, self.controller.slots, self.controller.ring());
+        let (slot, n) = (hardware.slot, self.controller.slots);
+        let rings = [(); GIVEN].map(|()| self.controller.ring());
         let ctx = vec![0; 33 * self.controller.spacing];
         let record = Record::new();
-        self.devices.push(Device { record, ctx, hardware, at, speed, rings: vec![], pending: None });
+        self.devices.push(Device { record, ctx, hardware, at, speed, pending: None });
         let (hubs, parent, port, root_port) = self.way(at);
-        let attached = Attached { slot, n, speed, parent: Some(parent), port, root_port, ring, hubs: &hubs };
+        let attached = Attached { slot, n, speed, parent: Some(parent), port, root_port, rings: &rings, hubs: &hubs };
         self.call(self.devices.len() - 1, Call::BringUp(attached), answer);
     }
 
@@ -210,14 +211,9 @@ impl Rig {
         }
     }
 
-    fn claim(&mut self, device: usize, interface: u8, alternate: u8, rings: Rings, answer: Answer) {
-        let rings = match rings {
-            Rings::New(count) => (0..count).map(|_| self.controller.ring()).collect(),
-            Rings::Same => self.devices[device].rings.clone(),
-        };
-        self.call(device, Call::Claim { interface, alternate, rings: &rings }, answer);
+    fn claim(&mut self, device: usize, interface: u8, alternate: u8, answer: Answer) {
+        self.call(device, Call::Claim { interface, alternate }, answer);
         if answer == Answer::Accepted {
-            self.devices[device].rings = rings;
             self.check_setting(device, interface, alternate);
         }
     }
@@ -439,11 +435,25 @@ impl Rig {
         self.check_events();
     }
 
-    /// Disable Slot, and the slot's routes cleared.
+    /// The unplugging: the controller has nothing left of the slot, and the slot no route.
+    fn disconnect(&mut self, device: usize) {
+        self.call(device, Call::Disconnect, Answer::Accepted);
+        let hardware = &self.devices[device].hardware;
+        let controller = &mut self.controller;
+        let enabled = |dci: &u8| hardware.endpoint(controller, Dci(*dci)).state != 0;
+        let left: Vec<u8> = (1..32).filter(enabled).collect();
+        self.findings.check(Kind::Enabled, left.is_empty(), || format!("Dcis {left:?} are enabled"));
+        let own = &self.routes[route_index(hardware.slot, Dci(0))..][..32];
+        self.findings.check(Kind::Enabled, own.iter().all(|ring| *ring == 0), || "a route is left".into());
+        self.controller.idle(&self.routes);
+        self.check_events();
+    }
+
+    /// Disable Slot, and the slot's routes cleared: after a bring-up that failed.
     fn disable(&mut self, device: usize) {
         let slot = self.devices[device].hardware.slot;
         self.at(format!("Disable Slot {}", slot.0));
-        let (code, _) = self.controller.command([0, 0, 0, DISABLE_SLOT << 10 | u32::from(slot.0) << 24], &self.routes);
+        let code = self.controller.disable_slot(slot, &self.routes);
         self.routes[route_index(slot, Dci(0))..][..32].fill(0);
         self.findings.check(Kind::Device, code == SUCCESS, || format!("code {code}"));
         self.controller.idle(&self.routes);

@@ -6,7 +6,6 @@ use Action::*;
 use Answer::{Accepted, Failed};
 use At::*;
 use Key::*;
-use Rings::*;
 
 pub struct Scenario {
     pub name: &'static str,
@@ -25,14 +24,6 @@ pub enum At {
     EmptyRoot(u8),
     Hub(usize, u8),
     EmptyHub(usize, u8),
-}
-
-/// The rings that a claim offers.
-#[derive(Clone, Copy)]
-pub enum Rings {
-    New(usize),
-    /// Those of the claim before, as they were left.
-    Same,
 }
 
 #[derive(Clone, Copy)]
@@ -60,7 +51,7 @@ pub enum Action {
     /// With descriptors that the device does not have.
     BringUpWith(At, u8, &'static [u8]),
     /// Interface, alternate.
-    Claim(u8, u8, Rings, Answer),
+    Claim(u8, u8, Answer),
     Release(u8, Answer),
     SetConfiguration(u8, Answer),
     /// With so many ports.
@@ -86,8 +77,10 @@ pub enum Action {
     StallConfiguration(bool),
     /// The device of this id is pulled; what waited ends with a code.
     Pull(&'static str, Option<u8>),
-    /// Disable Slot.
+    /// Disable Slot, without a call: after a bring-up that failed.
     Disable,
+    /// The unplugging.
+    Disconnect,
 }
 
 const FULL: u8 = 1;
@@ -112,22 +105,22 @@ pub const SCENARIOS: &[Scenario] = &[
         qemu: &["-device", "usb-kbd,port=1"],
         steps: &[
             (0, BringUp(Root(5), HIGH, Accepted)),
-            (0, Claim(0, 0, New(1), Accepted)),
+            (0, Claim(0, 0, Accepted)),
             (0, Type(IN1, A)),
             (0, Wait(IN1)),
             (0, Release(0, Accepted)),
             (0, Silence(IN1, B)),
-            (0, Claim(0, 0, New(1), Accepted)),
+            (0, Claim(0, 0, Accepted)),
             (0, Type(IN1, C)),
             (0, Wait(IN1)),
-            (0, Claim(0, 0, New(1), Accepted)),
+            (0, Claim(0, 0, Accepted)),
             (0, Type(IN1, D)),
             (0, Wait(IN1)),
             (0, SetConfiguration(1, Accepted)),
             (0, Silence(IN1, A)),
             (0, SetConfiguration(0, Accepted)),
             (0, SetConfiguration(1, Accepted)),
-            (0, Claim(0, 0, Same, Accepted)),
+            (0, Claim(0, 0, Accepted)),
             (0, Type(IN1, B)),
         ],
     },
@@ -137,11 +130,11 @@ pub const SCENARIOS: &[Scenario] = &[
         qemu: &["-device", "usb-kbd,port=1,usb_version=1"],
         steps: &[
             (0, BringUp(Root(5), FULL, Accepted)),
-            (0, Claim(0, 0, New(1), Accepted)),
+            (0, Claim(0, 0, Accepted)),
             (0, Type(IN1, A)),
             (0, Release(0, Accepted)),
             (0, Silence(IN1, B)),
-            (0, Claim(0, 0, Same, Accepted)),
+            (0, Claim(0, 0, Accepted)),
             (0, Type(IN1, C)),
         ],
     },
@@ -151,11 +144,11 @@ pub const SCENARIOS: &[Scenario] = &[
         qemu: &["-device", "usb-kbd,port=1"],
         steps: &[
             (0, BringUp(Root(5), HIGH, Accepted)),
-            (0, Claim(0, 0, New(1), Accepted)),
+            (0, Claim(0, 0, Accepted)),
             (0, Type(IN1, A)),
             (0, Wait(IN1)),
             (0, LendDropFlags(1)),
-            (0, Claim(0, 0, New(1), Failed(TRB_ERROR))),
+            (0, Claim(0, 0, Failed(TRB_ERROR))),
             (0, Type(IN1, B)),
             (0, LendDropFlags(1)),
             (0, Release(0, Failed(TRB_ERROR))),
@@ -174,14 +167,14 @@ pub const SCENARIOS: &[Scenario] = &[
         qemu: &["-device", "usb-kbd,port=1"],
         steps: &[
             (0, BringUpWith(Root(5), HIGH, ALTERNATE)),
-            (0, Claim(0, 0, New(1), Accepted)),
+            (0, Claim(0, 0, Accepted)),
             (0, Type(IN1, A)),
             (0, Wait(IN1)),
-            (0, Claim(0, 1, New(1), Failed(STALL))),
+            (0, Claim(0, 1, Failed(STALL))),
             (0, Type(IN1, B)),
             (0, Release(0, Accepted)),
             (0, Silence(IN1, C)),
-            (0, Claim(0, 0, Same, Accepted)),
+            (0, Claim(0, 0, Accepted)),
             (0, Type(IN1, D)),
         ],
     },
@@ -191,7 +184,7 @@ pub const SCENARIOS: &[Scenario] = &[
         qemu: &["-device", "usb-kbd,port=1"],
         steps: &[
             (0, BringUp(Root(5), HIGH, Accepted)),
-            (0, Claim(0, 0, New(1), Accepted)),
+            (0, Claim(0, 0, Accepted)),
             (0, Type(IN1, A)),
             (0, Wait(IN1)),
             (0, StallConfiguration(true)),
@@ -222,9 +215,9 @@ pub const SCENARIOS: &[Scenario] = &[
             (0, BringUp(Root(5), HIGH, Accepted)),
             (1, BringUp(Root(5), HIGH, Failed(TRB_ERROR))),
             (1, Disable),
-            (0, Disable),
+            (0, Disconnect),
             (2, BringUp(Root(5), HIGH, Accepted)),
-            (2, Claim(0, 0, New(1), Accepted)),
+            (2, Claim(0, 0, Accepted)),
             (2, Type(IN1, A)),
         ],
     },
@@ -234,13 +227,30 @@ pub const SCENARIOS: &[Scenario] = &[
         qemu: &["-device", "usb-kbd,id=k,port=1"],
         steps: &[
             (0, BringUp(Root(5), HIGH, Accepted)),
-            (0, Claim(0, 0, New(1), Accepted)),
+            (0, Claim(0, 0, Accepted)),
             (0, Type(IN1, A)),
             (0, Wait(IN1)),
             (0, Pull("k", None)),
             (0, Release(0, Accepted)),
-            (0, Claim(0, 0, New(1), Failed(SILENT))),
-            (0, Disable),
+            (0, Claim(0, 0, Failed(SILENT))),
+            (0, Disconnect),
+        ],
+    },
+    Scenario {
+        name: "unplugged",
+        what: "the slot is disabled while a transfer waits, and used again",
+        qemu: &["-device", "usb-kbd,port=1"],
+        steps: &[
+            (0, BringUp(Root(5), HIGH, Accepted)),
+            (0, Claim(0, 0, Accepted)),
+            (0, Type(IN1, A)),
+            (0, Wait(IN1)),
+            (0, Disconnect),
+            (0, Silence(IN1, B)),
+            (1, BringUp(Root(5), HIGH, Accepted)),
+            (1, Claim(0, 0, Accepted)),
+            (1, Type(IN1, C)),
+            (1, Disconnect),
         ],
     },
     Scenario {
@@ -259,14 +269,14 @@ pub const SCENARIOS: &[Scenario] = &[
         steps: &[
             (0, BringUp(Root(5), FULL, Accepted)),
             (0, HubUpdate(8)),
-            (0, Claim(0, 0, New(1), Accepted)),
+            (0, Claim(0, 0, Accepted)),
             (1, BringUp(Hub(0, 3), FULL, Accepted)),
-            (1, Claim(0, 0, New(1), Accepted)),
+            (1, Claim(0, 0, Accepted)),
             (1, Type(IN1, A)),
             (2, BringUp(Hub(0, 2), FULL, Accepted)),
             (2, HubUpdate(8)),
             (3, BringUp(Hub(2, 4), FULL, Accepted)),
-            (3, Claim(0, 0, New(1), Accepted)),
+            (3, Claim(0, 0, Accepted)),
             (3, Point(IN1)),
             (1, Type(IN1, B)),
             (3, Release(0, Accepted)),
@@ -279,17 +289,17 @@ pub const SCENARIOS: &[Scenario] = &[
         qemu: &["-audiodev", "none,id=a", "-device", "usb-audio,audiodev=a,port=1,multi=on"],
         steps: &[
             (0, BringUp(Root(5), FULL, Accepted)),
-            (0, Claim(0, 0, New(0), Accepted)),
-            (0, Claim(1, 0, New(0), Accepted)),
-            (0, Claim(1, 1, New(1), Accepted)),
+            (0, Claim(0, 0, Accepted)),
+            (0, Claim(1, 0, Accepted)),
+            (0, Claim(1, 1, Accepted)),
             (0, Stream(OUT1, 192)),
-            (0, Claim(1, 2, New(1), Accepted)),
+            (0, Claim(1, 2, Accepted)),
             (0, Stream(OUT1, 576)),
-            (0, Claim(1, 3, New(1), Accepted)),
+            (0, Claim(1, 3, Accepted)),
             (0, Stream(OUT1, 768)),
-            (0, Claim(1, 1, New(1), Accepted)),
+            (0, Claim(1, 1, Accepted)),
             (0, Stream(OUT1, 192)),
-            (0, Claim(1, 0, New(0), Accepted)),
+            (0, Claim(1, 0, Accepted)),
             (0, Release(1, Accepted)),
             (0, SetConfiguration(1, Accepted)),
         ],
@@ -300,12 +310,12 @@ pub const SCENARIOS: &[Scenario] = &[
         qemu: &["-netdev", "hubport,id=n,hubid=0", "-device", "usb-net,netdev=n,port=1"],
         steps: &[
             (0, BringUp(Root(5), FULL, Accepted)),
-            (0, Claim(0, 0, New(1), Accepted)),
-            (0, Claim(1, 0, New(2), Accepted)),
+            (0, Claim(0, 0, Accepted)),
+            (0, Claim(1, 0, Accepted)),
             (0, SetConfiguration(1, Accepted)),
-            (0, Claim(1, 0, New(2), Accepted)),
+            (0, Claim(1, 0, Accepted)),
             (0, Release(1, Accepted)),
-            (0, Claim(1, 1, New(2), Accepted)),
+            (0, Claim(1, 1, Accepted)),
         ],
     },
     Scenario {
@@ -314,10 +324,10 @@ pub const SCENARIOS: &[Scenario] = &[
         qemu: &["-global", "qemu-xhci.p3=0", "-blockdev", DISK, "-device", "usb-storage,drive=d,port=2"],
         steps: &[
             (0, BringUp(Root(2), HIGH, Accepted)),
-            (0, Claim(0, 0, New(2), Accepted)),
+            (0, Claim(0, 0, Accepted)),
             (0, Inquire { out: OUT2, into: IN1 }),
             (0, Release(0, Accepted)),
-            (0, Claim(0, 0, Same, Accepted)),
+            (0, Claim(0, 0, Accepted)),
             (0, Inquire { out: OUT2, into: IN1 }),
         ],
     },
@@ -327,10 +337,10 @@ pub const SCENARIOS: &[Scenario] = &[
         qemu: &["-blockdev", DISK, "-device", "usb-storage,drive=d,port=2"],
         steps: &[
             (0, BringUp(Root(2), SUPER, Accepted)),
-            (0, Claim(0, 0, New(2), Accepted)),
+            (0, Claim(0, 0, Accepted)),
             (0, Inquire { out: OUT2, into: IN1 }),
             (0, Release(0, Accepted)),
-            (0, Claim(0, 0, Same, Accepted)),
+            (0, Claim(0, 0, Accepted)),
             (0, Inquire { out: OUT2, into: IN1 }),
         ],
     },
@@ -347,9 +357,9 @@ pub const SCENARIOS: &[Scenario] = &[
         ],
         steps: &[
             (0, BringUp(Root(2), SUPER, Accepted)),
-            (0, Claim(0, 0, New(4), Accepted)),
+            (0, Claim(0, 0, Accepted)),
             (0, Release(0, Accepted)),
-            (0, Claim(0, 0, New(4), Accepted)),
+            (0, Claim(0, 0, Accepted)),
         ],
     },
 ];

@@ -6,7 +6,7 @@ use crate::block::{Endpoint, Slot};
 use crate::bus::Hardware;
 use crate::controller::{Controller, TRBS};
 use crate::descriptors;
-use crate::findings::{ENTRIES, Findings, HUB_FIELDS, Kind};
+use crate::findings::{Findings, HUB_FIELDS, Kind};
 use crate::text;
 
 /// Where a device is, by our own reading.
@@ -106,8 +106,8 @@ impl<'a> Seen<'a> {
         let none = theirs == [0; 4];
         findings.check_but(HUB_FIELDS, mine == theirs, none, || format!("hub fields {theirs:?}, given {mine:?}"));
         let (entries, highest) = (self.slot.entries, self.enabled.last().copied().unwrap_or(0) as u32);
-        let one_high = entries == u32::from(self.hardware.highest_known) + 1;
-        findings.check_but(ENTRIES, entries == highest, one_high, || format!("entries {entries}, last Dci {highest}"));
+        let ends = entries == highest;
+        findings.check(Kind::Descriptor, ends, || format!("entries {entries}, last Dci {highest}"));
     }
 
     /// Each held endpoint is as the device's own descriptor asks, in the alternate that is held.

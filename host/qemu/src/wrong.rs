@@ -7,7 +7,7 @@ use xhci_device::{Answer, Command};
 use crate::bus::{Careless, Hardware, Spoilt};
 use crate::findings::Kind::{self, *};
 use crate::rig::Rig;
-use crate::scenario::{Action, At, Key, Rings, SCENARIOS, Scenario};
+use crate::scenario::{Action, At, Key, SCENARIOS, Scenario};
 
 /// Something wrong, the scenario that it is made wrong in, and by what it is noticed there: for a field twice, when it is
 /// spoilt on its way to the controller, and when the library itself has written it so.
@@ -31,7 +31,7 @@ const SHORT: Scenario = Scenario {
     qemu: &["-device", "usb-kbd,port=1"],
     steps: &[
         (0, Action::BringUp(At::Root(5), 3, Answer::Accepted)),
-        (0, Action::Claim(0, 0, Rings::New(1), Answer::Accepted)),
+        (0, Action::Claim(0, 0, Answer::Accepted)),
         (0, Action::Type(xhci_device::Dci(3), Key::A)),
     ],
 };
@@ -83,7 +83,7 @@ pub const WRONGS: &[Wrong] = &[
     field("Configure: no add flag 0", Command::Configure, 1, !1, 0, &[&[Answer], &[Answer]]),
     field("Configure: add flag 1", Command::Configure, 1, ALL, 1 << 1, &[&[Answer], &[Answer]]),
     field("Configure: no add flag 3", Command::Configure, 1, !(1 << 3), 0, &[&[Descriptor, Enabled], &[Descriptor, Enabled]]),
-    field("Configure: add flag 4 too", Command::Configure, 1, ALL, 1 << 4, &[&[Context, Enabled], &[Context, Enabled]]),
+    field("Configure: add flag 4 too", Command::Configure, 1, ALL, 1 << 4, &[&[Context, Descriptor, Enabled], &[Context, Descriptor, Enabled]]),
     field("Configure: entries 0", Command::Configure, SLOT, !(31 << 27), 0, &[&[Context, Descriptor], &[Context, Descriptor]]),
     field("Configure: entries 31", Command::Configure, SLOT, ALL, 31 << 27, &[&[Context, Descriptor], &[Context, Descriptor]]),
     field("Configure: speed 1 for 3", Command::Configure, SLOT, !(15 << 20), 1 << 20, &[&[], &[Context]]),

@@ -68,14 +68,14 @@ struct Asked {
 impl Asked {
     /// Runs a call and adds what it left to the text.
     fn call(&mut self, session: &mut Session, step: &Step, text: &mut String) {
-        let (record, given) = session.prepare(step);
+        let (call, record, given) = session.prepare(step);
         let mut buffers = given.clone();
-        match self.layer.call(&record, &step.call, &mut buffers) {
+        match self.layer.called(&record, &call, &mut buffers) {
             Err(cannot) => text.push_str(&format!("no answer: {cannot:?}\n.\n")),
-            Ok((returned, answer)) => {
-                let left = session.settle(returned, answer, buffers);
+            Ok(called) => {
+                let left = session.settle(&call, called, buffers);
                 if self.explain {
-                    let given = Given { call: &step.call, record: &record, buffers: &given };
+                    let given = Given { call: &call, record: &record, buffers: &given };
                     explain_text(text, &mut *self.layer, &given, &left);
                 } else {
                     left_text(text, &left);

@@ -1,4 +1,4 @@
-//! What is printed for people: the refusals with their word, owner or ring.
+//! What is printed for people: the refusals with their word, owner, ring or number of rings.
 
 use std::process::Command;
 
@@ -57,7 +57,7 @@ fn a_word_is_named_exactly_where_the_list_is_refused() {
     for _ in 0..20_000 {
         let list = if rng.below(50) == 0 { vec![0x4000_0000; rng.below(300) as usize] } else { list(&mut rng) };
         let list = if rng.below(50) == 0 { [vec![0], list.repeat(4)].concat() } else { list };
-        let args = BringUp { slot: 1, n: 1, speed: 3, ring: 16, list, ..BringUp::default() };
+        let args = BringUp { slot: 1, n: 1, speed: 3, rings: vec![16], list, ..BringUp::default() };
         let call = Call::BringUp(args);
         let number = answer(&call, &Record::default());
         assert_eq!(reason(4, &call, &Record::default()).is_some(), number == 4, "{call:?}");
@@ -66,11 +66,31 @@ fn a_word_is_named_exactly_where_the_list_is_refused() {
     assert!((2_000..18_000).contains(&refused), "{refused}");
 }
 
+/// A ring, or the number of them, is named exactly where a bring-up is refused for it.
+#[test]
+fn a_given_ring_is_named_exactly_where_one_is_refused() {
+    let mut rng = Rng(3);
+    let mut refused = 0;
+    for _ in 0..5_000 {
+        let mut rings: Vec<u64> = (0..rng.below(70)).map(|at| 0x1000 + 16 * at).collect();
+        if rng.below(2) == 0 && !rings.is_empty() {
+            let at = rng.below(rings.len() as u64) as usize;
+            rings[at] = [0, 0x1000, 0x1010, 0x1008, 0x9000][rng.below(5) as usize];
+        }
+        let call = Call::BringUp(BringUp { slot: 1, n: 1, speed: 3, rings, ..BringUp::default() });
+        let number = answer(&call, &Record::default());
+        assert_eq!(reason(10, &call, &Record::default()).is_some(), number == 10, "{call:?}");
+        refused += u32::from(number == 10);
+    }
+    assert!((500..4_500).contains(&refused), "{refused}");
+}
+
 /// A record that holds 0x81 for interface 0, and claims of interface 1, which has 0x81 and 0x02, or 0x02 alone.
 #[test]
-fn an_owner_or_a_ring_is_named_exactly_where_one_is_refused() {
+fn an_owner_or_the_rings_are_named_exactly_where_a_claim_is_refused() {
     let record = Record {
         usable: true,
+        up: true,
         slot: 1,
         n: 1,
         spacing: 32,
@@ -90,20 +110,20 @@ fn an_owner_or_a_ring_is_named_exactly_where_one_is_refused() {
         held: vec![(0, 0)],
         ..Record::default()
     };
-    let mut rng = Rng(2);
     let mut met = [0; 256];
-    for _ in 0..5_000 {
-        let ring = |rng: &mut Rng| [0, 0x1000, 0x2000, 0x2008, 0x3000, 0x4000][rng.below(6) as usize];
-        let rings: Vec<u64> = (0..rng.below(4)).map(|_| ring(&mut rng)).collect();
-        let args = Claim { interface: rng.below(2) as u8, alternate: rng.below(2) as u8, rings };
-        let call = Call::Claim(args);
-        let number = answer(&call, &record);
-        assert_eq!(reason(9, &call, &record).is_some(), number == 9, "{call:?}");
-        // 8 and 9 come before it.
-        if !matches!(number, 8 | 9) {
-            assert_eq!(reason(10, &call, &record).is_some(), number == 10, "{call:?}");
+    for free in 0..3 {
+        let given = (1..=2 + free).map(|at| 0x1000 * at).collect();
+        let record = Record { given, ..record.clone() };
+        for place in 0..4 {
+            let call = Call::Claim(Claim { interface: place / 2, alternate: place % 2 });
+            let number = answer(&call, &record);
+            assert_eq!(reason(9, &call, &record).is_some(), number == 9, "{call:?}");
+            // 8 and 9 come before it.
+            if !matches!(number, 8 | 9) {
+                assert_eq!(reason(21, &call, &record).is_some(), number == 21, "{call:?}");
+            }
+            met[usize::from(number)] += 1;
         }
-        met[usize::from(number)] += 1;
     }
-    assert!(met[8] > 0 && met[9] > 0 && met[10] > 0 && met[15] > 0, "{met:?}");
+    assert!(met[8] > 0 && met[9] > 0 && met[21] > 0 && met[15] > 0, "{met:?}");
 }

@@ -13,6 +13,8 @@ pub struct Endpoint {
 #[derive(Clone, Debug, Default, PartialEq, Eq)]
 pub struct Record {
     pub usable: bool,
+    /// Whether the device may be unplugged: from a successful bring-up to an accepted unplugging.
+    pub up: bool,
     pub slot: u8,
     pub n: u8,
     pub spacing: usize,
@@ -24,6 +26,8 @@ pub struct Record {
     pub endpoints: Vec<Endpoint>,
     pub held: Vec<(u8, u8)>,
     pub quarantined: Vec<u64>,
+    /// The rings that its bring-up was given.
+    pub given: Vec<u64>,
 }
 
 /// Room in a record's arrays.
@@ -31,14 +35,26 @@ pub const LIST_ROOM: usize = 256;
 pub const ENDPOINT_ROOM: usize = 30;
 pub const HELD_ROOM: usize = 32;
 pub const QUARANTINE_ROOM: usize = 61;
+pub const GIVEN_ROOM: usize = 64;
 
 impl Record {
-    /// The same record with its maps in rising order, as records are printed and compared.
+    /// The same record with its maps and given rings in rising order, as records are printed and compared.
     pub fn sorted(&self) -> Record {
         let mut record = self.clone();
         record.endpoints.sort_by_key(|e| e.address);
         record.held.sort_by_key(|h| h.0);
+        record.given.sort();
         record
+    }
+
+    /// The given rings that are neither control's nor an endpoint's nor quarantined, rising.
+    pub fn free(&self) -> Vec<u64> {
+        let used = |ring: &u64| {
+            *ring == self.control || self.endpoints.iter().any(|e| e.ring == *ring) || self.quarantined.contains(ring)
+        };
+        let mut free: Vec<u64> = self.given.iter().copied().filter(|ring| !used(ring)).collect();
+        free.sort();
+        free
     }
 }
 
@@ -51,7 +67,8 @@ pub struct BringUp {
     pub parent: u32,
     pub port: u8,
     pub root_port: u8,
-    pub ring: u64,
+    /// The rings that the slot is given, in any order.
+    pub rings: Vec<u64>,
     /// Bytes that ReadHeader reads, and the packet byte among them.
     pub header: u32,
     pub packet: u8,
@@ -65,6 +82,16 @@ pub struct BringUp {
 pub struct Claim {
     pub interface: u8,
     pub alternate: u8,
+}
+
+/// What an accepted ask returns, and a commit is given: what the claim would drop and add, bit d for Dci d, and the rings
+/// that it would draw, in the order of the endpoint words.
+#[derive(Clone, Debug, Default, PartialEq, Eq)]
+pub struct Asked {
+    pub interface: u8,
+    pub alternate: u8,
+    pub drops: u32,
+    pub adds: u32,
     pub rings: Vec<u64>,
 }
 
@@ -79,9 +106,31 @@ pub struct HubUpdate {
 pub enum Call {
     BringUp(BringUp),
     Claim(Claim),
-    Release { interface: u8 },
-    SetConfiguration { value: u8 },
+    Ask(Claim),
+    /// None: what the last accepted ask of the scenario returned, and without one nothing at all.
+    Commit(Option<Asked>),
+    Release {
+        interface: u8,
+    },
+    SetConfiguration {
+        value: u8,
+    },
     HubUpdate(HubUpdate),
+    Disconnect,
+}
+
+impl Call {
+    /// What a claim, an ask or a commit is about.
+    pub fn claimed(&self) -> Option<Claim> {
+        match self {
+            Call::Claim(args) | Call::Ask(args) => Some(args.clone()),
+            Call::Commit(asked) => {
+                let (interface, alternate) = asked.as_ref().map_or((0, 0), |asked| (asked.interface, asked.alternate));
+                Some(Claim { interface, alternate })
+            }
+            _ => None,
+        }
+    }
 }
 
 /// The memory that a call works on, and the outcomes of its commands.

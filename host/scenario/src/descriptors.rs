@@ -33,6 +33,11 @@ fn word_line(word: u32) -> String {
     }
 }
 
+/// An endpoint word, as a line of the list has it.
+pub fn endpoint_text(word: u32) -> String {
+    word_line(word).trim_start().to_string()
+}
+
 /// A list of descriptor words, a line each.
 pub fn explain_words(out: &mut String, list: &[u32]) {
     for word in list {

@@ -2,6 +2,7 @@
 
 use std::fmt::Write;
 
+use crate::asked_text::{explain_asked, explain_outdated};
 use crate::call::*;
 use crate::context_text::{explain_changes, explain_flags};
 use crate::descriptors::explain_words;
@@ -23,7 +24,7 @@ pub fn answer(number: u8) -> &'static str {
         7 => "refused: the think time has no value",
         8 => "refused, NotFound: there is no such alternate",
         9 => "refused, InvalidParameter: an address is owned by another interface",
-        10 => "refused: the rings offered do not fit",
+        10 => "refused: the rings given do not fit",
         11 => "refused, SlotLimitReached: the slot or the number of slots is out of range",
         12 => "refused: the record is unusable or not sound",
         13 => "failed",
@@ -33,6 +34,8 @@ pub fn answer(number: u8) -> &'static str {
         17 => "refused, QueueFull: the control endpoint's route is taken",
         18 => "failed, InvalidEndpoint: an endpoint's route is not its ring",
         19 => "failed: the packet byte is no exponent of a SuperSpeed size",
+        21 => "refused: there are fewer free rings than endpoint words",
+        22 => "refused: the ask is outdated",
         _ => "an answer without a name",
     }
 }
@@ -51,6 +54,7 @@ fn command(word: u32) -> String {
         9 => "ReadConfiguration".to_string(),
         10 => "ReadDevice".to_string(),
         11 => format!("ReadConfig {first}"),
+        12 => "Disable".to_string(),
         _ => format!("{word:08x}"),
     }
 }
@@ -59,9 +63,15 @@ fn title(call: &Call) -> String {
     match call {
         Call::BringUp(args) => format!("bring-up of slot {} of {}, speed {}", args.slot, args.n, args.speed),
         Call::Claim(args) => format!("claim of interface {}, alternate {}", args.interface, args.alternate),
+        Call::Ask(args) => format!("ask for interface {}, alternate {}", args.interface, args.alternate),
+        Call::Commit(_) => {
+            let Claim { interface, alternate } = call.claimed().unwrap_or_default();
+            format!("commit of interface {interface}, alternate {alternate}")
+        }
         Call::Release { interface } => format!("release of interface {interface}"),
         Call::SetConfiguration { value } => format!("set configuration {value}"),
         Call::HubUpdate(args) => format!("hub update: {} ports, think time {} ns", args.ports, args.think),
+        Call::Disconnect => "unplugging".to_string(),
     }
 }
 
@@ -101,6 +111,18 @@ fn routes(out: &mut String, before: &[u64], after: &[u64]) {
     }
 }
 
+/// What an accepted ask shows, and why a commit came too late.
+fn asked(out: &mut String, layer: &mut dyn Layer, given: &Given, left: &Left) {
+    if let Some(Some(asked)) = &left.asked {
+        explain_asked(out, given.record, asked);
+    }
+    if let (22, Call::Commit(asked)) = (left.answer.number, given.call)
+        && let Ok((_, Some(now))) = layer.ask(given.record, &given.call.claimed().unwrap_or_default(), given.buffers)
+    {
+        explain_outdated(out, &asked.clone().unwrap_or_default(), &now);
+    }
+}
+
 /// What a call was given.
 pub struct Given<'a> {
     pub call: &'a Call,
@@ -122,6 +144,7 @@ pub fn explain_text(out: &mut String, layer: &mut dyn Layer, given: &Given, left
     if let Some(reason) = reason(number, given.call, given.record) {
         let _ = writeln!(out, "    {reason}");
     }
+    asked(out, layer, given, left);
     routes(out, &given.buffers.routes, &left.table);
     let was = (!matches!(given.call, Call::BringUp(_))).then_some(given.record);
     explain_record(out, was, &left.record);

@@ -2,6 +2,7 @@
 //! docs/SCENARIOS.md describes the text.
 #![forbid(unsafe_code)]
 
+mod asked_text;
 mod call;
 mod case;
 mod clock;
@@ -22,7 +23,7 @@ pub use call::*;
 pub use case::{Case, Functions, Kind, Reply};
 pub use clock::{proper, start_clock, stop_clock};
 pub use explain::{Given, explain_text};
-pub use layer::{Cannot, Layer, Outcome};
+pub use layer::{Called, Cannot, Layer, Outcome, Shown};
 pub use memory::{filled_bytes, filled_words};
 pub use parse::{Contents, Event, Malformed, Reader, parse};
 pub use print::{left_text, scenario_text, step_text};

@@ -85,6 +85,7 @@ fn record_field<'a>(record: &mut Record, text: &'a str) -> Parsed<&'a str> {
     let (name, value) = split(text, '=')?;
     match name {
         "usable" => record.usable = flag(value)?,
+        "up" => record.up = flag(value)?,
         "slot" => record.slot = decimal(value)?,
         "n" => record.n = decimal(value)?,
         "spacing" => record.spacing = decimal(value)?,
@@ -136,7 +137,11 @@ impl Building {
     fn argument(&mut self, key: &str, words: &mut Words) -> Parsed<bool> {
         match &mut self.step.call {
             Call::BringUp(args) => bring_up(args, key, words),
-            Call::Claim(args) => claim(args, key, words),
+            Call::Claim(args) | Call::Ask(args) => claim(args, key, words),
+            Call::Commit(asked) if key == "asked" => {
+                *asked = Some(what_was_asked(words)?);
+                Ok(true)
+            }
             Call::Release { interface } if key == "interface" => {
                 *interface = number(words)?;
                 Ok(true)
@@ -164,11 +169,18 @@ impl Building {
                     }
                     given.push(name);
                 }
+                if !given.contains(&"up") {
+                    self.record.up = self.record.usable;
+                }
+                if self.record.usable && !self.record.up {
+                    return Err("a usable record is up".to_string());
+                }
             }
             "reclist" => self.record.list = list_within(words, LIST_ROOM, hex32)?,
             "eps" => self.record.endpoints = list_within(words, ENDPOINT_ROOM, endpoint)?,
             "held" => self.record.held = list_within(words, HELD_ROOM, setting)?,
             "quarantined" => self.record.quarantined = list_within(words, QUARANTINE_ROOM, hex64)?,
+            "given" => self.record.given = list_within(words, GIVEN_ROOM, hex64)?,
             _ => return Ok(false),
         }
         Ok(true)
@@ -178,7 +190,7 @@ impl Building {
         let given = |key: &str| self.seen.iter().any(|k| k == key);
         if given("record") {
             self.step.record = Some(self.record);
-        } else if let Some(key) = ["reclist", "eps", "held", "quarantined"].iter().find(|k| given(k)) {
+        } else if let Some(key) = ["reclist", "eps", "held", "quarantined", "given"].iter().find(|k| given(k)) {
             return Err(format!("'{key}' is given without 'record'"));
         }
         Ok(self.step)
@@ -196,7 +208,7 @@ fn bring_up(args: &mut BringUp, key: &str, words: &mut Words) -> Parsed<bool> {
         }
         "port" => args.port = number(words)?,
         "rootport" => args.root_port = number(words)?,
-        "ring" => args.ring = number(words)?,
+        "rings" => args.rings = list(words, decimal)?,
         "header" => {
             args.header = number(words)?;
             args.packet = number(words)?;
@@ -213,10 +225,19 @@ fn claim(args: &mut Claim, key: &str, words: &mut Words) -> Parsed<bool> {
     match key {
         "interface" => args.interface = number(words)?,
         "alternate" => args.alternate = number(words)?,
-        "rings" => args.rings = list(words, decimal)?,
         _ => return Ok(false),
     }
     Ok(true)
+}
+
+fn what_was_asked(words: &mut Words) -> Parsed<Asked> {
+    Ok(Asked {
+        interface: number(words)?,
+        alternate: number(words)?,
+        drops: hex32(word(words, "the drop flags")?)?,
+        adds: hex32(word(words, "the add flags")?)?,
+        rings: list(words, hex64)?,
+    })
 }
 
 fn hub_update(args: &mut HubUpdate, key: &str, words: &mut Words) -> Parsed<bool> {
@@ -342,9 +363,12 @@ fn named(key: &str) -> Option<Call> {
     Some(match key {
         "bringup" => Call::BringUp(BringUp::default()),
         "claim" => Call::Claim(Claim::default()),
+        "ask" => Call::Ask(Claim::default()),
+        "commit" => Call::Commit(None),
         "release" => Call::Release { interface: 0 },
         "setconfig" => Call::SetConfiguration { value: 0 },
         "hubupdate" => Call::HubUpdate(HubUpdate::default()),
+        "disconnect" => Call::Disconnect,
         _ => return None,
     })
 }

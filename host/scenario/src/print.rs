@@ -57,8 +57,9 @@ fn lifecycle(active: bool) -> &'static str {
 fn record(out: &mut String, list_key: &str, record: &Record) {
     let _ = write!(
         out,
-        "record usable={} slot={} n={} spacing={} speed={} config=",
+        "record usable={} up={} slot={} n={} spacing={} speed={} config=",
         u8::from(record.usable),
+        u8::from(record.up),
         record.slot,
         record.n,
         record.spacing,
@@ -80,8 +81,19 @@ fn record(out: &mut String, list_key: &str, record: &Record) {
     for (interface, alternate) in &record.held {
         let _ = write!(out, " {interface}:{alternate}");
     }
-    out.push_str("\nquarantined");
-    for ring in &record.quarantined {
+    out.push('\n');
+    rings(out, "quarantined", &record.quarantined);
+    rings(out, "given", &record.given);
+}
+
+fn asked(out: &mut String, asked: &Asked) {
+    let _ = write!(out, "asked {} {} {:08x} {:08x}", asked.interface, asked.alternate, asked.drops, asked.adds);
+    rings(out, "", &asked.rings);
+}
+
+fn rings(out: &mut String, key: &str, rings: &[u64]) {
+    out.push_str(key);
+    for ring in rings {
         let _ = write!(out, " {ring:x}");
     }
     out.push('\n');
@@ -95,13 +107,18 @@ pub fn left_text(out: &mut String, left: &Left) {
     bytes(out, "ctx", &left.ctx);
     nonzero(out, "routes", left.table.iter().copied().enumerate());
     record(out, "list", &left.record.sorted());
+    match &left.asked {
+        None => {}
+        Some(None) => out.push_str("asked\n"),
+        Some(Some(returned)) => asked(out, returned),
+    }
     out.push_str(".\n");
 }
 
 fn bring_up(out: &mut String, args: &BringUp) {
     let _ = write!(
         out,
-        "bringup\nslot {}\nn {}\nspeed {}\nparent {} {}\nport {}\nrootport {}\nring {}\nheader {} {}\nconfig {}\n",
+        "bringup\nslot {}\nn {}\nspeed {}\nparent {} {}\nport {}\nrootport {}\nheader {} {}\nconfig {}\n",
         args.slot,
         args.n,
         args.speed,
@@ -109,11 +126,11 @@ fn bring_up(out: &mut String, args: &BringUp) {
         args.parent,
         args.port,
         args.root_port,
-        args.ring,
         args.header,
         args.packet,
         args.config
     );
+    numbers(out, "rings", &args.rings);
     words(out, "list", &args.list);
     out.push_str("hubs");
     for hub in &args.hubs {
@@ -129,7 +146,13 @@ pub fn step_text(out: &mut String, step: &Step) {
         Call::BringUp(args) => bring_up(out, args),
         Call::Claim(args) => {
             let _ = writeln!(out, "claim\ninterface {}\nalternate {}", args.interface, args.alternate);
-            numbers(out, "rings", &args.rings);
+        }
+        Call::Ask(args) => {
+            let _ = writeln!(out, "ask\ninterface {}\nalternate {}", args.interface, args.alternate);
+        }
+        Call::Commit(given) => {
+            out.push_str("commit\n");
+            given.iter().for_each(|given| asked(out, given));
         }
         Call::Release { interface } => {
             let _ = writeln!(out, "release\ninterface {interface}");
@@ -141,6 +164,7 @@ pub fn step_text(out: &mut String, step: &Step) {
             let HubUpdate { ports, multi, think } = args;
             let _ = writeln!(out, "hubupdate\nports {ports}\nmulti {}\nthink {think}", u8::from(*multi));
         }
+        Call::Disconnect => out.push_str("disconnect\n"),
     }
     if let Some(given) = &step.record {
         record(out, "reclist", given);

@@ -1,6 +1,6 @@
-//! What exactly is refused where the answer's number leaves it open: 4, 9 and 10.
+//! What exactly is refused where the answer's number leaves it open: 4, 9, 10 and 21; and what an unplugging came to.
 
-use crate::call::{BringUp, Call, Claim, Record};
+use crate::call::{BringUp, Call, Claim, GIVEN_ROOM, Record};
 
 const CONFIGURATION: u32 = 0;
 const ALTERNATE: u32 = 1;
@@ -10,7 +10,7 @@ fn kind(word: u32) -> u32 {
     word >> 30
 }
 
-fn address(word: u32) -> u8 {
+pub fn address(word: u32) -> u8 {
     ((word >> 29 & 1) << 7 | word >> 25 & 15) as u8
 }
 
@@ -27,7 +27,6 @@ fn word_fault(word: u32) -> Option<&'static str> {
         (word & ((1 << unused) - 1) != 0, "unused bits are set"),
         (endpoint && address(word) & 15 == 0, "its endpoint number is 0"),
         (endpoint && word >> 23 & 3 == 0, "its endpoint type is 0"),
-        (endpoint && address(word) == 0x8F, "its address is 8f"),
     ];
     faults.iter().find(|fault| fault.0).map(|fault| fault.1)
 }
@@ -60,8 +59,8 @@ fn list_fault(list: &[u32]) -> Option<String> {
 }
 
 /// The endpoint words of the first matching alternate.
-fn alternate_words<'a>(list: &'a [u32], args: &Claim) -> &'a [u32] {
-    let sought = ALTERNATE << 30 | u32::from(args.interface) << 22 | u32::from(args.alternate) << 14;
+pub fn alternate_words(list: &[u32], interface: u8, alternate: u8) -> &[u32] {
+    let sought = ALTERNATE << 30 | u32::from(interface) << 22 | u32::from(alternate) << 14;
     let after = list.iter().position(|word| *word == sought).map_or(list.len(), |at| at + 1);
     let count = list[after..].iter().take_while(|word| kind(**word) == ENDPOINT).count();
     &list[after..after + count]
@@ -69,53 +68,57 @@ fn alternate_words<'a>(list: &'a [u32], args: &Claim) -> &'a [u32] {
 
 /// The first endpoint word whose address another interface owns.
 fn owner(record: &Record, args: &Claim) -> Option<String> {
-    let words = alternate_words(&record.list, args);
+    let words = alternate_words(&record.list, args.interface, args.alternate);
     let owner = |word: u32| record.endpoints.iter().find(|e| e.address == address(word) && e.owner != args.interface);
     let (word, endpoint) = words.iter().find_map(|word| Some((word, owner(*word)?)))?;
     Some(format!("word {word:08x}: endpoint {:02x} is owned by interface {}", endpoint.address, endpoint.owner))
 }
 
-fn address_fault(ring: u64) -> Option<String> {
+/// Why a ring cannot be given after others.
+fn ring_fault(before: &[u64], ring: u64) -> Option<String> {
     match ring {
         0 => Some("ring 0 is none".to_string()),
-        _ if ring.is_multiple_of(16) => None,
-        _ => Some(format!("ring {ring:x} is not a multiple of 16")),
+        _ if !ring.is_multiple_of(16) => Some(format!("ring {ring:x} is not a multiple of 16")),
+        _ if before.contains(&ring) => Some(format!("ring {ring:x} is given twice")),
+        _ => None,
     }
 }
 
-/// Why a ring cannot be taken after others that were offered.
-fn ring_fault(record: &Record, before: &[u64], ring: u64) -> Option<String> {
-    let endpoint = record.endpoints.iter().find(|e| e.ring == ring);
-    let taken = if before.contains(&ring) {
-        "is offered twice".to_string()
-    } else if ring == record.control {
-        "is control's".to_string()
-    } else if let Some(endpoint) = endpoint {
-        format!("is endpoint {:02x}'s", endpoint.address)
-    } else if record.quarantined.contains(&ring) {
-        "is quarantined".to_string()
-    } else {
-        return address_fault(ring);
+/// The first ring that cannot be given, unless their number does not fit.
+fn given_fault(rings: &[u64]) -> Option<String> {
+    if !(1..=GIVEN_ROOM).contains(&rings.len()) {
+        return Some(format!("rings given: {}, and 1 to {GIVEN_ROOM} are allowed", rings.len()));
+    }
+    (0..rings.len()).find_map(|at| ring_fault(&rings[..at], rings[at]))
+}
+
+/// How many rings are free, and how many are wanted.
+fn too_few(record: &Record, args: &Claim) -> Option<String> {
+    let (free, given) = (record.free().len(), record.given.len());
+    let wanted = alternate_words(&record.list, args.interface, args.alternate).len();
+    (free < wanted).then(|| format!("free rings: {free} of {given}, endpoint words: {wanted}"))
+}
+
+/// What Disable decided, or why it was not sent.
+fn unplugging(number: u8, record: &Record) -> Option<String> {
+    let text = match number {
+        0 => "Disable was done: every held setting has ended, and the slot has no route any more",
+        12 if !record.up => "the record is not up: its bring-up was not accepted, or it was unplugged before",
+        14 => "Disable failed: the routes stay, control's ring and every live one are in quarantine",
+        15 => "Disable has not been answered: routes and rings stay as they are",
+        _ => return None,
     };
-    Some(format!("ring {ring:x} {taken}"))
-}
-
-/// The first ring that does not fit, unless their number does not.
-fn rings(record: &Record, args: &Claim) -> Option<String> {
-    let (offered, wanted) = (args.rings.len(), alternate_words(&record.list, args).len());
-    if offered != wanted {
-        return Some(format!("rings offered: {offered}, endpoint words: {wanted}"));
-    }
-    (0..offered).find_map(|at| ring_fault(record, &args.rings[..at], args.rings[at]))
+    Some(text.to_string())
 }
 
 /// The word, the owner or the ring that a call was refused for. None where the number says it all.
 pub fn reason(number: u8, call: &Call, record: &Record) -> Option<String> {
     match (number, call) {
         (4, Call::BringUp(BringUp { list, .. })) => list_fault(list),
-        (10, Call::BringUp(BringUp { ring, .. })) => address_fault(*ring),
-        (9, Call::Claim(args)) => owner(record, args),
-        (10, Call::Claim(args)) => rings(record, args),
+        (10, Call::BringUp(BringUp { rings, .. })) => given_fault(rings),
+        (9, _) => owner(record, &call.claimed()?),
+        (21, _) => too_few(record, &call.claimed()?),
+        (_, Call::Disconnect) => unplugging(number, record),
         _ => None,
     }
 }

@@ -5,7 +5,11 @@ use std::fmt::Write;
 use crate::call::{Endpoint, Record};
 
 fn usable(record: &Record) -> &'static str {
-    if record.usable { "usable" } else { "unusable" }
+    match (record.usable, record.up) {
+        (true, _) => "usable",
+        (false, true) => "unusable, up",
+        (false, false) => "unusable",
+    }
 }
 
 fn configuration(record: &Record) -> String {
@@ -17,10 +21,11 @@ fn state(active: bool) -> &'static str {
 }
 
 fn numbers(record: &Record) -> String {
-    let Record { slot, n, spacing, speed, control, list, .. } = record;
+    let Record { slot, n, spacing, speed, control, list, given, .. } = record;
     let (usable, configuration) = (usable(record), configuration(record));
     format!(
-        "{usable}, slot {slot} of {n}, spacing {spacing}, speed {speed}, configuration {configuration}, control's ring {control:x}, {} words",
+        "{usable}, slot {slot} of {n}, spacing {spacing}, speed {speed}, configuration {configuration}, control's ring {control:x} of {}, {} words",
+        given.len(),
         list.len()
     )
 }
@@ -42,6 +47,18 @@ fn beside<'a, T>(was: &'a [T], is: &'a [T], key: impl Fn(&T) -> u8) -> Vec<(u8, 
     keys.dedup();
     let find = |map: &'a [T], sought: u8| map.iter().find(|entry| key(entry) == sought);
     keys.into_iter().map(|sought| (sought, find(was, sought), find(is, sought))).collect()
+}
+
+/// Free rings, which a claim draws from, rising.
+fn store(lines: &mut Vec<String>, was: &Record, is: &Record) {
+    let text = |record: &Record| {
+        let free = record.free();
+        let first = free.first().map_or(String::new(), |ring| format!(", the lowest {ring:x}"));
+        format!("{} of {}{first}", free.len(), record.given.len())
+    };
+    if was.free() != is.free() {
+        lines.push(format!("free rings: {} -> {}", text(was), text(is)));
+    }
 }
 
 fn maps(lines: &mut Vec<String>, was: &Record, is: &Record) {
@@ -83,6 +100,7 @@ fn changes(was: &Record, is: &Record) -> Vec<String> {
         lines.push(format!("another list: {} words -> {}", was.list.len(), is.list.len()));
     }
     maps(&mut lines, was, is);
+    store(&mut lines, was, is);
     lines
 }
 

@@ -1,7 +1,7 @@
 //! Record and route table from call to call.
 
 use crate::call::*;
-use crate::layer::{Cannot, Layer};
+use crate::layer::{Called, Cannot, Layer};
 use crate::memory::filled_words;
 
 /// What a call leaves: its answer, the record, the log and context it was given, the whole table.
@@ -12,11 +12,15 @@ pub struct Left {
     pub log: Vec<u32>,
     pub ctx: Vec<u8>,
     pub table: Vec<u64>,
+    /// Of an ask: what it returned, if it was accepted.
+    pub asked: Option<Option<Asked>>,
 }
 
 #[derive(Clone, Debug, Default)]
 pub struct Session {
     record: Record,
+    /// What the last accepted ask returned.
+    asked: Option<Asked>,
     table: Vec<u64>,
     n: u32,
 }
@@ -26,8 +30,8 @@ impl Session {
         Session::default()
     }
 
-    /// The record and buffers that a step's call is given.
-    pub fn prepare(&mut self, step: &Step) -> (Record, Buffers) {
+    /// A step's call, and the record and buffers that it is given.
+    pub fn prepare(&mut self, step: &Step) -> (Call, Record, Buffers) {
         if let Call::BringUp(args) = &step.call {
             self.n = args.n;
         }
@@ -47,20 +51,29 @@ impl Session {
             log: filled_words(step.log_len),
             outcomes: step.outcomes.clone(),
         };
-        (record, buffers)
+        let call = match &step.call {
+            Call::Commit(None) => Call::Commit(self.asked.clone()),
+            call => call.clone(),
+        };
+        (call, record, buffers)
     }
 
     /// Takes over what a call left.
-    pub fn settle(&mut self, record: Record, answer: Answer, buffers: Buffers) -> Left {
+    pub fn settle(&mut self, call: &Call, called: Called, buffers: Buffers) -> Left {
+        let Called { record, answer, asked } = called;
         self.table[..buffers.routes.len()].copy_from_slice(&buffers.routes);
         self.record = record.clone();
-        Left { answer, record, log: buffers.log, ctx: buffers.ctx, table: self.table.clone() }
+        if asked.is_some() {
+            self.asked.clone_from(&asked);
+        }
+        let asked = matches!(call, Call::Ask(_)).then_some(asked);
+        Left { answer, record, log: buffers.log, ctx: buffers.ctx, table: self.table.clone(), asked }
     }
 
     pub fn run(&mut self, layer: &mut dyn Layer, step: &Step) -> Result<Left, Cannot> {
-        let (record, mut buffers) = self.prepare(step);
-        let (record, answer) = layer.call(&record, &step.call, &mut buffers)?;
-        Ok(self.settle(record, answer, buffers))
+        let (call, record, mut buffers) = self.prepare(step);
+        let called = layer.called(&record, &call, &mut buffers)?;
+        Ok(self.settle(&call, called, buffers))
     }
 
     fn grow(&mut self, len: usize) {

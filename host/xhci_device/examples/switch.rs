@@ -1,14 +1,17 @@
-//! A device is brought up, its interface claimed, a switch to the other setting fails on the bus, and the interface is
-//! released. host/examples/switch.c is the same in C and prints the same.
+//! A device is brought up, its interface claimed, a switch to the other setting is shown and then fails on the bus, the
+//! interface is released, and the device unplugged. host/examples/switch.c is the same in C and prints the same.
 
 use std::num::NonZeroU8;
 
 use xhci_device::{
-    Attached, Bus, Call, Command, Dci, Due, Outcome, Pending, Read, Record, Setting, SlotId, route_index,
+    Asked, Attached, Bus, Call, Command, Dci, Due, Outcome, Pending, Read, Record, Setting, SlotId, route_index,
 };
 
 const SLOT: SlotId = SlotId(1);
 const N: usize = 2;
+
+/// The rings that the slot is given; the lowest is control's.
+const RINGS: [u64; 4] = [0x1000, 0x2000, 0x3000, 0x3400];
 
 /// Configuration 1, interface 0: alternate 0 with endpoint 0x81, interrupt; alternate 1 with 0x81 and 0x02, bulk.
 #[rustfmt::skip]
@@ -80,13 +83,24 @@ impl Slot {
     }
 }
 
+/// What the claim would do.
+fn show(asked: &Asked) {
+    println!("ask for interface {}, alternate {}", asked.interface(), asked.alternate());
+    asked.dropped().for_each(|dci| println!("  Dci {} would go", dci.0));
+    asked.added().for_each(|dci| println!("  Dci {} would come", dci.0));
+    asked.rings().iter().for_each(|ring| println!("  ring {ring:x} would be drawn"));
+    println!();
+}
+
 fn main() {
     let mut slot = Slot { record: Record::new(), ctx: [0; 1056], routes: [0; 32 * (N + 1)] };
-    let port = Attached { slot: SLOT, n: N, speed: 3, parent: None, port: 1, root_port: 1, ring: 0x1000, hubs: &[] };
+    let port = Attached { slot: SLOT, n: N, speed: 3, parent: None, port: 1, root_port: 1, rings: &RINGS, hubs: &[] };
     slot.run("bring-up of slot 1", Call::BringUp(port), None);
-    let claim = |alternate, rings| Call::Claim { interface: 0, alternate, rings };
-    slot.run("claim of interface 0, alternate 0", claim(0, &[0x2000]), None);
+    slot.run("claim of interface 0, alternate 0", Call::Claim { interface: 0, alternate: 0 }, None);
     let failing = Command::SetInterface { interface: 0, alternate: 1 };
-    slot.run("claim of interface 0, alternate 1", claim(1, &[0x3000, 0x3400]), Some(failing));
+    let asked = slot.record.ask(&slot.ctx, &slot.routes, &[0; 64], 0, 1).expect("an accepted ask");
+    show(&asked);
+    slot.run("commit of interface 0, alternate 1", Call::Commit(asked), Some(failing));
     slot.run("release of interface 0", Call::Release { interface: 0 }, None);
+    slot.run("unplugging of slot 1", Call::Disconnect, None);
 }

@@ -2,8 +2,8 @@
 
 use core::fmt;
 
-/// What a call answers, in the order of the answers' numbers, which begin at 0. Those from `ContextLength` to `Unusable`,
-/// and `QueueFull`, are refusals: the call has sent nothing and changed nothing. After `InterfaceBroken`, `Cut` and any
+/// What a call answers, in the order of their numbers. Those from `ContextLength` to `Unusable`,
+/// `QueueFull`, `TooFewRings` and `OutdatedAsk` are refusals: the call has sent nothing and changed nothing. After `InterfaceBroken`, `Cut` and any
 /// bring-up that was not accepted the record is unusable.
 ///
 /// ```
@@ -34,11 +34,11 @@ pub enum Answer {
     NotFound,
     /// An address that another interface owns.
     InvalidParameter,
-    /// The rings are not as many as the endpoint words, or one is no nonzero multiple of 16 or taken.
+    /// Bring-up: the rings given are not 1 to 64, or one is no nonzero multiple of 16 or given twice.
     Rings,
     /// Slot 0, a slot above N, or N outside 1 to 255.
     SlotLimitReached,
-    /// The record is marked unusable or is not sound.
+    /// The record is marked unusable (for an unplugging: is not up) or is not sound.
     Unusable,
     /// A command failed, with this code.
     Failed(u8),
@@ -54,10 +54,14 @@ pub enum Answer {
     InvalidEndpoint,
     /// At SuperSpeed and SuperSpeedPlus: the packet byte of the header is not 9.
     PacketExponent,
+    /// A claim: there are fewer free rings than endpoint words.
+    TooFewRings,
+    /// A commit: an ask would now show something else.
+    OutdatedAsk,
 }
 
 impl Answer {
-    /// The answer of a number; `code` counts for 13 only. None above 19.
+    /// The answer of a number; `code` counts for 13 only. None for 20, which no call answers, and above 22.
     pub fn of(number: u8, code: u8) -> Option<Answer> {
         Some(match number {
             0 => Answer::Accepted,
@@ -80,6 +84,8 @@ impl Answer {
             17 => Answer::QueueFull,
             18 => Answer::InvalidEndpoint,
             19 => Answer::PacketExponent,
+            21 => Answer::TooFewRings,
+            22 => Answer::OutdatedAsk,
             _ => return None,
         })
     }
@@ -107,6 +113,8 @@ impl Answer {
             Answer::QueueFull => 17,
             Answer::InvalidEndpoint => 18,
             Answer::PacketExponent => 19,
+            Answer::TooFewRings => 21,
+            Answer::OutdatedAsk => 22,
         }
     }
 
@@ -133,7 +141,7 @@ impl fmt::Display for Answer {
             Answer::ThinkTime => "the think time has no value",
             Answer::NotFound => "there is no such alternate",
             Answer::InvalidParameter => "an address is owned by another interface",
-            Answer::Rings => "the rings offered do not fit",
+            Answer::Rings => "the rings given do not fit",
             Answer::SlotLimitReached => "the slot or the number of slots is out of range",
             Answer::Unusable => "the record is unusable or not sound",
             Answer::Failed(code) => return write!(f, "a command failed, with code {code}"),
@@ -143,6 +151,8 @@ impl fmt::Display for Answer {
             Answer::QueueFull => "the control endpoint's route is taken",
             Answer::InvalidEndpoint => "an endpoint's route is not its ring",
             Answer::PacketExponent => "the packet byte is no exponent of a SuperSpeed size",
+            Answer::TooFewRings => "there are fewer free rings than endpoint words",
+            Answer::OutdatedAsk => "the ask is outdated",
         })
     }
 }
@@ -153,11 +163,11 @@ mod tests {
 
     #[test]
     fn numbers_name_the_answers() {
-        for number in 0..=19 {
+        for number in (0..=19).chain([21, 22]) {
             let answer = Answer::of(number, 7).expect("an answer");
             assert_eq!(answer.number(), number);
             assert_eq!(answer.code(), if number == 13 { 7 } else { 0 });
         }
-        assert_eq!(Answer::of(20, 0), None);
+        assert_eq!([20, 23].map(|number| Answer::of(number, 0)), [None; 2]);
     }
 }

@@ -57,7 +57,7 @@ const ADD_FLAGS: usize = 4;
 const CONTROL_FLAG: u32 = 1 << 1;
 const ENDPOINT_FLAGS: u32 = !3;
 
-fn flagged(flags: u32) -> impl Iterator<Item = Dci> {
+pub(crate) fn flagged(flags: u32) -> impl Iterator<Item = Dci> + use<> {
     (0..32).filter(move |dci| flags >> dci & 1 != 0).map(Dci)
 }
 
@@ -73,7 +73,8 @@ impl<'a> Due<'a> {
         })
     }
 
-    /// The endpoints that the controller gives up by this command, before it begins the added ones.
+    /// The endpoints that the controller gives up by a Configure, before it begins the added ones. Disable, for which
+    /// this names none, gives up control and all others.
     pub fn dropped(&self) -> impl Iterator<Item = Dci> + use<> {
         flagged(match self.command {
             Command::Configure => self.doubleword(DROP_FLAGS) & ENDPOINT_FLAGS,

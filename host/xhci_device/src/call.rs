@@ -31,8 +31,8 @@ pub struct BringUp<'a> {
     pub port: u8,
     /// The port of the root hub that the way to the device begins at.
     pub root_port: u8,
-    /// Control's ring.
-    pub ring: u64,
+    /// The rings that the slot is given: 1 to 64, in any order. The lowest is control's; claims draw the others.
+    pub rings: &'a [u64],
     /// How many bytes ReadHeader reads,
     pub header: usize,
     /// and the packet byte among them.

@@ -3,6 +3,7 @@
 use core::fmt;
 
 use crate::Dci;
+use crate::library::{self, Logged};
 
 /// A command: what a word of the log says.
 ///
@@ -42,13 +43,15 @@ pub enum Command {
     ReadDevice,
     /// The configuration descriptor of an index is read, with all that follows it.
     ReadConfig(u8),
+    /// The Disable Slot Command.
+    Disable,
 }
 
 impl Command {
     /// The command of a log word; none where no call logs that word.
     pub fn of(word: u32) -> Option<Command> {
-        let [operation, first, second] = [word >> 28, word >> 20 & 0xFF, word >> 12 & 0xFF].map(|part| part as u8);
-        let command = match operation {
+        let Logged { operation, first, second } = library::command_of(word);
+        Some(match operation {
             1 => Command::Address,
             2 => Command::Evaluate,
             3 => Command::Configure,
@@ -60,9 +63,9 @@ impl Command {
             9 => Command::ReadConfiguration,
             10 => Command::ReadDevice,
             11 => Command::ReadConfig(first),
+            12 => Command::Disable,
             _ => return None,
-        };
-        (command.word() == word).then_some(command)
+        })
     }
 
     /// The log word.
@@ -79,6 +82,7 @@ impl Command {
             Command::ReadConfiguration => (9, 0, 0),
             Command::ReadDevice => (10, 0, 0),
             Command::ReadConfig(index) => (11, index, 0),
+            Command::Disable => (12, 0, 0),
         };
         operation << 28 | u32::from(first) << 20 | u32::from(second) << 12
     }
@@ -105,6 +109,7 @@ impl fmt::Display for Command {
             Command::ReadConfiguration => f.write_str("ReadConfiguration"),
             Command::ReadDevice => f.write_str("ReadDevice"),
             Command::ReadConfig(index) => write!(f, "ReadConfig {index}"),
+            Command::Disable => f.write_str("Disable"),
         }
     }
 }
@@ -123,7 +128,7 @@ mod tests {
                 commands += 1;
             }
         }
-        assert_eq!(commands, 6 + 4 * 256 + 65536);
+        assert_eq!(commands, 7 + 4 * 256 + 65536);
         for bit in 0..12 {
             assert_eq!(Command::of(1 << 28 | 1 << bit), None);
         }

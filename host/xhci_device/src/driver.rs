@@ -5,7 +5,7 @@
 //! first. Where it is cut, the last command it logged is the next one to send, over the context that it left.
 
 use crate::learned::Learned;
-use crate::{Answer, BringUp, Bus, Command, Due, Memory, Outcome, Record, SlotId, UNREADABLE};
+use crate::{Answer, Asked, BringUp, Bus, Command, Due, Memory, Outcome, Record, SlotId, UNREADABLE};
 
 /// How many commands a call may send.
 const COMMANDS: usize = 64;
@@ -31,14 +31,14 @@ pub struct Attached<'a> {
     pub port: u8,
     /// The port of the root hub that the way to the device begins at.
     pub root_port: u8,
-    /// Control's ring.
-    pub ring: u64,
+    /// The rings that the slot is given: 1 to 64, in any order. The lowest is control's; claims draw the others.
+    pub rings: &'a [u64],
     /// Hub words ([`Hub::word`](crate::Hub::word)), of every hub between the root hub and the device at least.
     pub hubs: &'a [u64],
 }
 
 /// A call that is to be driven.
-#[derive(Clone, Copy, Debug)]
+#[derive(Clone, Debug)]
 pub enum Call<'a> {
     /// Makes the record, whatever it was before.
     BringUp(Attached<'a>),
@@ -48,9 +48,9 @@ pub enum Call<'a> {
         interface: u8,
         /// Its alternate setting.
         alternate: u8,
-        /// A ring for each endpoint word of that setting.
-        rings: &'a [u64],
     },
+    /// The claim that an ask has shown ([`Record::ask`]), unless another would be shown now.
+    Commit(Asked),
     /// The release of an interface.
     Release {
         /// The interface.
@@ -70,6 +70,8 @@ pub enum Call<'a> {
         /// Think time in nanoseconds.
         ns: u32,
     },
+    /// The unplugging, which disables the slot.
+    Disconnect,
 }
 
 /// What a pending call wants.
@@ -92,9 +94,9 @@ pub enum Next<'a> {
 /// # let (mut ctx, mut routes, mut log) = ([0; 1056], [0; 64], [0; 64]);
 /// # let memory = xhci_device::Memory { ctx: &mut ctx, routes: &mut routes, log: &mut log, outcomes: &[0; 64] };
 /// # let args = xhci_device::BringUp { slot: xhci_device::SlotId(1), n: 1, speed: 3, parent: None, port: 1,
-/// #     root_port: 1, ring: 0x1000, header: 8, packet: 64, value: 0, hubs: &[], list: &[0x0040_0000, 0x4000_0000] };
+/// #     root_port: 1, rings: &[0x1000], header: 8, packet: 64, value: 0, hubs: &[], list: &[0x0040_0000, 0x4000_0000] };
 /// # let (mut record, _, _) = Record::bring_up(memory, &args);
-/// let mut pending = Pending::new(&mut record, &mut ctx, Call::Claim { interface: 0, alternate: 0, rings: &[] });
+/// let mut pending = Pending::new(&mut record, &mut ctx, Call::Claim { interface: 0, alternate: 0 });
 /// let Next::Send(due) = pending.next(&mut routes) else { panic!() };
 /// assert_eq!(due.command, Command::Configure); // sent over due.ctx; other slots' calls may run meanwhile
 /// pending.outcome(Ok(Read::Nothing));
@@ -231,7 +233,7 @@ impl<'a> Pending<'a> {
     }
 
     fn slot(&self) -> SlotId {
-        match self.call {
+        match &self.call {
             Call::BringUp(attached) => attached.slot,
             _ => self.begun.record.slot(),
         }
@@ -271,12 +273,14 @@ impl<'a> Pending<'a> {
         self.put_back(routes);
         let outcomes = &self.outcomes[..self.told];
         let memory = Memory { ctx: self.ctx, routes, log: &mut self.log, outcomes };
-        (self.answer, self.count) = match self.call {
-            Call::BringUp(attached) => self.record.bring_up_here(memory, &known(&attached, &self.learned)),
-            Call::Claim { interface, alternate, rings } => self.record.claim(memory, interface, alternate, rings),
-            Call::Release { interface } => self.record.release(memory, interface),
-            Call::SetConfiguration { value } => self.record.set_configuration(memory, value),
-            Call::HubUpdate { ports, multi, ns } => self.record.hub_update(memory, ports, multi, ns),
+        (self.answer, self.count) = match &self.call {
+            Call::BringUp(attached) => self.record.bring_up_here(memory, &known(attached, &self.learned)),
+            Call::Claim { interface, alternate } => self.record.claim(memory, *interface, *alternate),
+            Call::Commit(asked) => self.record.commit_shown(memory, asked),
+            Call::Release { interface } => self.record.release(memory, *interface),
+            Call::SetConfiguration { value } => self.record.set_configuration(memory, *value),
+            Call::HubUpdate { ports, multi, ns } => self.record.hub_update(memory, *ports, *multi, *ns),
+            Call::Disconnect => self.record.disconnect(memory),
         };
     }
 
@@ -293,7 +297,7 @@ impl<'a> Pending<'a> {
 
 /// A bring-up with what is known of the device so far.
 fn known<'b>(attached: &Attached<'b>, learned: &'b Learned) -> BringUp<'b> {
-    let Attached { slot, n, speed, parent, port, root_port, ring, hubs } = *attached;
+    let Attached { slot, n, speed, parent, port, root_port, rings, hubs } = *attached;
     let Learned { header, packet, value, .. } = *learned;
-    BringUp { slot, n, speed, parent, port, root_port, ring, header, packet, value, hubs, list: learned.list() }
+    BringUp { slot, n, speed, parent, port, root_port, rings, header, packet, value, hubs, list: learned.list() }
 }

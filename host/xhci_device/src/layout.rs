@@ -15,7 +15,7 @@ pub const EP_REVOKED: usize = 3;
 /// The slot.
 pub const SLOT: usize = 33;
 /// How many slots the route table serves.
-pub const N: usize = 34;
+pub const MAX_SLOTS: usize = 34;
 /// The speed, 1 to 5.
 pub const PORT_SPEED: usize = 35;
 /// The configuration value.
@@ -51,9 +51,19 @@ pub const EP_RINGS: usize = 423;
 /// The quarantined rings.
 pub const QUARANTINED: usize = 453;
 
+// Flags that were added.
+/// Whether the device may be unplugged.
+pub const UP: usize = 514;
+
+// The rings that the slot was given: words of 64 bits that were added.
+/// How many given rings.
+pub const GIVEN_COUNT: usize = 515;
+/// The given rings.
+pub const GIVEN: usize = 516;
+
 // How many there are.
 /// How many words an image has.
-pub const WORDS: usize = 514;
+pub const WORDS: usize = 580;
 
 // Room in a record's arrays.
 /// Descriptor words.
@@ -64,3 +74,5 @@ pub const EP_ROOM: usize = 30;
 pub const HELD_ROOM: usize = 32;
 /// Quarantined rings.
 pub const RING_ROOM: usize = 61;
+/// Given rings.
+pub const GIVEN_ROOM: usize = 64;

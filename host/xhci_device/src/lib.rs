@@ -3,6 +3,7 @@
 #![deny(unsafe_code, missing_docs)]
 
 mod answer;
+mod asked;
 mod bus;
 mod call;
 mod command;
@@ -15,6 +16,7 @@ mod raw;
 mod record;
 
 pub use answer::Answer;
+pub use asked::Asked;
 pub use bus::{Bus, Due, Outcome, Read, UNREADABLE};
 pub use call::{BringUp, Memory};
 pub use command::Command;

@@ -49,11 +49,34 @@ impl fmt::Display for RawRefusal {
 }
 
 /// Reads descriptors into the first of `words`. Says how many; the other words stay as they are.
+///
+/// ```
+/// use xhci_device::{READ_WORDS, RawRefusal, read_descriptors};
+///
+/// let mut bytes = [
+///     9, 2, 25, 0, 1, 1, 0, 0x80, 50, // configuration 1
+///     9, 4, 0, 0, 1, 3, 0, 0, 0, // interface 0, alternate 0
+///     7, 5, 0x81, 3, 64, 0, 4, // endpoint 0x81, interrupt, size 64, interval 4
+/// ];
+/// let mut words = [0; READ_WORDS];
+/// assert_eq!(read_descriptors(&bytes, &mut words), Ok(3));
+/// assert_eq!(words[..3], [0x0040_0000, 0x4000_0000, 0xA384_0410]);
+/// bytes[18] = 6; // too short for an endpoint descriptor
+/// assert_eq!(read_descriptors(&bytes, &mut words), Err(RawRefusal::Malformed));
+/// ```
 pub fn read_descriptors(bytes: &[u8], words: &mut [u32]) -> Result<usize, RawRefusal> {
     library::read_descriptors(bytes, words)
 }
 
 /// Writes a list of descriptor words into the first of `bytes`. Says how many; the other bytes stay as they are.
+///
+/// ```
+/// use xhci_device::{WRITE_BYTES, write_descriptors};
+///
+/// let mut bytes = [0; WRITE_BYTES];
+/// assert_eq!(write_descriptors(&[0x0040_0000, 0x4000_0000, 0xA384_0410], &mut bytes), Ok(25));
+/// assert_eq!(bytes[18..25], [7, 5, 0x81, 3, 64, 0, 4]);
+/// ```
 pub fn write_descriptors(list: &[u32], bytes: &mut [u8]) -> Result<usize, RawRefusal> {
     library::write_descriptors(list, bytes)
 }

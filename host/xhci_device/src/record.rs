@@ -2,11 +2,11 @@
 
 use crate::layout::{
     ALTERNATES, CONFIGURED, CONTROL, CONTROL_REVOKED, CURRENT_CONFIG_VALUE, EP_ADDRESSES, EP_COUNT, EP_INTERFACES,
-    EP_REVOKED, EP_RINGS, EP_ROOM, HELD_COUNT, HELD_ROOM, INTERFACES, LIST, LIST_LEN, LIST_ROOM, N, PORT_SPEED,
-    QUARANTINED, QUARANTINED_COUNT, RING_ROOM, SLOT, SPACING, WORDS,
+    EP_REVOKED, EP_RINGS, EP_ROOM, GIVEN, GIVEN_COUNT, GIVEN_ROOM, HELD_COUNT, HELD_ROOM, INTERFACES, LIST, LIST_LEN,
+    LIST_ROOM, MAX_SLOTS, PORT_SPEED, QUARANTINED, QUARANTINED_COUNT, RING_ROOM, SLOT, SPACING, WORDS,
 };
-use crate::library;
-use crate::{Answer, BringUp, Dci, Memory, SlotId};
+use crate::library::{self, Parts};
+use crate::{Answer, Asked, BringUp, Dci, Memory, SlotId};
 
 /// A record: the image that the library reads and writes. A bring-up makes it.
 ///
@@ -24,7 +24,7 @@ use crate::{Answer, BringUp, Dci, Memory, SlotId};
 ///     parent: None,
 ///     port: 1,
 ///     root_port: 1,
-///     ring: 0x1000,
+///     rings: &[0x1000, 0x2000],
 ///     header: 8,
 ///     packet: 64,
 ///     value: 0,
@@ -35,8 +35,8 @@ use crate::{Answer, BringUp, Dci, Memory, SlotId};
 /// assert_eq!((answer, count), (Answer::Accepted, 9));
 ///
 /// let memory = Memory { ctx: &mut ctx, routes: &mut routes, log: &mut log, outcomes: &[0, 7, 0] };
-/// assert_eq!(record.claim(memory, 0, 0, &[0x2000]), (Answer::Failed(7), 3));
-/// assert!(record.is_usable() && record.held().len() == 0);
+/// assert_eq!(record.claim(memory, 0, 0), (Answer::Failed(7), 3));
+/// assert!(record.is_usable() && record.held().len() == 0 && record.free().eq([0x2000]));
 /// ```
 #[derive(Clone, Debug, PartialEq, Eq)]
 pub struct Record {
@@ -101,9 +101,43 @@ impl Record {
         library::bring_up(&mut self.words, memory, args)
     }
 
-    /// The claim of an interface's alternate setting, with a ring for each of its endpoint words.
-    pub fn claim(&mut self, memory: Memory<'_>, interface: u8, alternate: u8, rings: &[u64]) -> (Answer, usize) {
-        library::claim(&mut self.words, memory, interface, alternate, rings)
+    /// The claim of an interface's alternate setting. Each of its endpoint words draws a ring, the lowest free one first.
+    pub fn claim(&mut self, memory: Memory<'_>, interface: u8, alternate: u8) -> (Answer, usize) {
+        library::claim(&mut self.words, memory, interface, alternate)
+    }
+
+    /// What a claim would do that is lent a context, routes and a log of these lengths. It runs the claim's checks, sends
+    /// nothing and changes nothing.
+    ///
+    /// ```
+    /// use xhci_device::{Answer, Asked, BringUp, Dci, Memory, Record, SlotId};
+    ///
+    /// # let (mut ctx, mut routes, mut log) = ([0; 1056], [0; 64], [0; 64]);
+    /// # let memory = Memory { ctx: &mut ctx, routes: &mut routes, log: &mut log, outcomes: &[0; 64] };
+    /// # let args = BringUp { slot: SlotId(1), n: 1, speed: 3, parent: None, port: 1, root_port: 1,
+    /// #     rings: &[0x1000, 0x2000], header: 8, packet: 64, value: 0, hubs: &[],
+    /// #     list: &[0x0040_0000, 0x4000_0000, 0xA384_0410] };
+    /// # let (mut record, _, _) = Record::bring_up(memory, &args);
+    /// let asked: Asked = record.ask(&ctx, &routes, &log, 0, 0)?;
+    /// assert!(asked.dropped().next().is_none() && asked.added().eq([Dci(3)]));
+    /// assert_eq!(asked.rings(), [0x2000]);
+    ///
+    /// let memory = Memory { ctx: &mut ctx, routes: &mut routes, log: &mut log, outcomes: &[0, 0] };
+    /// assert_eq!(record.commit(memory, asked), (Answer::Accepted, 2));
+    /// # Ok::<(), Answer>(())
+    /// ```
+    pub fn ask(&self, ctx: &[u8], routes: &[u64], log: &[u32], interface: u8, alternate: u8) -> Result<Asked, Answer> {
+        library::ask(&self.words, [ctx.len(), routes.len(), log.len()], interface, alternate)
+    }
+
+    /// The claim that an ask has shown, unless another would be shown now (`OutdatedAsk`).
+    pub fn commit(&mut self, memory: Memory<'_>, asked: Asked) -> (Answer, usize) {
+        self.commit_shown(memory, &asked)
+    }
+
+    pub(crate) fn commit_shown(&mut self, memory: Memory<'_>, asked: &Asked) -> (Answer, usize) {
+        let Asked { interface, alternate, drops, adds, .. } = *asked;
+        library::commit(&mut self.words, memory, &Parts { interface, alternate, drops, adds, rings: asked.rings() })
     }
 
     /// The release of an interface.
@@ -120,13 +154,24 @@ impl Record {
     pub fn hub_update(&mut self, memory: Memory<'_>, ports: u8, multi: bool, ns: u32) -> (Answer, usize) {
         library::hub_update(&mut self.words, memory, ports, multi, ns)
     }
+
+    /// The unplugging: everything is stopped and the slot disabled. Also of a record that a broken or cut call left
+    /// unusable ([`is_up`](Record::is_up)).
+    pub fn disconnect(&mut self, memory: Memory<'_>) -> (Answer, usize) {
+        library::disconnect(&mut self.words, memory)
+    }
 }
 
 /// What a record says.
 impl Record {
-    /// Whether calls may be made on it: after an accepted bring-up, up to a broken or cut call.
+    /// Whether calls may be made on it: after an accepted bring-up, up to a broken or cut call or an accepted unplugging.
     pub fn is_usable(&self) -> bool {
         library::is_usable(&self.words)
+    }
+
+    /// Whether the device may be unplugged: after an accepted bring-up, up to an accepted unplugging.
+    pub fn is_up(&self) -> bool {
+        library::is_up(&self.words)
     }
 
     /// Whether the calls can have left it; they refuse any other.
@@ -141,7 +186,7 @@ impl Record {
 
     /// N, the number of slots that the routes serve.
     pub fn n(&self) -> u8 {
-        self.words[N] as u8
+        self.words[MAX_SLOTS] as u8
     }
 
     /// The context's block size.
@@ -197,9 +242,23 @@ impl Record {
         })
     }
 
-    /// The rings that broken calls left behind, in the order of arrival.
+    /// The rings that broken calls left behind, in the order of arrival. After a broken unplugging these are control's
+    /// and the endpoints' too.
     pub fn quarantined(&self) -> impl ExactSizeIterator<Item = u64> + '_ {
         (0..self.count(QUARANTINED_COUNT, RING_ROOM)).map(|i| self.words[QUARANTINED + i])
+    }
+
+    /// The rings that the slot was given.
+    pub fn given(&self) -> impl ExactSizeIterator<Item = u64> + '_ {
+        (0..self.count(GIVEN_COUNT, GIVEN_ROOM)).map(|i| self.words[GIVEN + i])
+    }
+
+    /// The given rings that a claim may draw: not control's, no endpoint's, not quarantined.
+    pub fn free(&self) -> impl Iterator<Item = u64> + '_ {
+        self.given().filter(|ring| {
+            let mut used = self.endpoints().map(|endpoint| endpoint.ring).chain(self.quarantined());
+            *ring != self.control() && !used.any(|other| other == *ring)
+        })
     }
 }
 
@@ -217,5 +276,18 @@ impl Record {
     #[cfg(feature = "words")]
     pub fn from_words(words: [u64; WORDS]) -> Record {
         Record { words }
+    }
+
+    /// A commit of flags and rings that no ask need have returned.
+    #[cfg(feature = "words")]
+    pub fn commit_parts(
+        &mut self,
+        memory: Memory<'_>,
+        setting: Setting,
+        flags: (u32, u32),
+        rings: &[u64],
+    ) -> (Answer, usize) {
+        let (Setting { interface, alternate }, (drops, adds)) = (setting, flags);
+        library::commit(&mut self.words, memory, &Parts { interface, alternate, drops, adds, rings })
     }
 }

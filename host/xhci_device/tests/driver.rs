@@ -24,26 +24,29 @@ fn one_shot(world: &mut World, call: &Call<'_>, device: &Device, list: &[u32], o
     let mut log = [0; 64];
     let World { record, ctx, routes } = world;
     let memory = Memory { ctx, routes, log: &mut log, outcomes };
-    let (answer, count) = match *call {
-        Call::BringUp(Attached { slot, n, speed, parent, port, root_port, ring, hubs }) => {
+    let (answer, count) = match call.clone() {
+        Call::BringUp(Attached { slot, n, speed, parent, port, root_port, rings, hubs }) => {
             let (header, packet) = (device.header.len(), device.packet());
             let value = device.value.first().copied().unwrap_or(0);
-            let args = BringUp { slot, n, speed, parent, port, root_port, ring, header, packet, value, hubs, list };
+            let args = BringUp { slot, n, speed, parent, port, root_port, rings, header, packet, value, hubs, list };
             let (made, answer, count) = Record::bring_up(memory, &args);
             *record = made;
             (answer, count)
         }
-        Call::Claim { interface, alternate, rings } => record.claim(memory, interface, alternate, rings),
+        Call::Claim { interface, alternate } => record.claim(memory, interface, alternate),
+        Call::Commit(asked) => record.commit(memory, asked),
         Call::Release { interface } => record.release(memory, interface),
         Call::SetConfiguration { value } => record.set_configuration(memory, value),
         Call::HubUpdate { ports, multi, ns } => record.hub_update(memory, ports, multi, ns),
+        Call::Disconnect => record.disconnect(memory),
     };
     (answer, log[..count].to_vec())
 }
 
 /// Whether the library takes a list.
 fn is_valid(list: &[u32]) -> bool {
-    let port = Attached { slot: SlotId(1), n: N, speed: 3, parent: None, port: 1, root_port: 1, ring: 16, hubs: &[] };
+    let port =
+        Attached { slot: SlotId(1), n: N, speed: 3, parent: None, port: 1, root_port: 1, rings: &[16], hubs: &[] };
     let device = Device { header: vec![], value: vec![], configurations: vec![] };
     let mut world = World { record: Record::new(), ctx: vec![0; 1056], routes: vec![0; ROUTES] };
     one_shot(&mut world, &Call::BringUp(port), &device, list, &[]).0 == Answer::Cut
@@ -158,7 +161,7 @@ fn drive(world: &mut World, call: &Call<'_>, mut script: Script<'_>, rng: &mut R
     };
     let mut written = vec![];
     let World { record, ctx, routes } = world;
-    let mut pending = Pending::new(record, ctx, *call);
+    let mut pending = Pending::new(record, ctx, call.clone());
     if script.outcomes.len() == COMMANDS && rng.once_in(2) {
         let answer = pending.run(routes, &mut script);
         return ((answer, pending.log().to_vec()), written);
@@ -183,7 +186,7 @@ fn drive(world: &mut World, call: &Call<'_>, mut script: Script<'_>, rng: &mut R
 #[test]
 fn driven_calls_equal_one_shot_calls() {
     let mut rng = Rng::new(0x5EED_0001);
-    let (mut counts, mut sent) = ([0; 20], 0);
+    let (mut counts, mut sent, mut before) = ([0; 23], 0, None);
     let mut world = random::world(&mut rng);
     for _ in 0..CALLS {
         let stale = !world.record.is_usable() && !rng.once_in(4);
@@ -194,8 +197,9 @@ fn driven_calls_equal_one_shot_calls() {
             world.routes[32 + rng.below(32)] = rng.below(2) as u64 * 0x4000;
         }
         let (device, hubs) = (random::device(&mut rng), random::hubs(&mut rng));
-        let (claim, outcomes) = (random::claim(&mut rng, &world.record), random::outcomes(&mut rng));
-        let call = random::call(&mut rng, &world.record, &claim, &hubs);
+        let (rings, outcomes) = (random::rings(&mut rng), random::outcomes(&mut rng));
+        let call = random::call(&mut rng, &world.record, &rings, &hubs);
+        let call = random::committed(&mut rng, &world, call, &mut before);
 
         let (mut whole, mut steps) = (world.clone(), world.clone());
         let left = expected(&mut whole, &call, &device, &outcomes);
@@ -210,8 +214,8 @@ fn driven_calls_equal_one_shot_calls() {
         world = steps;
     }
     println!("{CALLS} calls, {sent} commands, answers {counts:?}");
-    let missing: Vec<usize> = (0..20).filter(|&number| counts[number] == 0).collect();
-    assert_eq!(missing, [3, 4], "the log is the driver's own, and the list is read");
+    let missing: Vec<usize> = (0..23).filter(|&number| counts[number] == 0).collect();
+    assert_eq!(missing, [3, 4, 20], "the log is the driver's own, the list is read, and raw descriptors have 20");
 }
 
 /// Configuration 1, interface 0: alternate 0 with 0x81, interrupt; alternate 1 with 0x81 and 0x02, bulk.
@@ -223,7 +227,7 @@ fn keyboard() -> Device {
 }
 
 fn attached<'a>(slot: u8) -> Call<'a> {
-    let ring = 0x1000 * u64::from(slot);
+    const RINGS: [[u64; 4]; 2] = [[0x1000, 0x5000, 0x5010, 0x5020], [0x2000, 0x6000, 0x6010, 0x6020]];
     Call::BringUp(Attached {
         slot: SlotId(slot),
         n: N,
@@ -231,7 +235,7 @@ fn attached<'a>(slot: u8) -> Call<'a> {
         parent: None,
         port: 1,
         root_port: slot,
-        ring,
+        rings: &RINGS[usize::from(slot) - 1],
         hubs: &[],
     })
 }
@@ -263,9 +267,9 @@ fn two_slots_take_turns_over_one_table() {
     two.routes = one.routes;
     brought_up(&mut two, 2);
     let mut routes = two.routes;
-    let claim = |rings| Call::Claim { interface: 0, alternate: 1, rings };
-    let mut first = Pending::new(&mut one.record, &mut one.ctx, claim(&[0x5000, 0x5010]));
-    let mut second = Pending::new(&mut two.record, &mut two.ctx, claim(&[0x6000, 0x6010]));
+    let claim = Call::Claim { interface: 0, alternate: 1 };
+    let mut first = Pending::new(&mut one.record, &mut one.ctx, claim.clone());
+    let mut second = Pending::new(&mut two.record, &mut two.ctx, claim);
     for command in [Command::Configure, Command::SetInterface { interface: 0, alternate: 1 }] {
         assert_eq!(step(&mut first, &mut routes), Some(command));
         assert_eq!(step(&mut second, &mut routes), Some(command));
@@ -327,7 +331,7 @@ fn a_call_that_never_begins_changes_nothing() {
         parent: None,
         port: 1,
         root_port: 1,
-        ring: 16,
+        rings: &[16],
         hubs: &[],
     });
     assert_eq!(one_shot(&mut refused, &call, &keyboard(), &[], &[]).0, Answer::Speed);

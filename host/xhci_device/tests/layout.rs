@@ -34,7 +34,7 @@ fn header(comment: &str) -> Names {
 #[test]
 fn words_and_rooms_have_one_number_each() {
     let code = constants("crates/device_image/src/layout.rt");
-    assert_eq!((code.len(), code["WORDS"]), (22, xhci_device::layout::WORDS));
+    assert_eq!((code.len(), code["WORDS"]), (25, xhci_device::layout::WORDS));
     assert_eq!(names(&text("crates/device_image/specs/Layout.antt"), |line| line.split_once(" = ")), code);
 
     let (rooms, words): (Names, Names) =

@@ -7,6 +7,7 @@ mod sha256;
 mod sources;
 
 use std::fs;
+use std::ops::Deref;
 use std::path::{Path, PathBuf};
 
 use sha256::sha256;
@@ -26,8 +27,25 @@ fn digests() {
     assert_eq!(sha256(&[b'a'; 1_000_000]), "cdc76e5c9914fb9281a1c7e284d73e67f1809a48a497200e046d39ccc7112cd0");
 }
 
+/// A folder that goes with the test: `rt check` refuses stray files of Rattle, also below target/.
+struct Repository(PathBuf);
+
+impl Deref for Repository {
+    type Target = Path;
+
+    fn deref(&self) -> &Path {
+        &self.0
+    }
+}
+
+impl Drop for Repository {
+    fn drop(&mut self) {
+        let _ = fs::remove_dir_all(&self.0);
+    }
+}
+
 /// A repository of three crates, of which the archive uses two.
-fn repository(name: &str) -> PathBuf {
+fn repository(name: &str) -> Repository {
     let root = Path::new(env!("CARGO_TARGET_TMPDIR")).join(name);
     let _ = fs::remove_dir_all(&root);
     put(&root, "crates.txt", "# a line for each\nbelow:\nother: below\nxhci_device: below io\n");
@@ -36,7 +54,7 @@ fn repository(name: &str) -> PathBuf {
     }
     put(&root, "crates/xhci_device/src/lib.rt", "text");
     put(&root, "target/staticlib/libxhci_device.a", "archive");
-    root
+    Repository(root)
 }
 
 fn put(root: &Path, path: &str, text: &str) {

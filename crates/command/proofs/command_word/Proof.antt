@@ -91,6 +91,9 @@ mul-result-6 c = search needs
 add-result-6 : tie.Need-add-result-6
 add-result-6 c = search needs
 
+enum-told-7 : tie.Need-enum-told-7
+enum-told-7 c = search needs
+
 returns : tie.Need-returns
 unfolding commandWord
 returns c = rw (c .enum-told .given .1)
@@ -105,11 +108,11 @@ returns-3 c = rw (c .enum-told3 .given .1)
 
 returns-4 : tie.Need-returns-4
 unfolding commandWord
-returns-4 c = rw (c .before .c .given .1) (omega arith)
+returns-4 c = rw (c .before .before .c .given .1) (omega arith)
 
 returns-5 : tie.Need-returns-5
 unfolding commandWord
-returns-5 c = rw (c .before .c2 .given .1) (omega arith)
+returns-5 c = rw (c .before .before .c2 .given .1) (omega arith)
 
 returns-6 : tie.Need-returns-6
 unfolding commandWord
@@ -134,6 +137,10 @@ returns-10 c = rw (c .enum-told6 .given .1)
 returns-11 : tie.Need-returns-11
 unfolding commandWord
 returns-11 c = rw (c .before .c5 .given .1) (omega arith)
+
+returns-12 : tie.Need-returns-12
+unfolding commandWord
+returns-12 c = rw (c .enum-told7 .given .1)
 
 pub command-word-spec : {M : Type 1} → statement M
 command-word-spec =
@@ -168,6 +175,7 @@ command-word-spec =
     cast-result-6
     mul-result-6
     add-result-6
+    enum-told-7
     returns
     returns-2
     returns-3
@@ -178,4 +186,5 @@ command-word-spec =
     returns-8
     returns-9
     returns-10
-    returns-11)
+    returns-11
+    returns-12)

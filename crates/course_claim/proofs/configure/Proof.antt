@@ -2,6 +2,7 @@ use Prim.Native.Nat.{ℕ, _+_}
 use mathlib.Core.Path.{_≡_}
 use mathlib.Core.Bool.{false}
 use mathlib.Core.List.{List}
+use native.Mathlib.Omega.{arith}
 use lib.ListN.{set}
 use Rattle.answer.specs.declared.Answer.{Answer}
 use Rattle.answer.specs.declared.Answer.the-variants as answer
@@ -18,7 +19,7 @@ use Rattle.context.specs.Steps.{configureWrites}
 use Rattle.course_steps.specs.declared.CourseEnd.{CourseEnd}
 use Rattle.course_steps.specs.End.{End, settingsKept, answerOf}
 use Rattle.course_steps.specs.Arrays.{dcisIn, queuesIn, courseLeaves}
-use Rattle.course_steps.proofs.Laws.{dcis-in}
+use Rattle.course_steps.proofs.Laws.{dcis-in, room-same}
 use Rattle.course_claim.specs.declared.ClaimPlan.{ClaimPlan}
 use Rattle.course_claim.specs.Claim.{claimOf, claimContext, claimSwitch, claimResume, claimConfigure}
 use borrow.Author.Needs.{needs}
@@ -73,7 +74,13 @@ enum-told : tie.Need-enum-told
 enum-told c = search needs
 
 switch-requires : tie.Need-switch-requires
-switch-requires c κs = search needs
+switch-requires c κs =
+    let c7 = c .before .before .before .before .before .before .before in
+    let c11 = c7 .before .before .before .before in
+    let c19 = c11 .before .before .before .before .before .before .before .before in (
+      room-same _ _ _ _ _ (c19 .pre .0) (c11 .prepare-configure .kept .0),
+      (c19 .pre .1 .0, omega (arith, c7 .send .kept .0, c19 .pre .1 .1)),
+    )
 
 enum-known-s : tie.Need-enum-known-s
 enum-known-s c = search needs

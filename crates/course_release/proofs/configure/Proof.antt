@@ -2,6 +2,7 @@ use Prim.Native.Nat.{ℕ, _+_}
 use mathlib.Core.Path.{_≡_}
 use mathlib.Core.Bool.{false}
 use mathlib.Core.List.{List, []}
+use native.Mathlib.Omega.{arith}
 use lib.ListN.{set}
 use Rattle.answer.specs.declared.Answer.{Answer}
 use Rattle.answer.specs.declared.Answer.the-variants as answer
@@ -68,7 +69,9 @@ slice-aggregate-prepare-configure : tie.Need-slice-aggregate-prepare-configure
 slice-aggregate-prepare-configure c = search needs
 
 prepare-configure-requires : tie.Need-prepare-configure-requires
-prepare-configure-requires c κs = search needs
+prepare-configure-requires c κs =
+    let room = c .before .before .before .before .before .before .before .before .pre .0 in
+    (room .spaced, (omega (arith, c .before .before .no-queues .ensures .1), room .few-all, room .dcis))
 
 send-requires : tie.Need-send-requires
 send-requires c κs = search needs

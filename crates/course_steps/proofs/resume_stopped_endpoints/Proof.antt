@@ -52,8 +52,8 @@ loop-again c =
           (c .enum-told .given .1),
     )
 
-add-t17 : tie.Need-add-t17 Inv-loop μ-loop
-add-t17 c = search needs
+add-t18 : tie.Need-add-t18 Inv-loop μ-loop
+add-t18 c = search needs
 
 same-length : tie.Need-same-length Inv-loop μ-loop
 same-length c = search needs
@@ -73,8 +73,8 @@ returns c =
           = refl;
     })
 
-add-t19 : tie.Need-add-t19 Inv-loop μ-loop
-add-t19 c = search needs
+add-t20 : tie.Need-add-t20 Inv-loop μ-loop
+add-t20 c = search needs
 
 same-length-2 : tie.Need-same-length-2 Inv-loop μ-loop
 same-length-2 c = search needs
@@ -96,9 +96,9 @@ resume-stopped-endpoints-spec =
     add-i
     loop-less
     loop-again
-    add-t17
+    add-t18
     same-length
     returns
-    add-t19
+    add-t20
     same-length-2
     returns-2)

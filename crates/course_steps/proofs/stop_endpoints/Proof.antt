@@ -93,8 +93,8 @@ returns c =
 enum-told-2 : tie.Need-enum-told-2 Inv-loop μ-loop
 enum-told-2 c = search needs
 
-add-t26 : tie.Need-add-t26 Inv-loop μ-loop
-add-t26 c = search needs
+add-t27 : tie.Need-add-t27 Inv-loop μ-loop
+add-t27 c = search needs
 
 same-length-2 : tie.Need-same-length-2 Inv-loop μ-loop
 same-length-2 c = search needs
@@ -114,8 +114,8 @@ returns-2 c =
       log = refl;
     })
 
-add-t28 : tie.Need-add-t28 Inv-loop μ-loop
-add-t28 c = search needs
+add-t29 : tie.Need-add-t29 Inv-loop μ-loop
+add-t29 c = search needs
 
 same-length-3 : tie.Need-same-length-3 Inv-loop μ-loop
 same-length-3 c = search needs
@@ -144,9 +144,9 @@ stop-endpoints-spec =
     same-length
     returns
     enum-told-2
-    add-t26
+    add-t27
     same-length-2
     returns-2
-    add-t28
+    add-t29
     same-length-3
     returns-3)

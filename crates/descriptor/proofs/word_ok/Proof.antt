@@ -1,6 +1,6 @@
 use borrow.Author.Tests.{ne-eqb}
 use Rattle.descriptor.specs.Word.{wordOk}
-use Rattle.descriptor.proofs.Refused.{endpoint-number-zero, endpoint-type-zero, endpoint-in-15, endpoint-fits}
+use Rattle.descriptor.proofs.Refused.{endpoint-number-zero, endpoint-type-zero, endpoint-fits}
 use borrow.Author.Needs.{needs}
 use Rattle.descriptor.proofs.word_ok.Statement.{statement}
 use Rattle.descriptor.proofs.word_ok.Tie as tie
@@ -30,11 +30,7 @@ returns-5 c = rw (← c .before .before .before .word-kind .ensures, c .before .
 
 returns-6 : tie.Need-returns-6
 unfolding wordOk
-returns-6 c = rw (← c .before .before .before .before .word-kind .ensures, c .before .before .before .match .keys3, endpoint-in-15 _ (c .if3 .taken))
-
-returns-7 : tie.Need-returns-7
-unfolding wordOk
-returns-7 c = rw (← c .before .before .before .before .word-kind .ensures, c .before .before .before .match .keys3, endpoint-fits _ (c .before .before .if1 .left) (c .before .if2 .left) (c .if3 .left))
+returns-6 c = rw (← c .before .before .before .word-kind .ensures, c .before .before .match .keys3, endpoint-fits _ (c .before .if1 .left) (c .if2 .left))
 
 pub word-ok-spec : {M : Type 1} → statement M
 word-ok-spec =
@@ -46,5 +42,4 @@ word-ok-spec =
     returns-3
     returns-4
     returns-5
-    returns-6
-    returns-7)
+    returns-6)

@@ -65,7 +65,7 @@ impl Pair {
         let (reply, words) = read.ask(&*self.subject);
         let (expected_reply, expected) = read.ask(&*self.reference);
         let grounds = if read.room < WORDS_ROOM { BTreeSet::new() } else { grounds(&read.bytes) };
-        let returned = reply.number == 0 && self.read_again(&words[..reply.count]);
+        let returned = reply.number == 0 && words.get(..reply.count).is_some_and(|words| self.read_again(words));
         let fault = if (reply, words) != (expected_reply, expected) {
             Some("the layers")
         } else if grounds.is_empty() == (reply.number == 20) {

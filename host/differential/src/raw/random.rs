@@ -101,7 +101,7 @@ fn setting(rng: &mut Rng, bytes: &mut Vec<u8>, strange: bool) {
     let most = if rng.percent(2) { 32 } else { 4 };
     for _ in 0..rng.below(most) {
         let (address, attributes) = (rng.byte(), rng.byte());
-        let sound = address & 15 != 0 && address & 0x8F != 0x8F && attributes & 3 != 0;
+        let sound = address & 15 != 0 && attributes & 3 != 0;
         let (address, attributes) = if sound || strange { (address, attributes) } else { (0x81, 2) };
         let field = rng.next() as u16;
         let field = if field >> 11 & 3 == 3 { field ^ 0x800 } else { field };

@@ -29,13 +29,38 @@ fn answers_are_the_header_s() {
 fn calls(name: &str) -> Vec<Step> {
     let call = match name {
         "bring-up" => return holding()[..1].to_vec(),
-        "claim" => claim(0, 0, &[0x2000]),
+        "claim" => claim(0, 0),
+        "ask" => Call::Ask(Claim { interface: 0, alternate: 0 }),
+        "commit" => Call::Commit(Some(shown())),
         "release" => Call::Release { interface: 0 },
         "set configuration" => Call::SetConfiguration { value: 9 },
         "hub update" => Call::HubUpdate(HubUpdate { ports: 4, ..HubUpdate::default() }),
+        "unplugging" => Call::Disconnect,
         _ => panic!("no call '{name}'"),
     };
     [&holding()[..], &[step(call)]].concat()
+}
+
+/// What an ask for interface 0, alternate 0 returns, while it holds alternate 1.
+fn shown() -> Asked {
+    let ask = step(Call::Ask(Claim { interface: 0, alternate: 0 }));
+    run(&[&holding()[..], &[ask]].concat()).asked.flatten().expect("an accepted ask")
+}
+
+/// "An ask": what the page says that it returns, for interface 0 and for interface 2.
+#[test]
+fn asks() {
+    for row in table("asks") {
+        let (interface, alternate) = row[0].split_once(':').expect("an alternate");
+        let args = Claim { interface: number(interface) as u8, alternate: number(alternate) as u8 };
+        let left = run(&[&holding()[..], &[step(Call::Ask(args))]].concat());
+        let Some(Some(Asked { drops, adds, rings, .. })) = left.asked else {
+            assert_eq!(format!("answer {}", left.answer.number), row[1], "{row:?}");
+            continue;
+        };
+        let rings: Vec<String> = rings.iter().map(|ring| format!("{ring:x}")).collect();
+        assert_eq!([format!("{drops:08x}"), format!("{adds:08x}"), rings.join(" ")], row[1..4], "{row:?}");
+    }
 }
 
 /// Makes a call one that must be refused with a number; whether it can be.
@@ -49,17 +74,24 @@ fn spoil(steps: &mut [Step], number: u64) -> bool {
         (Call::BringUp(args), 4) => args.list.push(0xC000_0000),
         (Call::BringUp(args), 5) => args.has_parent = true,
         (Call::BringUp(args), 6) => args.speed = 6,
-        (Call::BringUp(args), 10) => args.ring = 8,
+        (Call::BringUp(args), 10) => args.rings.push(8),
         (Call::BringUp(args), 11) => args.slot = 9,
         (Call::BringUp(args), 17) => last.routes = Some(vec![(32 * usize::from(args.slot) + 1, 0x10)]),
         (Call::HubUpdate(args), 7) => args.think = 1,
-        (Call::Claim(args), 8) => args.interface = 9,
+        (Call::Claim(args) | Call::Ask(args), 8) => args.interface = 9,
+        (Call::Commit(Some(asked)), 8) => asked.interface = 9,
         (Call::Release { interface }, 8) => *interface = 9,
-        (Call::Claim(args), 9) if args.interface != 9 => args.interface = 1,
-        (Call::Claim(_), 9) => {}
-        (Call::Claim(args), 10) => args.rings = vec![0x1000],
+        (Call::Claim(args) | Call::Ask(args), 9) if args.interface != 9 => args.interface = 1,
+        (Call::Commit(Some(asked)), 9) if asked.interface != 9 => asked.interface = 1,
+        (Call::Claim(_) | Call::Ask(_) | Call::Commit(_), 9) => {}
+        (Call::Commit(Some(asked)), 22) => asked.adds = 0,
+        (Call::Claim(_) | Call::Ask(_) | Call::Commit(_), 21) => {
+            if let Call::BringUp(args) = &mut before[0].call {
+                args.rings.retain(|ring| *ring < 0x5000);
+            }
+        }
         (Call::BringUp(_), 12) => return false,
-        (_, 12) => last.record = Some(Record { usable: false, ..run(before).record }),
+        (_, 12) => last.record = Some(Record { usable: false, up: false, ..run(before).record }),
         _ => return false,
     }
     true
@@ -72,7 +104,7 @@ fn the_order_of_checks() {
         let order: Vec<u64> = row[1].split(", ").map(number).collect();
         let mut rising = order.clone();
         rising.sort();
-        assert_eq!(rising, (1..=17).filter(|n| spoil(&mut calls(&row[0]), *n)).collect::<Vec<_>>(), "{row:?}");
+        assert_eq!(rising, (1..=22).filter(|n| spoil(&mut calls(&row[0]), *n)).collect::<Vec<_>>(), "{row:?}");
         for (at, first) in order.iter().enumerate() {
             for later in &order[at..] {
                 let mut steps = calls(&row[0]);
@@ -100,7 +132,9 @@ fn bounds() {
             "slot" => args.slot = value as u8,
             "n" => args.n = value as u32,
             "speed" => args = BringUp { slot: args.slot, n: args.n, ..bring_up(value as u8, &args.list) },
-            "ring" => args.ring = value,
+            "rings" => args.rings = (1..=value).map(|at| 16 * at).collect(),
+            "ring" => args.rings = vec![value],
+            "another" => args.rings.push(value),
             "header" => args.header = value as u32,
             _ => {}
         }
@@ -109,7 +143,7 @@ fn bounds() {
             "context" => step.ctx.resize(value as usize, 0),
             "routes" => step.routes_len = Some(value as usize),
             "log" => step.log_len = value as usize,
-            _ => assert!(["slot", "n", "speed", "ring", "header"].contains(&name), "{row:?}"),
+            _ => assert!(["slot", "n", "speed", "rings", "ring", "another", "header"].contains(&name), "{row:?}"),
         }
         assert_eq!(u64::from(run(&[step]).answer.number), number(&row[1]), "{row:?}");
     }
@@ -129,7 +163,8 @@ fn left_text(record: &Record, configuration: bool, words: bool) -> String {
     let quarantined: String = record.quarantined.iter().map(|ring| format!(" {ring:x}")).collect();
     let value = record.config.map_or("no configuration".to_string(), |value| format!("configuration {value}"));
     let parts = [
-        (!record.usable).then(|| "unusable".to_string()),
+        (!record.usable).then(|| if record.up { "unusable, up" } else { "unusable" }.to_string()),
+        record.control_revoked.then(|| "control revoked".to_string()),
         configuration.then_some(value),
         words.then(|| format!("{} words", record.list.len())),
         Some(if held.is_empty() { "nothing held".to_string() } else { format!("held{held}") }),
@@ -172,11 +207,59 @@ fn courses() {
     let on = |call: Call| [&holding()[..], &[step(call)]].concat();
     course("bring-up", &calls("bring-up"), true, true);
     course("claim", &calls("claim"), false, false);
-    course("first claim", &on(claim(2, 0, &[0x5000, 0x6000])), false, false);
+    course("first claim", &on(claim(2, 0)), false, false);
     course("release", &calls("release"), false, false);
     course("release of the idle interface 1", &on(Call::Release { interface: 1 }), false, false);
     course("set configuration", &calls("set configuration"), true, false);
     course("hub update", &calls("hub update"), false, false);
+    course("unplugging", &calls("unplugging"), false, false);
+    let failed = Step { outcomes: vec![0, 0, 0, 7], ..step(Call::Disconnect) };
+    course("unplugging again", &[&holding()[..], &[failed, step(Call::Disconnect)]].concat(), false, false);
+}
+
+/// "Done: the 32 words of the slot become 0, that of Dci 0 too, whatever stood in them"; "the record .. keeps". Then
+/// "every call on the record answers 12, this one too", and the slot is brought up anew.
+#[test]
+fn an_unplugging_clears_the_row() {
+    let steps = calls("unplugging");
+    let before = run(&steps[..2]);
+    let row = 32 * SLOT..32 * SLOT + 32;
+    let strange: Vec<(usize, u64)> = before.table.iter().copied().enumerate().map(|(i, w)| (i, w | 0x9990)).collect();
+    let mut last = step(Call::Disconnect);
+    (last.ctx, last.routes) = (vec![0xA5; 1056], Some(strange.clone()));
+    let mut steps = [&steps[..2], &[last]].concat();
+    let left = run(&steps);
+    assert_eq!((left.answer.number, &left.ctx), (0, &vec![0xA5; 1056]));
+    assert!(strange.iter().all(|(i, word)| left.table[*i] == if row.contains(i) { 0 } else { *word }));
+    let kept = Record {
+        usable: false,
+        up: false,
+        control_revoked: true,
+        endpoints: Vec::new(),
+        held: Vec::new(),
+        ..before.record
+    };
+    assert_eq!(left.record, kept);
+    for name in ["claim", "release", "set configuration", "hub update", "unplugging"] {
+        steps.push(calls(name).pop().expect("a call"));
+        let left = run(&steps);
+        assert_eq!((left.answer.number, left.record == kept), (12, true), "{name}");
+    }
+    steps.push(calls("bring-up").pop().expect("a call"));
+    let left = run(&steps);
+    assert_eq!((left.answer.number, left.record.usable, left.record.up), (0, true, true));
+}
+
+/// "A bring-up that failed".
+#[test]
+fn a_failed_bring_up_is_not_up() {
+    let mut failed = calls("bring-up").pop().expect("a call");
+    failed.outcomes = vec![0, 7];
+    let (again, unplug) = (calls("bring-up").pop().expect("a call"), step(Call::Disconnect));
+    for (call, number) in [(unplug, 12), (again, 17)] {
+        let left = run(&[failed.clone(), call]);
+        assert_eq!((left.answer.number, left.table[32 * SLOT + 1]), (number, 0x1000));
+    }
 }
 
 /// "If the header has not 8 bytes: 16"; "with an empty list, accepted".

@@ -8,6 +8,9 @@ use crate::picture::picture;
 
 pub const SLOT: usize = 3;
 
+/// The rings that its slot is given.
+pub const RINGS: [u64; 5] = [0x1000, 0x3000, 0x4000, 0x5000, 0x6000];
+
 /// Outcomes for any call.
 pub const DONE: [u8; 64] = [0; 64];
 
@@ -23,7 +26,7 @@ pub fn bring_up(speed: u8, list: &[u32]) -> BringUp {
         speed,
         port: 1,
         root_port: 2,
-        ring: 0x1000,
+        rings: RINGS.to_vec(),
         header: 8,
         packet: if speed > 3 { 9 } else { 64 },
         list: list.to_vec(),
@@ -31,8 +34,8 @@ pub fn bring_up(speed: u8, list: &[u32]) -> BringUp {
     }
 }
 
-pub fn claim(interface: u8, alternate: u8, rings: &[u64]) -> Call {
-    Call::Claim(Claim { interface, alternate, rings: rings.to_vec() })
+pub fn claim(interface: u8, alternate: u8) -> Call {
+    Call::Claim(Claim { interface, alternate })
 }
 
 /// A call over a context of zeros at spacing 32, every outcome done.
@@ -47,9 +50,9 @@ pub fn run(steps: &[Step]) -> Left {
     lefts.last().expect("a call").clone()
 }
 
-/// "After the bring-up of the example's device on slot 3 of 8 and the claim of interface 0, alternate 1 (rings 3000, 4000)".
+/// "After the bring-up of the example's device on slot 3 of 8, .. and the claim of interface 0, alternate 1".
 pub fn holding() -> [Step; 2] {
-    [step(Call::BringUp(bring_up(3, &list()))), step(claim(0, 1, &[0x3000, 0x4000]))]
+    [step(Call::BringUp(bring_up(3, &list()))), step(claim(0, 1))]
 }
 
 /// A list of one configuration: interface 0 with alternates of these endpoints, then interface 1 with some.

@@ -41,8 +41,7 @@ fn the_library_reads_configurations_and_alternates_so() {
         {
             let setting = picture("alternate").of(&[("interface", interface), ("alternate", alternate)]);
             let list = [picture("configuration").of(&[("value", value)]) as u32, setting as u32];
-            let left =
-                run(&[step(Call::BringUp(bring_up(3, &list))), step(claim(interface as u8, alternate as u8, &[]))]);
+            let left = run(&[step(Call::BringUp(bring_up(3, &list))), step(claim(interface as u8, alternate as u8))]);
             assert_eq!((left.answer.number, left.record.config), (0, Some(value as u8)));
             assert_eq!(read(&left.ctx, "control", "interface number"), interface);
             assert_eq!(read(&left.ctx, "control", "alternate setting"), alternate);
@@ -58,7 +57,9 @@ fn the_library_reads_endpoints_so() {
             let (interval, packets) = (some("endpoint", "interval", 1)[i], some("endpoint", "packets", 0)[i]);
             for dci in 2..=30 {
                 let list = listed(&[vec![endpoint(address(dci), [kind, size, packets, interval])]], &[]);
-                let left = run(&[step(Call::BringUp(bring_up(3, &list))), step(claim(0, 0, &[0x1234_5678_9ABC_DEF0]))]);
+                let rings = vec![0x10, 0x1234_5678_9ABC_DEF0];
+                let up = BringUp { rings, ..bring_up(3, &list) };
+                let left = run(&[step(Call::BringUp(up)), step(claim(0, 0))]);
                 let of = |name: &str| read(&left.ctx, &format!("Dci {dci}"), name);
                 assert_eq!(left.table[32 * SLOT + dci as usize], 0x1234_5678_9ABC_DEF0);
                 assert_eq!((of("max packet size"), of("endpoint type")), (size, kind + dci % 2 * 4));

@@ -20,21 +20,21 @@ fn shared() -> Vec<u32> {
 }
 
 fn first() -> Call {
-    Call::BringUp(BringUp { slot: SLOT as u8, n: 1, ring: 16, ..bring_up(3, &shared()) })
+    Call::BringUp(BringUp { slot: SLOT as u8, n: 1, rings: vec![16, 32, 48, 64], ..bring_up(3, &shared()) })
 }
 
-/// `claim 0:1 [48 64] / 0 0 7`, `release 0`, `set configuration 1`, `bring-up`.
+/// `claim 0:1 / 0 0 7`, `release 0`, `set configuration 1`, `unplugging`, `bring-up`.
 fn call(text: &str) -> Step {
     let (text, outcomes) = text.split_once(" / ").map_or((text, None), |(text, outcomes)| (text, Some(outcomes)));
     let call = if let Some(rest) = text.strip_prefix("claim ") {
-        let (setting, rings) = rest.split_once(" [").expect("rings");
-        let (interface, alternate) = setting.split_once(':').expect("an alternate");
-        let rings: Vec<u64> = rings.trim_end_matches(']').split(' ').map(number).collect();
-        claim(number(interface) as u8, number(alternate) as u8, &rings)
+        let (interface, alternate) = rest.split_once(':').expect("an alternate");
+        claim(number(interface) as u8, number(alternate) as u8)
     } else if let Some(interface) = text.strip_prefix("release ") {
         Call::Release { interface: number(interface) as u8 }
     } else if let Some(value) = text.strip_prefix("set configuration ") {
         Call::SetConfiguration { value: number(value) as u8 }
+    } else if text == "unplugging" {
+        Call::Disconnect
     } else {
         assert_eq!(text, "bring-up");
         first()
@@ -54,6 +54,7 @@ struct Plain {
 
 const CONFIGURE: u32 = 3;
 const SET_CONFIGURATION: u32 = 7;
+const DISABLE: u32 = 12;
 
 impl Plain {
     /// Of a call that logged some words, and left a context where it was given only the first outcomes.
@@ -67,9 +68,13 @@ impl Plain {
                 .filter(|dci| self.enabled.contains(dci) && !flag("drop flags", *dci, 2) || flag("add flags", *dci, 0))
                 .collect();
         }
+        if (0..words.len()).any(|i| done(i, DISABLE)) {
+            (self.held, self.enabled) = (Vec::new(), Vec::new());
+        }
         let accepted = left.answer.number == 0;
         let set = (0..words.len()).any(|i| done(i, SET_CONFIGURATION));
         match &step.call {
+            Call::BringUp(_) if accepted => *self = Plain::default(),
             Call::Claim(args) if accepted => {
                 self.held.retain(|held| held.0 != args.interface);
                 self.held.push((args.interface, args.alternate));

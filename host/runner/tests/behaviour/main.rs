@@ -12,7 +12,7 @@ mod records;
 mod values;
 
 /// What the modules read, by its mark.
-const CHECKED: [&str; 34] = [
+const CHECKED: [&str; 37] = [
     "picture configuration",
     "picture alternate",
     "picture endpoint",
@@ -41,10 +41,13 @@ const CHECKED: [&str; 34] = [
     "course bring-up",
     "course claim",
     "course first claim",
+    "asks",
     "course release",
     "course release of the idle interface 1",
     "course set configuration",
     "course hub update",
+    "course unplugging",
+    "course unplugging again",
     "sound",
     "ten lists",
 ];

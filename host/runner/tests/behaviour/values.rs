@@ -40,7 +40,7 @@ fn packet_sizes() {
 /// The context of a first claim of Dci 3 with one endpoint word.
 fn added(speed: u8, of: [u64; 4], fill: u8) -> Vec<u8> {
     let list = listed(&[vec![endpoint(0x81, of)]], &[]);
-    let claim = Step { ctx: vec![fill; 1056], ..step(claim(0, 0, &[0x2000])) };
+    let claim = Step { ctx: vec![fill; 1056], ..step(claim(0, 0)) };
     let left = run(&[step(Call::BringUp(bring_up(speed, &list))), claim]);
     assert_eq!(left.answer.number, 0);
     left.ctx
@@ -87,11 +87,10 @@ fn bulk(cell: &str) -> Vec<u32> {
 fn entries() {
     for row in table("entries") {
         let (kept, dropped, new) = (bulk(&row[0]), bulk(&row[1]), bulk(&row[2]));
-        let rings = |first: u64, of: &[u32]| (0..of.len() as u64).map(|i| first + 16 * i).collect::<Vec<_>>();
         let list = listed(&[dropped.clone(), new.clone()], &kept);
-        let mut steps = vec![step(Call::BringUp(bring_up(3, &list))), step(claim(1, 0, &rings(0x3000, &kept)))];
-        steps.push(step(claim(0, 0, &rings(0x4000, &dropped))));
-        steps.push(step(claim(0, 1, &rings(0x5000, &new))));
+        let mut steps = vec![step(Call::BringUp(bring_up(3, &list))), step(claim(1, 0))];
+        steps.push(step(claim(0, 0)));
+        steps.push(step(claim(0, 1)));
         let left = run(&steps);
         assert_eq!((left.answer.number, read(&left.ctx, "slot", "context entries")), (0, number(&row[3])), "{row:?}");
     }
@@ -125,7 +124,7 @@ fn filled(step_name: &str) -> Option<[Vec<u8>; 2]> {
         ("Configure", "dropped") => [0, 255].map(|fill| {
             let list = listed(&[vec![endpoint(0x81, [2, 512, 0, 0])]], &[]);
             let release = Step { ctx: vec![fill; 1056], ..step(Call::Release { interface: 0 }) };
-            run(&[step(Call::BringUp(bring_up(3, &list))), step(claim(0, 0, &[0x2000])), release]).ctx
+            run(&[step(Call::BringUp(bring_up(3, &list))), step(claim(0, 0)), release]).ctx
         }),
         ("hub update", "") => [0, 255].map(|fill| hub_update(4, false, 0, fill).ctx),
         _ => {

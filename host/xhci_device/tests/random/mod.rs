@@ -1,6 +1,6 @@
 //! Random devices, records and calls.
 
-use xhci_device::{Attached, BringUp, Call, Memory, Record, SlotId};
+use xhci_device::{Asked, Attached, BringUp, Call, Memory, Record, SlotId};
 
 /// Of each slot's words in the table, and the slots.
 pub const N: usize = 3;
@@ -139,6 +139,7 @@ pub fn world(rng: &mut Rng) -> World {
     if rng.once_in(3) {
         return world;
     }
+    let rings = rings(rng);
     let words = configuration(rng, 1);
     let list: Vec<u32> = words.into_iter().chain(configuration(rng, 2)).collect();
     let args = BringUp {
@@ -148,7 +149,7 @@ pub fn world(rng: &mut Rng) -> World {
         parent: None,
         port: 1,
         root_port: 1,
-        ring: 0x800,
+        rings: &rings,
         header: 8,
         packet: 9,
         value: 0,
@@ -169,34 +170,33 @@ pub fn hubs(rng: &mut Rng) -> Vec<u64> {
     vec![root, hub]
 }
 
-/// The alternates of a list: interface, alternate, number of endpoint words.
-fn alternates(list: &[u32]) -> Vec<(u8, u8, usize)> {
-    let mut found: Vec<(u8, u8, usize)> = vec![];
-    for word in list {
-        match (word >> 30, found.last_mut()) {
-            (1, _) => found.push(((word >> 22) as u8, (word >> 14) as u8, 0)),
-            (2, Some(last)) => last.2 += 1,
-            _ => (),
-        }
-    }
-    found
+/// The alternates of a list.
+fn alternates(list: &[u32]) -> Vec<(u8, u8)> {
+    let words = list.iter().filter(|word| **word >> 30 == 1);
+    words.map(|word| ((word >> 22) as u8, (word >> 14) as u8)).collect()
 }
 
-/// An interface and an alternate that the record's list has more often than not, and rings for it.
-pub fn claim(rng: &mut Rng, record: &Record) -> (u8, u8, Vec<u64>) {
+/// An interface and an alternate that the record's list has more often than not.
+fn claim<'a>(rng: &mut Rng, record: &Record) -> Call<'a> {
     let list: Vec<u32> = record.list().collect();
     let found = alternates(&list);
-    let (interface, alternate, count) =
-        if found.is_empty() || rng.once_in(10) { (rng.byte(), rng.byte(), 0) } else { rng.of(&found) };
-    let count = count + usize::from(rng.once_in(20));
-    let mut rings: Vec<u64> = (0..count).map(|_| ring(rng)).collect();
-    if let Some(last) = rings.last_mut().filter(|_| rng.once_in(30)) {
-        *last += 8;
-    }
-    (interface, alternate, rings)
+    let (interface, alternate) =
+        if found.is_empty() || rng.once_in(10) { (rng.byte(), rng.byte()) } else { rng.of(&found) };
+    Call::Claim { interface, alternate }
 }
 
-pub fn attached<'a>(rng: &mut Rng, hubs: &'a [u64]) -> Attached<'a> {
+/// Rings that fit more often than not.
+pub fn rings(rng: &mut Rng) -> Vec<u64> {
+    let count = if rng.once_in(3) { rng.below(4) } else { rng.below(66) };
+    let base = ring(rng);
+    let mut rings: Vec<u64> = (0..count as u64).map(|at| base + 16 * (at ^ 5)).collect();
+    if let Some(last) = rings.last_mut().filter(|_| rng.once_in(30)) {
+        *last = rng.of(&[0, base, *last + 8]);
+    }
+    rings
+}
+
+pub fn attached<'a>(rng: &mut Rng, rings: &'a [u64], hubs: &'a [u64]) -> Attached<'a> {
     Attached {
         slot: SlotId(if rng.once_in(30) { rng.byte() } else { 1 }),
         n: if rng.once_in(30) { rng.below(300) } else { N },
@@ -204,21 +204,35 @@ pub fn attached<'a>(rng: &mut Rng, hubs: &'a [u64]) -> Attached<'a> {
         parent: rng.of(&[None, None, Some(0), Some(1), Some(2)]),
         port: rng.below(20) as u8,
         root_port: rng.byte(),
-        ring: if rng.once_in(30) { rng.next() } else { ring(rng) },
+        rings,
         hubs,
     }
 }
 
 /// A call that fits the record more often than not.
-pub fn call<'a>(rng: &mut Rng, record: &Record, claim: &'a (u8, u8, Vec<u64>), hubs: &'a [u64]) -> Call<'a> {
+pub fn call<'a>(rng: &mut Rng, record: &Record, rings: &'a [u64], hubs: &'a [u64]) -> Call<'a> {
+    if rng.once_in(if record.is_usable() { 20 } else { 2 }) && record.is_up() {
+        return Call::Disconnect;
+    }
     if if record.is_usable() { rng.once_in(30) } else { !rng.once_in(10) } {
-        return Call::BringUp(attached(rng, hubs));
+        return Call::BringUp(attached(rng, rings, hubs));
     }
     match rng.below(10) {
-        0..5 => Call::Claim { interface: claim.0, alternate: claim.1, rings: &claim.2 },
+        0..5 => claim(rng, record),
         5 | 6 => Call::Release { interface: rng.below(4) as u8 },
         7 | 8 => Call::SetConfiguration { value: rng.below(3) as u8 },
         _ => Call::HubUpdate { ports: rng.byte(), multi: rng.once_in(2), ns: rng.of(&[0, 666, 1332, 3329, 665, 3330]) },
+    }
+}
+
+/// In the place of every second claim a commit of its ask, or of the ask before it.
+pub fn committed<'a>(rng: &mut Rng, world: &World, call: Call<'a>, before: &mut Option<Asked>) -> Call<'a> {
+    let Call::Claim { interface, alternate } = call else { return call };
+    let asked = world.record.ask(&world.ctx, &world.routes, &[0; 64], interface, alternate).ok();
+    let old = std::mem::replace(before, asked.clone());
+    match if rng.once_in(8) { old } else { asked } {
+        Some(asked) if rng.once_in(2) => Call::Commit(asked),
+        _ => call,
     }
 }
 

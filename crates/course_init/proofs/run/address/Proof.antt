@@ -1,5 +1,5 @@
 use Rattle.course_init.proofs.Steps.{spaced-same, accepted, not-addressed, not-read, none-to-set, first-set}
-use Rattle.course_init.specs.Reading.{bringUpOf}
+use Rattle.course_init.specs.Reading.{bringUpOf, controlRing}
 use mathlib.Core.Path.{_∙_}
 use native.Mathlib.Omega.{arith}
 use borrow.Author.Needs.{needs}
@@ -28,16 +28,17 @@ same-length-2 : tie.Need-same-length-2
 same-length-2 c = search needs
 
 returns : tie.Need-returns
+unfolding controlRing
 returns c =
     let c3 = c .before .before .before in
     let c7 = c3 .before .before .before .before in
     let c9 = c7 .before .before in
     let c10 = c9 .before in
     let c17 = c10 .before .before .before .before .before .before .before in
-    not-addressed (bringUpOf (c17 .args .a) (c17 .args .hubs .now) (c17 .args .list .now)) (c17 .args .spacing)
+    λ rings low. not-addressed (bringUpOf (c17 .args .a) rings (c17 .args .hubs .now) (c17 .args .list .now)) (c17 .args .spacing)
     (c17 .args .outcomes .now) (c17 .args .ctx .now) (c17 .args .routes .now) (c17 .args .log .now)
     (c7 .address-context .last .0) (c3 .read-header .last .0) (c3 .read-header .result) (c7 .address-context .ensures ∙ rw
-    (c10 .route-string .ensures, c9 .transaction-translator .ensures)) (c3 .read-header .ensures .1 (c17 .args .hubs .now)
+    (c10 .route-string .ensures, c9 .transaction-translator .ensures, low)) (c3 .read-header .ensures .1 rings (c17 .args .hubs .now)
     (c17 .args .list .now) (c7 .address-context .last .0) (c17 .args .routes .now) (c17 .args .spacing) (c17 .pre .1 .1))
     (c .match .keys2)
 
@@ -65,6 +66,7 @@ same-length-4 : tie.Need-same-length-4
 same-length-4 c = search needs
 
 returns-2 : tie.Need-returns-2
+unfolding controlRing
 returns-2 c =
     let c3 = c .before .before .before in
     let c7 = c3 .before .before .before .before in
@@ -74,13 +76,13 @@ returns-2 c =
     let c19 = c17 .before .before in
     let c20 = c19 .before in
     let c27 = c20 .before .before .before .before .before .before .before in
-    not-read (bringUpOf (c27 .args .a) (c27 .args .hubs .now) (c27 .args .list .now)) (c27 .args .spacing)
+    λ rings low. not-read (bringUpOf (c27 .args .a) rings (c27 .args .hubs .now) (c27 .args .list .now)) (c27 .args .spacing)
     (c27 .args .outcomes .now) (c27 .args .ctx .now) (c27 .args .routes .now) (c27 .args .log .now)
     (c17 .address-context .last .0) (c13 .read-header .last .0) (c13 .read-header .result) (c17 .address-context .ensures ∙
-    rw (c20 .route-string .ensures, c19 .transaction-translator .ensures)) (c13 .read-header .ensures .1 (c27 .args .hubs .now)
+    rw (c20 .route-string .ensures, c19 .transaction-translator .ensures, low)) (c13 .read-header .ensures .1 rings (c27 .args .hubs .now)
     (c27 .args .list .now) (c17 .address-context .last .0) (c27 .args .routes .now) (c27 .args .spacing) (c27 .pre .1 .1))
     (c9 .enum-told .given .1) (c7 .setup-max-packet .last .0) (c3 .read-descriptors .last .0) (c3 .read-descriptors .result)
-    (c7 .setup-max-packet .ensures) (c3 .read-descriptors .ensures .1 (c27 .args .hubs .now) (c7 .setup-max-packet .last .0)
+    (c7 .setup-max-packet .ensures) (c3 .read-descriptors .ensures .1 rings (c27 .args .hubs .now) (c7 .setup-max-packet .last .0)
     (c27 .args .routes .now) (c27 .args .spacing)) (c .match2 .keys2)
 
 same-length-5 : tie.Need-same-length-5
@@ -90,6 +92,7 @@ same-length-6 : tie.Need-same-length-6
 same-length-6 c = search needs
 
 returns-3 : tie.Need-returns-3
+unfolding controlRing
 returns-3 c =
     let c5 = c .before .before .before .before .before in
     let c9 = c5 .before .before .before .before in
@@ -99,13 +102,13 @@ returns-3 c =
     let c21 = c19 .before .before in
     let c22 = c21 .before in
     let c29 = c22 .before .before .before .before .before .before .before in
-    none-to-set (bringUpOf (c29 .args .a) (c29 .args .hubs .now) (c29 .args .list .now)) (c29 .args .spacing)
+    λ rings low. none-to-set (bringUpOf (c29 .args .a) rings (c29 .args .hubs .now) (c29 .args .list .now)) (c29 .args .spacing)
     (c29 .args .outcomes .now) (c29 .args .ctx .now) (c29 .args .routes .now) (c29 .args .log .now)
     (c19 .address-context .last .0) (c15 .read-header .last .0) (c15 .read-header .result) (c19 .address-context .ensures ∙
-    rw (c22 .route-string .ensures, c21 .transaction-translator .ensures)) (c15 .read-header .ensures .1 (c29 .args .hubs .now)
+    rw (c22 .route-string .ensures, c21 .transaction-translator .ensures, low)) (c15 .read-header .ensures .1 rings (c29 .args .hubs .now)
     (c29 .args .list .now) (c19 .address-context .last .0) (c29 .args .routes .now) (c29 .args .spacing) (c29 .pre .1 .1))
     (c11 .enum-told .given .1) (c9 .setup-max-packet .last .0) (c5 .read-descriptors .last .0)
-    (c5 .read-descriptors .result) (c9 .setup-max-packet .ensures) (c5 .read-descriptors .ensures .1 (c29 .args .hubs .now)
+    (c5 .read-descriptors .result) (c9 .setup-max-packet .ensures) (c5 .read-descriptors .ensures .1 rings (c29 .args .hubs .now)
     (c9 .setup-max-packet .last .0) (c29 .args .routes .now) (c29 .args .spacing)) (c .before .enum-told2 .given .1) (omega
     (arith, c .if1 .taken))
 
@@ -145,6 +148,7 @@ same-length-9 c =
     c6 .set-first .kept .1 .1 .0 ∙ c15 .read-descriptors .kept .0 ∙ c25 .read-header .kept .0
 
 returns-4 : tie.Need-returns-4
+unfolding controlRing
 returns-4 c =
     let c6 = c .before .before .before .before .before .before in
     let c10 = c6 .before .before .before .before in
@@ -157,15 +161,15 @@ returns-4 c =
     let c31 = c29 .before .before in
     let c32 = c31 .before in
     let c39 = c32 .before .before .before .before .before .before .before in
-    first-set (bringUpOf (c39 .args .a) (c39 .args .hubs .now) (c39 .args .list .now)) (c39 .args .spacing)
+    λ rings low. first-set (bringUpOf (c39 .args .a) rings (c39 .args .hubs .now) (c39 .args .list .now)) (c39 .args .spacing)
     (c39 .args .outcomes .now) (c39 .args .ctx .now) (c39 .args .routes .now) (c39 .args .log .now)
     (c29 .address-context .last .0) (c25 .read-header .last .0) (c25 .read-header .result) (c29 .address-context .ensures ∙
-    rw (c32 .route-string .ensures, c31 .transaction-translator .ensures)) (c25 .read-header .ensures .1 (c39 .args .hubs .now)
+    rw (c32 .route-string .ensures, c31 .transaction-translator .ensures, low)) (c25 .read-header .ensures .1 rings (c39 .args .hubs .now)
     (c39 .args .list .now) (c29 .address-context .last .0) (c39 .args .routes .now) (c39 .args .spacing) (c39 .pre .1 .1))
     (c21 .enum-told .given .1) (c19 .setup-max-packet .last .0) (c15 .read-descriptors .last .0)
-    (c15 .read-descriptors .result) (c19 .setup-max-packet .ensures) (c15 .read-descriptors .ensures .1
+    (c15 .read-descriptors .result) (c19 .setup-max-packet .ensures) (c15 .read-descriptors .ensures .1 rings
     (c39 .args .hubs .now) (c19 .setup-max-packet .last .0) (c39 .args .routes .now) (c39 .args .spacing))
-    (c11 .enum-told2 .given .1) (omega (arith, c10 .if1 .left)) (c6 .set-first .ensures (c39 .args .hubs .now))
+    (c11 .enum-told2 .given .1) (omega (arith, c10 .if1 .left)) (c6 .set-first .ensures rings (c39 .args .hubs .now))
 
 pub address-spec : {M : Type 1} → statement M
 address-spec =

@@ -18,7 +18,7 @@ use Rattle.course_init.proofs.run.read_configs.Tie as tie
 
 abbrev Inv-loop : tie.InvT-loop
 Inv-loop log₀ outcomes a list all i₀ log i =
-    (i ≤ all) × (all ≤ 8) × (length log ≡ length log₀) × (i ≡ 0 → log ≡ log₀) × ((hubs ctx routes : List ℕ) (spacing : ℕ) → played outcomes 5 (bringUpConfigs (bringUpOf a hubs list) spacing all 0 ctx routes) log₀ ≡ played outcomes (5 + i) (bringUpConfigs (bringUpOf a hubs list) spacing (all - i) i ctx routes) log)
+    (i ≤ all) × (all ≤ 8) × (length log ≡ length log₀) × (i ≡ 0 → log ≡ log₀) × ((rings hubs ctx routes : List ℕ) (spacing : ℕ) → played outcomes 5 (bringUpConfigs (bringUpOf a rings hubs list) spacing all 0 ctx routes) log₀ ≡ played outcomes (5 + i) (bringUpConfigs (bringUpOf a rings hubs list) spacing (all - i) i ctx routes) log)
 
 abbrev μ-loop : tie.MeasureT-loop
 μ-loop log₀ outcomes a list all i₀ log i = all - i
@@ -27,7 +27,7 @@ count-configurations-requires : tie.Need-count-configurations-requires Inv-loop 
 count-configurations-requires c κs = search needs
 
 loop-holds : tie.Need-loop-holds Inv-loop μ-loop
-loop-holds c = (search needs, omega (arith, valid-configurations _ (c .before .before .before .before .pre .1), c .count-configurations .ensures), search needs, λ z. refl, λ hubs ctx routes spacing. rw sub-zero)
+loop-holds c = (search needs, omega (arith, valid-configurations _ (c .before .before .before .before .pre .1), c .count-configurations .ensures), search needs, λ z. refl, λ rings hubs ctx routes spacing. rw sub-zero)
 
 add-send : tie.Need-add-send Inv-loop μ-loop
 add-send c = search needs
@@ -58,16 +58,16 @@ returns c =
     let c8 = c7 .before in
     let c12 = c8 .before .before .before .before in (
       λ t. none-accepted _ _ (c .before .match .keys2) (ap (λ (e : InitEnd). e .answer) (c .after-reading .ensures)) t,
-      λ hubs
+      λ rings hubs
           ctx routes spacing. let n : 0 < configurations (c12 .args .list .now) = omega (
             arith,
             c6 .loop-test .taken,
             c8 .count-configurations .ensures,
           ) in rw (
-            rest-some (bringUpOf (c12 .args .a) hubs (c12 .args .list .now)) spacing ctx
+            rest-some (bringUpOf (c12 .args .a) rings hubs (c12 .args .list .now)) spacing ctx
                 routes (c12 .args .outcomes .now) (c12 .args .log .now) n,
             ← c8 .count-configurations .ensures,
-          ) (c7 .loop .inv .4 hubs
+          ) (c7 .loop .inv .4 rings hubs
           ctx routes spacing ∙ configs-stopped _ _ _ _ _ _ _ _ _ _ (c6 .loop-test .taken) (c4 .send .ensures) _ _
           (c .before .match .keys2) (c .after-reading .ensures)),
     )
@@ -87,8 +87,8 @@ loop-again c =
       search needs,
       search needs,
       λ z. absurd (omega (arith, z)),
-      λ hubs ctx routes spacing. c7 .loop .inv .4
-          hubs ctx routes spacing ∙ configs-next _ _ _ _ _ _ _ _ _ _ (c6 .loop-test .taken) (c4 .send .ensures)
+      λ rings hubs ctx routes spacing. c7 .loop .inv .4
+          rings hubs ctx routes spacing ∙ configs-next _ _ _ _ _ _ _ _ _ _ (c6 .loop-test .taken) (c4 .send .ensures)
           (c .enum-told .given .1),
     )
 
@@ -119,14 +119,14 @@ returns-2 c =
           c3 .count-configurations .ensures,
         ));
       },
-      λ hubs ctx routes spacing. let l =
-          c3 .count-configurations .ensures in rest-read (bringUpOf (c7 .args .a) hubs (c7 .args .list .now)) spacing ctx routes
+      λ rings hubs ctx routes spacing. let l =
+          c3 .count-configurations .ensures in rest-read (bringUpOf (c7 .args .a) rings hubs (c7 .args .list .now)) spacing ctx routes
           (c7 .args .outcomes .now) _ (c7 .args .log .now) _ _ (omega (arith, l, c .before .before .loop .inv .0)) (omega (
             arith,
             l,
             c .before .loop-test .left,
           )) (c .before .before .loop .inv .3) (c .after-reading2 .ensures) (rw (← l)
-          (c .before .before .loop .inv .4 hubs ctx routes spacing)),
+          (c .before .before .loop .inv .4 rings hubs ctx routes spacing)),
     )
 
 pub read-configs-spec : {M : Type 1} → statement M

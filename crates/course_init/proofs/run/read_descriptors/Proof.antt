@@ -25,7 +25,7 @@ returns c =
     let c4 = c .before .before .before .before in
     let c9 = c4 .before .before .before .before .before in (
       λ t. none-accepted _ _ (c .before .match .keys2) (ap (λ (e : InitEnd). e .answer) (c .before-reading .ensures)) t,
-      λ hubs
+      λ rings hubs
           ctx routes spacing. stopped-before _ _ _ _ _ _ (c4 .send .ensures) ctx routes _ _ _ (c .before .match .keys2) _
           (c9 .pre .1) (c .before-reading .ensures),
     )
@@ -51,7 +51,7 @@ returns-2 c =
     let c15 = c10 .before .before .before .before .before in (
       λ t. none-accepted _ _ (c .before .match2 .keys2) (ap (λ (e : InitEnd). e .answer) (c .before-reading2 .ensures)) t,
       λ
-          hubs ctx routes spacing. done _ _ _ _ _ _ (c10 .send .ensures) _ ctx routes _ (c6 .enum-told .given .1) ∙ stopped-before
+          rings hubs ctx routes spacing. done _ _ _ _ _ _ (c10 .send .ensures) _ ctx routes _ (c6 .enum-told .given .1) ∙ stopped-before
           _ _ _ _ _ _ (c4 .send2 .ensures) ctx routes _ _ _ (c .before .match2 .keys2) _ (c15 .pre .1)
           (c .before-reading2 .ensures),
     )
@@ -78,10 +78,10 @@ returns-3 c =
     let c16 = c12 .before .before .before .before in
     let c21 = c16 .before .before .before .before .before in (
       λ t. none-accepted _ _ (c .before .match3 .keys2) (ap (λ (e : InitEnd). e .answer) (c .after-reading .ensures)) t,
-      λ hubs
+      λ rings hubs
           ctx routes spacing. done _ _ _ _ _ _ (c16 .send .ensures) _ ctx routes _ (c12 .enum-told .given .1) ∙ done _ _ _ _ _ _
           (c10 .send2 .ensures) _ ctx routes _ (c6 .enum-told2 .given .1) ∙ stopped-after _ _ _ _ _ _ (c4 .send3 .ensures) ctx
-          routes _ _ _ (c .before .match3 .keys2) (bringUpOf (c21 .args .a) hubs (c21 .args .list .now)) 0
+          routes _ _ _ (c .before .match3 .keys2) (bringUpOf (c21 .args .a) rings hubs (c21 .args .list .now)) 0
           (c .after-reading .ensures),
     )
 
@@ -101,10 +101,10 @@ returns-4 c =
     let c16 = c14 .before .before in
     let c20 = c16 .before .before .before .before in (
       c .before .before .read-configs .ensures .0,
-      λ hubs ctx routes spacing. done _ _ _ _ _ _ (c20 .send .ensures) _ ctx
+      λ rings hubs ctx routes spacing. done _ _ _ _ _ _ (c20 .send .ensures) _ ctx
           routes _ (c16 .enum-told .given .1) ∙ done _ _ _ _ _ _ (c14 .send2 .ensures) _ ctx routes _ (c10 .enum-told2 .given .1)
           ∙ done _ _ _ _ _ _ (c8 .send3 .ensures) _ ctx routes _ (c4 .enum-told3 .given .1) ∙
-          c .before .before .read-configs .ensures .1 hubs ctx routes spacing,
+          c .before .before .read-configs .ensures .1 rings hubs ctx routes spacing,
     )
 
 pub read-descriptors-spec : {M : Type 1} → statement M

@@ -26,7 +26,7 @@ same-length c = search needs
 returns : tie.Need-returns
 returns c = (
   λ t. none-accepted _ _ (c .before .match .keys2) (ap (λ (e : InitEnd). e .answer) (c .before-reading .ensures)) t,
-  λ hubs list ctx routes spacing v. stopped-before _ _ _ _ _ _ (c .before .before .before .before .send .ensures) ctx routes _ _ _ (c .before .match .keys2) list v (c .before-reading .ensures),
+  λ rings hubs list ctx routes spacing v. stopped-before _ _ _ _ _ _ (c .before .before .before .before .send .ensures) ctx routes _ _ _ (c .before .match .keys2) list v (c .before-reading .ensures),
 )
 
 send-requires-2 : tie.Need-send-requires-2
@@ -48,7 +48,7 @@ returns-2 c =
     let c6 = c4 .before .before in
     let c10 = c6 .before .before .before .before in (
       λ t. none-accepted _ _ (c .before .match2 .keys2) (ap (λ (e : InitEnd). e .answer) (c .before-reading2 .ensures)) t,
-      λ hubs list ctx routes spacing v. done _ _ _ _ _ _ (c10 .send .ensures) _ ctx routes _ (c6 .enum-told .given .1) ∙
+      λ rings hubs list ctx routes spacing v. done _ _ _ _ _ _ (c10 .send .ensures) _ ctx routes _ (c6 .enum-told .given .1) ∙
           stopped-before _ _ _ _ _ _ (c4 .send2 .ensures) ctx routes _ _ _ (c .before .match2 .keys2) list v
           (c .before-reading2 .ensures),
     )
@@ -68,7 +68,7 @@ returns-3 c =
     let c13 = c9 .before .before .before .before in
     let c17 = c13 .before .before .before .before in (
       none-refused answer.ShortHeader _ refl (c .header-refused .ensures),
-      λ hubs list ctx routes spacing v. done _ _ _ _ _ _ (c13 .send .ensures) _ ctx routes _ (c9 .enum-told .given .1) ∙ done
+      λ rings hubs list ctx routes spacing v. done _ _ _ _ _ _ (c13 .send .ensures) _ ctx routes _ (c9 .enum-told .given .1) ∙ done
           _ _ _ _ _ _ (c7 .send2 .ensures) _ ctx routes _ (c .before .before .before .enum-told2 .given .1) ∙ header-refused _ list ctx
           routes _ answer.ShortHeader _ _ _ v refl (c .header-refused .ensures)
           (rw (ne-eqb (c17 .args .a .header) 8 (λ e. omega (arith, e, c .before .if1 .taken)))),
@@ -93,7 +93,7 @@ returns-4 c =
     let c15 = c11 .before .before .before .before in
     let c19 = c15 .before .before .before .before in (
       none-refused answer.PacketExponent _ refl (c .header-refused2 .ensures),
-      λ hubs list ctx routes spacing v. done _ _ _ _ _ _ (c15 .send .ensures) _ ctx routes _ (c11 .enum-told .given .1) ∙ done
+      λ rings hubs list ctx routes spacing v. done _ _ _ _ _ _ (c15 .send .ensures) _ ctx routes _ (c11 .enum-told .given .1) ∙ done
           _ _ _ _ _ _ (c9 .send2 .ensures) _ ctx routes _ (c3 .before .before .enum-told2 .given .1) ∙ header-refused _ list ctx
           routes _ answer.PacketExponent _ _ _ v refl (c .header-refused2 .ensures)
           (rw (eq-eqb (c19 .args .a .header) 8 (omega (arith, c3 .if1 .left)), ← c .before .before .exponent-ok .ensures, not-true (c .before .before .exponent-ok .result) (c .before .if2 .taken))),
@@ -116,7 +116,7 @@ returns-5 c =
     let c19 = c15 .before .before .before .before in
     let ok = not-false (c .before .before .exponent-ok .result) (c .before .if2 .left) in (
       λ t. sym (c .before .before .exponent-ok .ensures) ∙ ok,
-      λ hubs list ctx routes spacing v. done _ _ _ _ _ _ (c15 .send .ensures) _ ctx routes _ (c11 .enum-told .given .1) ∙ done
+      λ rings hubs list ctx routes spacing v. done _ _ _ _ _ _ (c15 .send .ensures) _ ctx routes _ (c11 .enum-told .given .1) ∙ done
           _ _ _ _ _ _ (c9 .send2 .ensures) _ ctx routes _ (c5 .enum-told2 .given .1) ∙ leads-on _ list ctx routes _ _ (ap (λ (e :
           InitEnd). e .answer) (c .before-reading3 .ensures) ∙ rw (c5 .enum-told2 .given .1))
           (rw (eq-eqb (c19 .args .a .header) 8 (omega (arith, c3 .if1 .left)), ← c .before .before .exponent-ok .ensures, ok)),

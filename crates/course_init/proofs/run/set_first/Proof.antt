@@ -53,9 +53,9 @@ returns c =
     let c12 = c8 .before .before .before .before in
     let c14 = c12 .before .before in
     let c21 = c14 .before .before .before .before .before .before .before in
-    λ hubs. let a = c21 .args .a in let list = c21 .args .list .now in let p = courseLeaves (c8 .run-set-configuration .result)
+    λ rings hubs. let a = c21 .args .a in let list = c21 .args .list .now in let p = courseLeaves (c8 .run-set-configuration .result)
     (c8 .run-set-configuration .last .0) (c8 .run-set-configuration .last .1 .0) (c8 .run-set-configuration .last .1 .1 .0)
-    in set-done (bringUpOf a hubs list) (c21 .args .spacing) (c21 .args .ctx .now) (c21 .args .routes .now)
+    in set-done (bringUpOf a rings hubs list) (c21 .args .spacing) (c21 .args .ctx .now) (c21 .args .routes .now)
     (c21 .args .outcomes .now) (c21 .args .read .count) (c21 .args .log .now) p (sym (c8 .run-set-configuration .ensures ∙
     rw (c12 .no-queues .ensures .0, c14 .configuration-value .ensures))) (c21 .args .read .configurations)
     (c21 .pre .1 .2 .whole) (c14 .configuration-value .result) (c .enum-told .given .1) (c14 .configuration-value .ensures)
@@ -76,9 +76,9 @@ returns-2 c =
     let c11 = c7 .before .before .before .before in
     let c13 = c11 .before .before in
     let c20 = c13 .before .before .before .before .before .before .before in
-    λ hubs. let a = c20 .args .a in let list = c20 .args .list .now in let p = courseLeaves (c7 .run-set-configuration .result)
+    λ rings hubs. let a = c20 .args .a in let list = c20 .args .list .now in let p = courseLeaves (c7 .run-set-configuration .result)
     (c7 .run-set-configuration .last .0) (c7 .run-set-configuration .last .1 .0) (c7 .run-set-configuration .last .1 .1 .0)
-    in set-refused (bringUpOf a hubs list) (c20 .args .spacing) (c20 .args .ctx .now) (c20 .args .routes .now)
+    in set-refused (bringUpOf a rings hubs list) (c20 .args .spacing) (c20 .args .ctx .now) (c20 .args .routes .now)
     (c20 .args .outcomes .now) (c20 .args .read .count) (c20 .args .log .now) p (sym (c7 .run-set-configuration .ensures ∙
     rw (c11 .no-queues .ensures .0, c13 .configuration-value .ensures))) (c20 .args .read .configurations)
     (c20 .pre .1 .2 .whole) (c .match .keys2)

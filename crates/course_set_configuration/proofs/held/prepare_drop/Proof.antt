@@ -13,11 +13,11 @@ use Rattle.course_set_configuration.proofs.held.prepare_drop.Statement.
 use Rattle.course_set_configuration.proofs.held.prepare_drop.Tie as tie
 
 abbrev Inv-loop : tie.InvT-loop
-Inv-loop ctx₀ list a i₀ t9 ctx i =
+Inv-loop ctx₀ list a i₀ ctx i =
     (i ≤ a .held) × (length ctx ≡ length ctx₀) × ((s : ℕ) → written s (inBlock CONTROL (dropFlags (heldWords list (heldIn (a .held) (a .interfaces) (a .alternates))))) ctx₀ ≡ written s (inBlock CONTROL (dropFlags (wordsFrom list (a .interfaces) (a .alternates) (a .held) i))) ctx)
 
 abbrev μ-loop : tie.MeasureT-loop
-μ-loop ctx₀ list a i₀ t9 ctx i = a .held - i
+μ-loop ctx₀ list a i₀ ctx i = a .held - i
 
 begin-configure-requires : tie.Need-begin-configure-requires Inv-loop μ-loop
 begin-configure-requires c κs = search needs
@@ -68,23 +68,24 @@ loop-again c =
           (c4 .setting-words .ensures) s _ _ (c .before .before .drop-endpoints .ensures s),
     )
 
-sub-context-entries : tie.Need-sub-context-entries Inv-loop μ-loop
-sub-context-entries c = search needs
+sub-highest-staying : tie.Need-sub-highest-staying Inv-loop μ-loop
+sub-highest-staying c = search needs
 
-part-context-entries-start : tie.Need-part-context-entries-start Inv-loop μ-loop
-part-context-entries-start c = search needs
+part-highest-staying-start : tie.Need-part-highest-staying-start Inv-loop μ-loop
+part-highest-staying-start c = search needs
 
-part-context-entries-end : tie.Need-part-context-entries-end Inv-loop μ-loop
-part-context-entries-end c =
-    let c10 = c .before .before .before .before .before .before .before .before .before .before in
-    let known : length (c10 .args .t2 .old .dcis) ≡ 30 = search needs in omega (arith, known, c10 .pre .0 .few)
+part-highest-staying-end : tie.Need-part-highest-staying-end Inv-loop μ-loop
+part-highest-staying-end c =
+    let c11 = c .before .before .before .before .before .before .before .before .before .before .before in
+    let known : length (c11 .args .t2 .old .dcis) ≡ 30 = search needs in omega (arith, known, c11 .pre .0 .few)
 
-slice-aggregate-context-entries : tie.Need-slice-aggregate-context-entries Inv-loop μ-loop
-slice-aggregate-context-entries c = search needs
-
-context-entries-requires : tie.Need-context-entries-requires Inv-loop μ-loop
+highest-staying-requires : tie.Need-highest-staying-requires Inv-loop μ-loop
 unfolding dcisIn
-context-entries-requires c κs = rw sub-zero (c .before .before .before .before .before .before .before .before .before .before .before .before .pre .0 .low)
+highest-staying-requires c κs =
+    let c5 = c .before .before .before .before .before in
+    let c8 = c5 .before .before .before in
+    let room = c8 .before .before .before .before .pre .0 in
+    (omega (arith, c5 .loop .inv .1, c8 .begin-configure .kept .0, room .spaced .wide, room .spaced .room), rw sub-zero (room .dcis))
 
 finish-configure-requires : tie.Need-finish-configure-requires Inv-loop μ-loop
 finish-configure-requires c κs =
@@ -105,8 +106,9 @@ returns c =
     let c13 = c10 .before .before .before in
     let c17 = c13 .before .before .before .before in
     dropped (c17 .args .t2) (c17 .args .list .now) (c17 .args .ctx .now) _ _ _ _ _ (c9 .loop-test .left)
-    (c13 .begin-configure .ensures (c17 .args .t2 .spacing)) (c .before .before .finish-configure .ensures)
-    (c10 .loop .inv .2 (c17 .args .t2 .spacing)) (c4 .context-entries .ensures ∙ rw sub-zero)
+    (c17 .pre .0 .spaced) (c13 .begin-configure .ensures (c17 .args .t2 .spacing)) (c .before .before .finish-configure .ensures)
+    (c4 .highest-staying .ensures .0) (c10 .loop .inv .2 (c17 .args .t2 .spacing))
+    (λ ws f. c4 .highest-staying .ensures .1 ws f ∙ rw sub-zero)
 
 pub prepare-drop-spec : {M : Type 1} → statement M
 prepare-drop-spec =
@@ -123,11 +125,10 @@ prepare-drop-spec =
     add-i
     loop-less
     loop-again
-    sub-context-entries
-    part-context-entries-start
-    part-context-entries-end
-    slice-aggregate-context-entries
-    context-entries-requires
+    sub-highest-staying
+    part-highest-staying-start
+    part-highest-staying-end
+    highest-staying-requires
     finish-configure-requires
     same-length
     returns)

@@ -2,21 +2,20 @@ use borrow.Author.Needs.{needs}
 use native.Mathlib.Omega.{arith}
 use native.Mathlib.Nat.{sub-zero}
 use mathlib.Core.Path.{_≡_, _∙_}
-use mathlib.Core.List.{[]}
 use Prim.Native.Nat.{_≤_, _-_, max}
 use lib.ListN.{length}
 use Rattle.transfer.specs.Routes.{queues}
 use Rattle.context.specs.Place.{written}
-use Rattle.context.specs.Steps.{addAll, contextEntries}
+use Rattle.context.specs.Steps.{addAll, highestDci, wordDcis}
 use Rattle.course_steps.specs.Arrays.{dcisIn, ringsIn}
 use Rattle.record_settings.specs.Held.{heldIn, heldWords}
-use Rattle.course_set_configuration.proofs.Steps.{wordsFrom, add-start, add-next, entries-start, entries-more, entries-same, added}
+use Rattle.course_set_configuration.proofs.Steps.{wordsFrom, add-start, add-next, compare-start, compare-next, added}
 use Rattle.course_set_configuration.proofs.held.prepare_restore.Statement.{statement}
 use Rattle.course_set_configuration.proofs.held.prepare_restore.Tie as tie
 
 abbrev Inv-loop : tie.InvT-loop
 Inv-loop ctx₀ list a dcis rings entries₀ i₀ ctx entries i =
-    (i ≤ a .held) × (length ctx ≡ length ctx₀) × (contextEntries dcis [] ≤ entries) × (contextEntries dcis (heldWords list (heldIn (a .held) (a .interfaces) (a .alternates))) ≡ max entries (contextEntries dcis (wordsFrom list (a .interfaces) (a .alternates) (a .held) i))) × (written (a .spacing) (addAll (a .speed) (queues dcis rings) (heldWords list (heldIn (a .held) (a .interfaces) (a .alternates)))) ctx₀ ≡ written (a .spacing) (addAll (a .speed) (queues dcis rings) (wordsFrom list (a .interfaces) (a .alternates) (a .held) i)) ctx)
+    (i ≤ a .held) × (length ctx ≡ length ctx₀) × (1 ≤ entries) × (max entries₀ (highestDci (wordDcis (heldWords list (heldIn (a .held) (a .interfaces) (a .alternates))))) ≡ max entries (highestDci (wordDcis (wordsFrom list (a .interfaces) (a .alternates) (a .held) i)))) × (written (a .spacing) (addAll (a .speed) (queues dcis rings) (heldWords list (heldIn (a .held) (a .interfaces) (a .alternates)))) ctx₀ ≡ written (a .spacing) (addAll (a .speed) (queues dcis rings) (wordsFrom list (a .interfaces) (a .alternates) (a .held) i)) ctx)
 
 abbrev μ-loop : tie.MeasureT-loop
 μ-loop ctx₀ list a dcis rings entries₀ i₀ ctx entries i = a .held - i
@@ -42,15 +41,15 @@ part-rings-end c = let known : length (c .before .before .before .before .before
 begin-configure-requires : tie.Need-begin-configure-requires Inv-loop μ-loop
 begin-configure-requires c κs = search needs
 
-slice-aggregate-context-entries : tie.Need-slice-aggregate-context-entries Inv-loop μ-loop
-slice-aggregate-context-entries c = search needs
-
-context-entries-requires : tie.Need-context-entries-requires Inv-loop μ-loop
+highest-staying-requires : tie.Need-highest-staying-requires Inv-loop μ-loop
 unfolding dcisIn
-context-entries-requires c κs = rw sub-zero (c .before .before .before .before .before .before .before .before .before .before .before .before .before .pre .0 .low)
+highest-staying-requires c κs =
+    let c3 = c .before .before .before in
+    let room = c3 .before .before .before .before .before .before .before .before .before .before .pre .0 in
+    (omega (arith, c3 .begin-configure .kept .0, room .spaced .wide, room .spaced .room), rw sub-zero (room .dcis))
 
 loop-holds : tie.Need-loop-holds Inv-loop μ-loop
-loop-holds c = (search needs, search needs, omega (arith, c .context-entries .ensures), entries-start _ _ _ _ _ _ (c .context-entries .ensures), add-start _ _ _ _ _ _ _ _)
+loop-holds c = (search needs, search needs, c .highest-staying .ensures .0, compare-start _ _ _ _ _, add-start _ _ _ _ _ _ _ _)
 
 element-copy-out-setting-words : tie.Need-element-copy-out-setting-words Inv-loop μ-loop
 element-copy-out-setting-words c =
@@ -82,9 +81,8 @@ add-endpoints-requires c κs =
     let c20 = c10 .before .before .before .before .before .before .before .before .before .before in
     rw (c5 .loop .inv .1, c10 .begin-configure .kept .0) (c20 .pre .0 .spaced)
 
-context-entries-requires-2 : tie.Need-context-entries-requires-2 Inv-loop μ-loop
-unfolding dcisIn
-context-entries-requires-2 c κs = rw sub-zero (c .before .before .before .before .before .before .before .before .before .before .before .before .before .before .before .before .before .before .before .before .before .before .before .pre .0 .low)
+highest-added-requires : tie.Need-highest-added-requires Inv-loop μ-loop
+highest-added-requires c κs = c .before .before .before .before .before .before .before .before .loop .inv .2
 
 add-i : tie.Need-add-i Inv-loop μ-loop
 add-i c = search needs
@@ -94,35 +92,15 @@ loop-less c = search needs
 
 loop-again : tie.Need-loop-again Inv-loop μ-loop
 loop-again c =
-    let c4 = c .before .before .before .before in
-    let c6 = c4 .before .before in
-    let c9 = c6 .before .before .before in
-    let c10 = c9 .before in (
+    let c3 = c .before .before .before in
+    let c5 = c3 .before .before in
+    let c8 = c5 .before .before .before in
+    let c9 = c8 .before in (
       search needs,
       search needs,
-      omega (arith, c .if1 .taken, c10 .loop .inv .2),
-      c10 .loop .inv .3 ∙ entries-more _ _ _ _ _
-          _ (c9 .loop-test .taken) (c6 .setting-words .ensures) _ _ _ (c .before .context-entries2 .ensures) (c .if1 .taken),
-      c10 .loop .inv .4 ∙ add-next _ _ _ _ _ _ (c9 .loop-test .taken) (c6 .setting-words .ensures) _ _ _ _ _
-          (c4 .add-endpoints .ensures),
-    )
-
-loop-less-2 : tie.Need-loop-less-2 Inv-loop μ-loop
-loop-less-2 c = search needs
-
-loop-again-2 : tie.Need-loop-again-2 Inv-loop μ-loop
-loop-again-2 c =
-    let c4 = c .before .before .before .before in
-    let c6 = c4 .before .before in
-    let c9 = c6 .before .before .before in
-    let c10 = c9 .before in (
-      search needs,
-      search needs,
-      c10 .loop .inv .2,
-      c10 .loop .inv .3 ∙ entries-same _ _ _ _ _ _ (c9 .loop-test .taken)
-          (c6 .setting-words .ensures) _ _ _ (c .before .context-entries2 .ensures) (c .if1 .left),
-      c10 .loop .inv .4 ∙ add-next _
-          _ _ _ _ _ (c9 .loop-test .taken) (c6 .setting-words .ensures) _ _ _ _ _ (c4 .add-endpoints .ensures),
+      omega (arith, c .highest-added .ensures, c9 .loop .inv .2),
+      c9 .loop .inv .3 ∙ compare-next _ _ _ _ _ _ (c8 .loop-test .taken) (c5 .setting-words .ensures) _ _ (c .highest-added .ensures),
+      c9 .loop .inv .4 ∙ add-next _ _ _ _ _ _ (c8 .loop-test .taken) (c5 .setting-words .ensures) _ _ _ _ _ (c3 .add-endpoints .ensures),
     )
 
 finish-configure-requires : tie.Need-finish-configure-requires Inv-loop μ-loop
@@ -142,8 +120,8 @@ returns c =
     let c10 = c5 .before .before .before .before .before in
     let c20 = c10 .before .before .before .before .before .before .before .before .before .before in
     added (c20 .args .t2) (c20 .args .list .now) (c20 .args .ctx .now) _ _ _ _ _ (c4 .loop-test .left)
-    (c10 .begin-configure .ensures (c20 .args .t2 .spacing)) (c .before .before .finish-configure .ensures) _ _
-    (c5 .loop .inv .4) (c5 .loop .inv .3) (c5 .loop .inv .2) (rw sub-zero) (rw sub-zero)
+    (c20 .pre .0 .spaced) (c10 .begin-configure .ensures (c20 .args .t2 .spacing)) (c .before .before .finish-configure .ensures)
+    (c5 .loop .inv .2) _ _ _ (c5 .loop .inv .4) (c5 .before .highest-staying .ensures .1) (c5 .loop .inv .3) (rw sub-zero) (rw sub-zero)
 
 pub prepare-restore-spec : {M : Type 1} → statement M
 prepare-restore-spec =
@@ -158,19 +136,16 @@ prepare-restore-spec =
     part-rings-start
     part-rings-end
     begin-configure-requires
-    slice-aggregate-context-entries
-    context-entries-requires
+    highest-staying-requires
     loop-holds
     element-copy-out-setting-words
     element-copy-out-setting-words-2
     setting-words-requires
     add-endpoints-requires
-    context-entries-requires-2
+    highest-added-requires
     add-i
     loop-less
     loop-again
-    loop-less-2
-    loop-again-2
     finish-configure-requires
     same-length
     returns)

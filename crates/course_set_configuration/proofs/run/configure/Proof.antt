@@ -1,6 +1,8 @@
 use Rattle.course_set_configuration.specs.SetConfiguration.{settingsOf}
 use Rattle.course_set_configuration.proofs.Exits.{resumed-failed, configured, not-configured, configure-cut, switched, not-switched, switch-cut}
+use native.Mathlib.Omega.{arith}
 use borrow.Author.Needs.{needs}
+use Rattle.course_steps.proofs.Laws.{room-same}
 use Rattle.course_set_configuration.proofs.run.configure.Statement.{statement}
 use Rattle.course_set_configuration.proofs.run.configure.Tie as tie
 
@@ -75,7 +77,14 @@ enum-known-switched : tie.Need-enum-known-switched
 enum-known-switched c = search needs
 
 restore-requires : tie.Need-restore-requires
-restore-requires c κs = search needs
+restore-requires c κs =
+    let c7 = c .before .before .before .before .before .before .before in
+    let c13 = c7 .before .before .before .before .before .before in
+    let c17 = c13 .before .before .before .before in
+    let c24 = c17 .before .before .before .before .before .before .before in (
+      room-same _ _ _ _ _ (c24 .pre .0) (c17 .prepare-drop .kept .0),
+      (c24 .pre .1 .0, omega (arith, c7 .send2 .kept .0, c13 .send .kept .0, c24 .pre .1 .1)),
+    )
 
 same-length-5 : tie.Need-same-length-5
 same-length-5 c = search needs
@@ -126,7 +135,14 @@ returns-4 c =
     (c .before .enum-told4 .given .1) (c .settings-kept2 .ensures))
 
 publish-requires : tie.Need-publish-requires
-publish-requires c κs = search needs
+publish-requires c κs =
+    let c7 = c .before .before .before .before .before .before .before in
+    let c13 = c7 .before .before .before .before .before .before in
+    let c17 = c13 .before .before .before .before in
+    let c24 = c17 .before .before .before .before .before .before .before in (
+      room-same _ _ _ _ _ (c24 .pre .0) (c17 .prepare-drop .kept .0),
+      omega (arith, c7 .send2 .kept .0, c13 .send .kept .0, c24 .pre .1 .1),
+    )
 
 same-length-9 : tie.Need-same-length-9
 same-length-9 c = search needs

@@ -1,10 +1,14 @@
+use Prim.Native.Nat.{_+_, _-_}
 use mathlib.Core.Path.{_≡_, sym}
 use native.Mathlib.Omega.{arith}
 use lib.ListN.{length}
 use lib.Seq.{length-take-le}
-use Rattle.device.specs.Device.{listOf}
+use Rattle.device.specs.Device.{listOf, freeOf}
+use Rattle.device.specs.Check.{recordCheck}
+use Rattle.answer.specs.declared.Check.{Check}
+use Rattle.answer.specs.declared.Check.the-variants.{Pass}
 use Rattle.device.proofs.Laws.{record-passed}
-use Rattle.device.proofs.ClaimLaws.{claim-refused, claim-checked}
+use Rattle.device.proofs.ClaimLaws.{claim-refused, claim-checked, endpoints-room, free-many}
 use borrow.Author.Needs.{needs}
 use Rattle.device.proofs.claim.claim_check.Statement.{statement}
 use Rattle.device.proofs.claim.claim_check.Tie as tie
@@ -12,6 +16,26 @@ use Rattle.device.proofs.claim.claim_check.Tie as tie
 -- The array of the descriptor list has its length.
 listed : (c : tie.Start) → length (c .args .d .list) ≡ 256
 listed c = search needs
+
+-- So have those of the endpoints and the given rings.
+placed : (c : tie.Start) → length (c .args .d .eps) ≡ 30
+placed c = endpoints-room (c .args .d .eps) _ (c .good .0 .1 .1 .1 .1 .1 .1 .1 .1 .1 .1 .1 .1 .0)
+
+stored : (c : tie.Start) → length (c .args .d .given) ≡ 64
+stored c = let known = c .good .0 .1 .1 .1 .1 .1 .1 .1 .1 .1 .1 .1 .1 .1 .1 .1 .1 .1 .1 .1 .1 .1 .1 .0 .1 .0 .1 in search needs
+
+-- How many rings are free.
+free-sum :
+    (c : tie.Start) (x : Check) → x ≡ recordCheck (c .args .d) (c .args .ctx) (c .args .routes) (c .args .log) Pass → x ≡ Pass →
+    length (freeOf (c .args .d)) + (c .args .d .«ep_count» + 1) ≡ c .args .d .«given_count»
+free-sum c x k p =
+    let q = record-passed _ _ _ _ x k p in
+    free-many (c .args .d) (q .usable) (q .is-sound) (placed c) (stored c)
+
+free-left :
+    (c : tie.Start) (x : Check) → x ≡ recordCheck (c .args .d) (c .args .ctx) (c .args .routes) (c .args .log) Pass → x ≡ Pass →
+    c .args .d .«given_count» - c .args .d .«ep_count» - 1 ≡ length (freeOf (c .args .d))
+free-left c x k p = omega (arith, free-sum c x k p)
 
 record-check-requires : tie.Need-record-check-requires
 record-check-requires c κs = search needs
@@ -22,8 +46,8 @@ enum-known-check c = search needs
 returns : tie.Need-returns
 returns c =
     let c3 = c .before .before .before in
-    let s = c3 .before .before in
-    claim-refused (s .args .d) (s .args .interface) (s .args .alternate) (s .args .rings .now) _ _ _ (c3 .record-check .result)
+    let s = c3 .before in
+    claim-refused (s .args .d) (s .args .interface) (s .args .alternate) _ _ _ (c3 .record-check .result)
     (c3 .record-check .ensures) _ (c .before .check .given .1)
 
 enum-told : tie.Need-enum-told
@@ -33,27 +57,34 @@ endpoint-map-in-requires : tie.Need-endpoint-map-in-requires
 endpoint-map-in-requires c κs =
     record-passed _ _ _ _ _ (c .before .before .before .record-check .ensures) (c .before .enum-told .given .1) .facts .counts .endpoints
 
+sub-free : tie.Need-sub-free
+sub-free c =
+    let c5 = c .before .before .before .before .before in
+    omega (arith, free-sum (c5 .before) (c5 .record-check .result) (c5 .record-check .ensures) (c .before .before .before .enum-told .given .1))
+
+sub-free-2 : tie.Need-sub-free-2
+sub-free-2 c =
+    let c5 = c .before .before .before .before .before in
+    omega (arith, free-sum (c5 .before) (c5 .record-check .result) (c5 .record-check .ensures) (c .before .before .before .enum-told .given .1))
+
 array-share-prefix-list : tie.Need-array-share-prefix-list
 array-share-prefix-list c =
-    let c4 = c .before .before .before .before in
+    let c5 = c .before .before .before .before .before in
     omega (
       arith,
-      listed (c4 .before .before),
-      record-passed _ _ _ _ _ (c4 .record-check .ensures) (c .before .before .enum-told .given .1) .facts .counts .list,
+      listed (c5 .before),
+      record-passed _ _ _ _ _ (c5 .record-check .ensures) (c .before .before .before .enum-told .given .1) .facts .counts .list,
     )
 
-slice-aggregate-offer-check : tie.Need-slice-aggregate-offer-check
-slice-aggregate-offer-check c =
-    let c5 = c .before .before .before .before .before in
-    let s = c5 .before .before in
-    let few = record-passed _ _ _ _ _ (c5 .record-check .ensures) (c .before .before .before .enum-told .given .1) .facts .counts .list in
+slice-aggregate-draw-check : tie.Need-slice-aggregate-draw-check
+slice-aggregate-draw-check c =
+    let c6 = c .before .before .before .before .before .before in
+    let s = c6 .before in
+    let few = record-passed _ _ _ _ _ (c6 .record-check .ensures) (c .before .before .before .before .enum-told .given .1) .facts .counts .list in
     sym (length-take-le (s .args .d .«list_len») (s .args .d .list) (omega (arith, listed s, few)))
 
-slice-aggregate-offer-check-2 : tie.Need-slice-aggregate-offer-check-2
-slice-aggregate-offer-check-2 c = search needs
-
-offer-check-requires : tie.Need-offer-check-requires
-offer-check-requires c κs = search needs
+draw-check-requires : tie.Need-draw-check-requires
+draw-check-requires c κs = search needs
 
 returns-2 : tie.Need-returns-2
 unfolding listOf
@@ -61,10 +92,10 @@ returns-2 c =
     let c3 = c .before .before .before in
     let c5 = c3 .before .before in
     let c7 = c5 .before .before in
-    let s = c7 .before .before in
-    claim-checked (s .args .d) (s .args .interface) (s .args .alternate) (s .args .rings .now) _ _ _ (c7 .record-check .result)
-    (c7 .record-check .ensures) (c3 .endpoint-map-in .result) (c .offer-check .result) (c5 .enum-told .given .1) (c3 .endpoint-map-in .ensures)
-    (c .offer-check .ensures)
+    let s = c7 .before in
+    claim-checked (s .args .d) (s .args .interface) (s .args .alternate) _ _ _ (c7 .record-check .result)
+    (c7 .record-check .ensures) (c3 .endpoint-map-in .result) _ (c .draw-check .result) (c5 .enum-told .given .1) (c3 .endpoint-map-in .ensures)
+    (free-left s (c7 .record-check .result) (c7 .record-check .ensures) (c5 .enum-told .given .1)) (c .draw-check .ensures)
 
 pub claim-check-spec : {M : Type 1} → statement M
 claim-check-spec =
@@ -75,8 +106,9 @@ claim-check-spec =
     returns
     enum-told
     endpoint-map-in-requires
+    sub-free
+    sub-free-2
     array-share-prefix-list
-    slice-aggregate-offer-check
-    slice-aggregate-offer-check-2
-    offer-check-requires
+    slice-aggregate-draw-check
+    draw-check-requires
     returns-2)

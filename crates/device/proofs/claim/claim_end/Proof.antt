@@ -1,15 +1,12 @@
 use mathlib.Core.Path.{_≡_, refl, _∙_}
 use mathlib.Core.Logic.{⊎-elim}
 use mathlib.Core.Bool.{cond}
-use mathlib.Core.List.{[], _∷_}
 use lib.ListN.{take}
 use borrow.Author.Tests.{not-true, not-false}
-use Rattle.answer.specs.Answer.{number}
-use Rattle.answer.proofs.Numbers.{other-answer}
 use Rattle.record_settings.specs.Held.{withSetting}
 use Rattle.device.specs.Device.{heldOf, withQuarantined}
 use Rattle.device.specs.Claim.{quarantines}
-use Rattle.device.proofs.ClaimLaws.{claim-made}
+use Rattle.device.proofs.ClaimLaws.{is-quarantined, not-quarantined, claim-made}
 use borrow.Author.Needs.{needs}
 use Rattle.device.proofs.claim.claim_end.Statement.{statement}
 use Rattle.device.proofs.claim.claim_end.Tie as tie
@@ -20,19 +17,17 @@ left :
     c .if1 .d
     ≡ cond (c .before .before .before .before .before .before .args .e .moved) (c .before .before .before .before .before .before .args .d)
     (quarantines (c .before .before .before .before .before .before .args .e .answer) (take (c .before .before .before .before .before .before .args .q .count) (c .before .before .before .before .before .before .args .q .rings)) (c .before .before .before .before .before .before .args .d))
-unfolding quarantines withQuarantined number
+unfolding withQuarantined
 left c =
     let c6 = c .before .before .before .before .before .before in
     let s = c6 in ⊎-elim (λ w. w .5 ∙ rw (
       not-true (s .args .e .moved) (w .0 .taken),
-      w .2 .given .1,
+      is-quarantined (s .args .e .answer) (take (s .args .q .count) (s .args .q .rings)) (s .args .d) (w .2 .given .1),
       w .4 .ensures .0,
       s .pre .1 .1,
       w .4 .ensures .1,
-    )) (⊎-elim (λ w. w .2 ∙ rw (
-      not-true (s .args .e .moved) (w .0 .taken),
-      other-answer (14 ∷ []) 14 (s .args .e .answer) refl (w .1 .keys2),
-    )) (λ w. w .1 ∙ rw (not-false (s .args .e .moved) (w .0 .left))))
+    )) (⊎-elim (λ w. w .2 ∙ not-quarantined (s .args .e .answer) (take (s .args .q .count) (s .args .q .rings)) (s .args .d) (s .args .e .moved) (s .args .d)
+    (not-true (s .args .e .moved) (w .0 .taken)) (w .1 .keys2)) (λ w. w .1 ∙ rw (not-false (s .args .e .moved) (w .0 .left))))
     (c .if1 .came)
 
 with-setting-requires : tie.Need-with-setting-requires

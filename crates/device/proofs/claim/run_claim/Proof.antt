@@ -1,21 +1,25 @@
 use Prim.Native.Nat.{_+_, _≤_}
 use mathlib.Core.Path.{_≡_, refl, sym, ap, _∙_}
-use mathlib.Core.Bool.{cond}
+use mathlib.Core.Bool.{true, cond, _&&_}
 use mathlib.Core.List.{[]}
 use mathlib.Core.Logic.{inl, inr, ⊎-elim}
 use native.Mathlib.Omega.{arith}
 use lib.ListN.{length, take}
 use lib.Seq.{length-take-le}
+use Rattle.laws.specs.Distinct.{distinct}
 use Rattle.descriptor_list.proofs.Laws.{found-inside}
+use Rattle.record_ring.specs.Rings.{ringsOk}
+use Rattle.record_ring.proofs.Promises.{given-fits}
 use Rattle.record_settings.specs.Held.{isHeld, alternateOf, settingWords, isFound}
 use Rattle.record_settings.proofs.Laws.{with-fits}
 use Rattle.course_steps.proofs.Laws.{room-as}
 use Rattle.course_claim.specs.declared.ClaimArgs.{ClaimArgs}
-use Rattle.device.specs.Device.{listOf, heldOf}
-use Rattle.device.specs.Claim.{pendingOf}
+use Rattle.device.specs.Device.{listOf, heldOf, quarantinedOf, givenOf, freeOf}
+use Rattle.device.specs.Claim.{drawn, pendingOf}
 use Rattle.device.proofs.Facts.{none-quarantined}
+use Rattle.device.proofs.Kept.{claim-passed}
 use Rattle.device.proofs.Laws.{Passed, passed}
-use Rattle.device.proofs.ClaimLaws.{old-words, new-words, claim-left}
+use Rattle.device.proofs.ClaimLaws.{old-words, new-words, queues-entered, pending-drawn, drawn-enough, claim-left}
 use borrow.Author.Needs.{needs}
 use Rattle.device.proofs.claim.run_claim.Statement.{statement}
 use Rattle.device.proofs.claim.run_claim.Tie as tie
@@ -37,23 +41,46 @@ unfolding listOf
 inside c = rw (long c) at (found-inside _ _ _ _ _ (c .pre .1))
 
 -- The words of the setting that is held, none where none is.
-held : (c : tie.Joined1) → c .if1 .old-words .now ≡ cond (isHeld (c .before .before .before .before .before .before .before .before .before .args .interface) (heldOf (c .before .before .before .before .before .before .before .before .before .args .d))) (settingWords (listOf (c .before .before .before .before .before .before .before .before .before .args .d)) (c .before .before .before .before .before .before .before .before .before .args .interface) (alternateOf (c .before .before .before .before .before .before .before .before .before .args .interface) (heldOf (c .before .before .before .before .before .before .before .before .before .args .d)))) []
+held : (c : tie.Joined1) → c .if1 .old-words .now ≡ cond (isHeld (c .before .before .before .before .before .before .before .before .args .interface) (heldOf (c .before .before .before .before .before .before .before .before .args .d))) (settingWords (listOf (c .before .before .before .before .before .before .before .before .args .d)) (c .before .before .before .before .before .before .before .before .args .interface) (alternateOf (c .before .before .before .before .before .before .before .before .args .interface) (heldOf (c .before .before .before .before .before .before .before .before .args .d)))) []
 unfolding listOf
 held c =
     old-words _ _ _ _ (c .before .before .claim-args .ensures) _
     (⊎-elim (λ w. inl (w .0 .taken, rw (w .2) (w .1 .ensures))) (λ w. inr (w .0 .left, rw (w .2) refl)) (c .if1 .came))
 
+-- The arrays of the endpoints and the given rings have their lengths.
+rings-fit : (c : tie.Start) → (ringsOk (givenOf (c .args .d)) && distinct (givenOf (c .args .d))) ≡ true
+rings-fit c = given-fits (givenOf (c .args .d)) (ready c .facts .store .fit)
+
+none : (c : tie.Start) → quarantinedOf (c .args .d) ≡ []
+none c = none-quarantined (c .args .d) (ready c .usable) (ready c .is-sound)
+
+-- Enough rings are free.
+enough : (c : tie.Start) →
+    length (settingWords (listOf (c .args .d)) (c .args .interface) (c .args .alternate)) ≤ length (freeOf (c .args .d))
+enough c = claim-passed (c .args .d) (c .args .interface) (c .args .alternate) (ready c .is-sound) (passed _ _ _ _ _ (c .pre .0) .1) .enough
+
+-- The rings drawn, by place.
+pending-made :
+    (c : tie.After-drawn-rings) →
+    let s = c .before .before .before .before .before .before .before .before .before .before .before .before in
+    c .drawn-rings .result ≡ pendingOf (s .args .d) (s .args .interface) (s .args .alternate) (drawn (s .args .d) (s .args .interface) (s .args .alternate))
+unfolding listOf givenOf
+pending-made c =
+    let s = c .before .before .before .before .before .before .before .before .before .before .before .before in
+    pending-drawn (s .args .d) (s .args .interface) (s .args .alternate) _ _ (none s)
+    (new-words (s .args .d) (s .args .interface) (s .args .alternate) (s .args .start) (s .args .count) (s .pre .1)) (c .drawn-rings .ensures)
+
 claim-args-requires : tie.Need-claim-args-requires
 claim-args-requires c κs =
-    ready (c .before .before .before .before .before .before) .facts .counts .held
+    ready (c .before .before .before .before .before) .facts .counts .held
 
 array-share-prefix-list : tie.Need-array-share-prefix-list
 array-share-prefix-list c =
-    omega (arith, listed (c .before .before .before .before .before .before .before), ready (c .before .before .before .before .before .before .before) .facts .counts .list)
+    omega (arith, listed (c .before .before .before .before .before .before), ready (c .before .before .before .before .before .before) .facts .counts .list)
 
 slice-aggregate-words : tie.Need-slice-aggregate-words
 slice-aggregate-words c =
-    sym (long (c .before .before .before .before .before .before .before .before))
+    sym (long (c .before .before .before .before .before .before .before))
 
 setting-words-requires : tie.Need-setting-words-requires
 setting-words-requires c κs = search needs
@@ -69,11 +96,11 @@ part-old-words-end c = search needs
 
 add-new-words : tie.Need-add-new-words
 add-new-words c =
-    omega (arith, inside (c .before .before .before .before .before .before .before .before .before), ready (c .before .before .before .before .before .before .before .before .before) .facts .counts .list)
+    omega (arith, inside (c .before .before .before .before .before .before .before .before), ready (c .before .before .before .before .before .before .before .before) .facts .counts .list)
 
 mul-new-words : tie.Need-mul-new-words
 mul-new-words c =
-    omega (arith, inside (c .before .before .before .before .before .before .before .before .before), ready (c .before .before .before .before .before .before .before .before .before) .facts .counts .list)
+    omega (arith, inside (c .before .before .before .before .before .before .before .before), ready (c .before .before .before .before .before .before .before .before) .facts .counts .list)
 
 sub-new-words : tie.Need-sub-new-words
 sub-new-words c = search needs
@@ -83,14 +110,20 @@ part-new-words-start c = search needs
 
 part-new-words-end : tie.Need-part-new-words-end
 part-new-words-end c =
-    omega (arith, inside (c .before .before .before .before .before .before .before .before .before), long (c .before .before .before .before .before .before .before .before .before))
+    omega (arith, inside (c .before .before .before .before .before .before .before .before), long (c .before .before .before .before .before .before .before .before))
 
-pending-rings-requires : tie.Need-pending-rings-requires
-pending-rings-requires c κs = search needs
+drawn-rings-requires : tie.Need-drawn-rings-requires
+unfolding listOf givenOf
+drawn-rings-requires c κs =
+    let s = c .before .before .before .before .before .before .before .before .before .before .before in
+    let f = ready s .facts .counts in (
+      (f .given, (f .endpoints, rings-fit s)),
+      drawn-enough (s .args .d) (s .args .interface) (s .args .alternate) _ (none s) (new-words (s .args .d) (s .args .interface) (s .args .alternate) (s .args .start) (s .args .count) (s .pre .1)) (enough s),
+    )
 
 endpoint-map-in-requires : tie.Need-endpoint-map-in-requires
 endpoint-map-in-requires c κs =
-    ready (c .before .before .before .before .before .before .before .before .before .before .before) .facts .counts .endpoints
+    ready (c .before .before .before .before .before .before .before .before .before .before .before .before) .facts .counts .endpoints
 
 owned-rings-requires : tie.Need-owned-rings-requires
 owned-rings-requires c κs = search needs
@@ -107,9 +140,9 @@ queues-of-requires-3 c κs = search needs
 claim-interface-requires : tie.Need-claim-interface-requires
 claim-interface-requires c κs =
     let c3 = c .before .before .before in
-    let c13 = c3 .before .before .before .before .before .before .before .before .before .before in
-    let f = ready (c13 .before .before .before .before .before .before .before) in (
-      rw (ap (λ (x : ClaimArgs). x .spacing) (c13 .claim-args .ensures))
+    let c15 = c3 .before .before .before .before .before .before .before .before .before .before .before .before in
+    let f = ready (c15 .before .before .before .before .before .before) in (
+      rw (ap (λ (x : ClaimArgs). x .spacing) (c15 .claim-args .ensures))
           (room-as _ _ _ _ _ _ (f .spaced) (c3 .before .before .queues-of .ensures) (c3 .queues-of3 .ensures)),
       (c3 .before .queues-of2 .ensures .room, f .room),
     )
@@ -119,11 +152,16 @@ unfolding isFound
 claim-end-requires c κs =
     let c11 = c .before .before .before .before .before .before .before .before .before .before .before in
     let c15 = c11 .before .before .before .before in
-    let s = c15 .before .before .before .before .before .before .before .before .before .before .before .before in
+    let s = c15 .before .before .before .before .before .before .before .before .before .before .before .before .before in
     let f = ready s in
     let fits = with-fits (listOf (s .args .d)) (heldOf (s .args .d)) (s .args .interface) (s .args .alternate) (f .facts .list) (f .facts .settings) (ap isFound (s .pre .1)) in (
       (f .facts .counts .held, fits),
-      (c15 .endpoint-map-in .ensures, none-quarantined (s .args .d) (f .usable) (f .is-sound), c11 .queues-of2 .ensures),
+      (
+        c15 .endpoint-map-in .ensures,
+        queues-entered (s .args .d) (s .args .interface) (s .args .alternate) _ _ _ (s .pre .0) (pending-made (c15 .before))
+            (c11 .queues-of2 .ensures),
+        c11 .queues-of2 .ensures,
+      ),
     )
 
 same-length : tie.Need-same-length
@@ -145,18 +183,17 @@ returns c =
     let c14 = c13 .before in
     let c16 = c14 .before .before in
     let c17 = c16 .before in
-    let c18 = c17 .before in
-    let c19 = c18 .before in
-    let c21 = c19 .before .before in
-    let s = c21 .before .before .before .before .before .before .before in
+    let c21 = c17 .before .before .before .before in
+    let c23 = c21 .before .before in
+    let s = c23 .before .before .before .before .before .before in
     let d = s .args .d in
     let i = s .args .interface in
     let alt = s .args .alternate in
     let n = new-words d i alt (s .args .start) (s .args .count) (s .pre .1) in
-    let by : c17 .pending-rings .result ≡ pendingOf d i alt (s .args .rings .now) = c17 .pending-rings .ensures ∙ rw n in
-    claim-left d i alt (s .args .rings .now) _ (c16 .endpoint-map-in .result) (c17 .pending-rings .result) _ _ (s .args .outcomes .now)
+    let by = pending-made c17 in
+    claim-left d i alt (drawn d i alt) _ (c16 .endpoint-map-in .result) (c17 .drawn-rings .result) _ _ (s .args .outcomes .now)
     (s .args .ctx .now) (s .args .routes .now) (s .args .log .now) _ _ _ (c7 .claim-interface .result) (c .claim-end .result)
-    (c16 .endpoint-map-in .ensures) by (held c19) n (c21 .claim-args .ensures) (rw (← c14 .owned-rings .ensures) (c13 .queues-of .ensures))
+    (c16 .endpoint-map-in .ensures) by (held c21) n (c23 .claim-args .ensures) (rw (← c14 .owned-rings .ensures) (c13 .queues-of .ensures))
     (c12 .queues-of2 .ensures) (c11 .queues-of3 .ensures) (c7 .claim-interface .ensures) (c .claim-end .ensures _ _ _ _ by)
 
 pub run-claim-spec : {M : Type 1} → statement M
@@ -175,7 +212,7 @@ run-claim-spec =
     sub-new-words
     part-new-words-start
     part-new-words-end
-    pending-rings-requires
+    drawn-rings-requires
     endpoint-map-in-requires
     owned-rings-requires
     queues-of-requires

@@ -1,6 +1,7 @@
 use Rattle.device.specs.Device.{noDevice}
 use Rattle.device_bring_up.specs.BringUp.{broughtRecord, broughtLeft}
 use lib.Seq.{length-take-le}
+use Rattle.course_init.specs.Reading.{controlRing}
 use borrow.Author.Needs.{needs}
 use Rattle.device_bring_up.proofs.record.brought.Statement.{statement}
 use Rattle.device_bring_up.proofs.record.brought.Tie as tie
@@ -10,6 +11,9 @@ count-words-requires c κs = search needs
 
 first-words-requires : tie.Need-first-words-requires
 first-words-requires c κs = search needs
+
+given-rings-requires : tie.Need-given-rings-requires
+given-rings-requires c κs = search needs
 
 no-device-requires : tie.Need-no-device-requires
 no-device-requires c κs = search needs
@@ -21,17 +25,20 @@ cast-d : tie.Need-cast-d
 cast-d c = search needs
 
 returns : tie.Need-returns
-unfolding broughtLeft broughtRecord noDevice
+unfolding broughtLeft broughtRecord controlRing noDevice
 returns c =
-    let c3 = c .before .before .before in
-    let c5 = c3 .before .before in
-    λ hubs ctx routes log. let e = c5 .count-words .ensures in rw (
+    let c4 = c .before .before .before .before in
+    let c6 = c4 .before .before in
+    let s = c6 .before .before .before in
+    λ hubs ctx routes log. let e = c6 .count-words .ensures in rw (
       c .before .answer-number .ensures,
-      c3 .first-words .ensures,
+      c4 .first-words .ensures,
+      c .before .before .before .given-rings .ensures,
+      s .pre .1,
       c .before .before .no-device .ensures,
       e .1,
       length-take-le _ _ (e .0),
     )
 
 pub brought-spec : {M : Type 1} → statement M
-brought-spec = tie.close (tie.spec count-words-requires first-words-requires no-device-requires answer-number-requires cast-d returns)
+brought-spec = tie.close (tie.spec count-words-requires first-words-requires given-rings-requires no-device-requires answer-number-requires cast-d returns)

@@ -8,7 +8,7 @@ use lib.ListN.{getD}
 use borrow.Author.Tests.{eq-eqb, ne-eqb, not-true, not-false}
 use Rattle.record_endpoint.specs.EndpointMap.{tabulated}
 use Rattle.device.specs.Device.{rebuilt, noDevice}
-use Rattle.device_image.specs.Layout.{USABLE, CONFIGURED, CONTROL-REVOKED, SLOT, N, PORT-SPEED, CURRENT-CONFIG-VALUE, SPACING, LIST-LEN, HELD-COUNT, QUARANTINED-COUNT, CONTROL}
+use Rattle.device_image.specs.Layout.{USABLE, CONFIGURED, CONTROL-REVOKED, SLOT, MAX-SLOTS, PORT-SPEED, CURRENT-CONFIG-VALUE, SPACING, LIST-LEN, HELD-COUNT, QUARANTINED-COUNT, CONTROL, UP, GIVEN-COUNT}
 use Rattle.device_image.specs.Image.{isSet, handleIn, numberAt, endpointIn, read, isImage, decode}
 use Rattle.device_image.proofs.Steps.{image-within, image-byte, read-of}
 use borrow.Author.Needs.{needs}
@@ -59,10 +59,10 @@ cast-t14 : tie.Need-cast-t14
 cast-t14 c = omega (arith, image-byte _ (image (c .before .before .before .before .before .before .before)) SLOT (omega arith) (omega arith))
 
 shared-slice-read-t17 : tie.Need-shared-slice-read-t17
-shared-slice-read-t17 c = image-within _ (image (c .before .before .before .before .before .before .before .before)) N refl
+shared-slice-read-t17 c = image-within _ (image (c .before .before .before .before .before .before .before .before)) MAX-SLOTS refl
 
 cast-t18 : tie.Need-cast-t18
-cast-t18 c = omega (arith, image-byte _ (image (c .before .before .before .before .before .before .before .before)) N (omega arith) (omega arith))
+cast-t18 c = omega (arith, image-byte _ (image (c .before .before .before .before .before .before .before .before)) MAX-SLOTS (omega arith) (omega arith))
 
 shared-slice-read-t20 : tie.Need-shared-slice-read-t20
 shared-slice-read-t20 c = image-within _ (image (c .before .before .before .before .before .before .before .before .before)) SPACING refl
@@ -106,15 +106,24 @@ quarantined-in-requires c κs = image (c .before .before .before .before .before
 shared-slice-read-t43 : tie.Need-shared-slice-read-t43
 shared-slice-read-t43 c = image-within _ (image (c .before .before .before .before .before .before .before .before .before .before .before .before .before .before .before .before .before .before .before .before)) QUARANTINED-COUNT refl
 
+shared-slice-read-t46 : tie.Need-shared-slice-read-t46
+shared-slice-read-t46 c = image-within _ (image (c .before .before .before .before .before .before .before .before .before .before .before .before .before .before .before .before .before .before .before .before .before)) UP refl
+
+given-in-requires : tie.Need-given-in-requires
+given-in-requires c κs = image (c .before .before .before .before .before .before .before .before .before .before .before .before .before .before .before .before .before .before .before .before .before)
+
+shared-slice-read-t50 : tie.Need-shared-slice-read-t50
+shared-slice-read-t50 c = image-within _ (image (c .before .before .before .before .before .before .before .before .before .before .before .before .before .before .before .before .before .before .before .before .before .before .before)) GIVEN-COUNT refl
+
 returns-2 : tie.Need-returns-2
 unfolding rebuilt isSet
 returns-2 c =
-    let c4 = c .before .before .before .before in
-    let alternates = c4 in let list = alternates .before .before .before in let endpoints =
+    let c7 = c .before .before .before .before .before .before .before in
+    let alternates = c7 in let list = alternates .before .before .before in let endpoints =
     list .before .before .before .before .before .before .before .before .before .before in let handle = endpoints .before
     in let test = handle .before .before in read-of (test .before .before .before .args .image .now)
     (list .list-in .ensures) (endpoints .endpoints-in .ensures) (alternates .before .settings-in .ensures)
-    (alternates .settings-in2 .ensures) (handle-made handle) (c .before .quarantined-in .ensures) (image test)
+    (alternates .settings-in2 .ensures) (handle-made handle) (c .before .before .before .before .quarantined-in .ensures) (c .before .given-in .ensures) (image test)
 
 pub decode-spec : {M : Type 1} → statement M
 decode-spec =
@@ -144,4 +153,7 @@ decode-spec =
     shared-slice-read-t40
     quarantined-in-requires
     shared-slice-read-t43
+    shared-slice-read-t46
+    given-in-requires
+    shared-slice-read-t50
     returns-2)

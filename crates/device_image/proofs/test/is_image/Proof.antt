@@ -31,10 +31,22 @@ all-below-requires-3 c κs = search needs
 returns-4 : tie.Need-returns-4
 unfolding isImage
 returns-4 c =
-    let second = c .before .before in
+    let third = c .before in
+    let second = third .before .before in
     let first = second .before .before in
-    rw (eq-eqb _ _ (first .before .if1 .left), ← first .all-below .ensures, not-false (first .all-below .result) (second .before .if2 .left), ← second .all-below2 .ensures, not-false (second .all-below2 .result) (c .before .if3 .left))
-    (c .all-below3 .ensures)
+    rw (eq-eqb _ _ (first .before .if1 .left), ← first .all-below .ensures, not-false (first .all-below .result) (second .before .if2 .left), ← second .all-below2 .ensures, not-false (second .all-below2 .result) (third .before .if3 .left), ← third .all-below3 .ensures, not-true (third .all-below3 .result) (c .if4 .taken))
+
+all-below-requires-4 : tie.Need-all-below-requires-4
+all-below-requires-4 c κs = search needs
+
+returns-5 : tie.Need-returns-5
+unfolding isImage
+returns-5 c =
+    let third = c .before .before in
+    let second = third .before .before in
+    let first = second .before .before in
+    rw (eq-eqb _ _ (first .before .if1 .left), ← first .all-below .ensures, not-false (first .all-below .result) (second .before .if2 .left), ← second .all-below2 .ensures, not-false (second .all-below2 .result) (third .before .if3 .left), ← third .all-below3 .ensures, not-false (third .all-below3 .result) (c .before .if4 .left))
+    (c .all-below4 .ensures)
 
 pub is-image-spec : {M : Type 1} → statement M
 is-image-spec =
@@ -46,4 +58,6 @@ is-image-spec =
     all-below-requires-2
     returns-3
     all-below-requires-3
-    returns-4)
+    returns-4
+    all-below-requires-4
+    returns-5)

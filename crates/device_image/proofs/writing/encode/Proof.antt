@@ -9,10 +9,11 @@ use mir.Syntax.{Width, w8, w32}
 use mir.Val.{Fits as Fits', bits}
 use borrow.Author.Needs.{needs}
 use borrow.Author.Tests.{ne-eqb}
+use Rattle.laws.specs.Bounds.{Below}
 use Rattle.descriptor_list.specs.Valid.{LIST-ROOM}
 use Rattle.device_image.specs.Layout.{LIST, WORDS}
 use Rattle.device_image.specs.Image.{revoked, stored}
-use Rattle.device_image.specs.Fits.{Fits, Below}
+use Rattle.device_image.specs.Fits.{Fits}
 use Rattle.device_image.proofs.Laws.{encoded}
 use Rattle.device_image.proofs.Steps.{rest, rest-none, rest-next, rest-all, endpoints-known}
 use Rattle.device_image.proofs.writing.encode.Statement.{statement}
@@ -37,7 +38,7 @@ fits : (c : tie.Start Inv-loop μ-loop) → Fits (c .args .t1)
 fits c =
     record {
       slot = search needs;
-      n = search needs;
+      «max_slots» = search needs;
       speed = search needs;
       value = search needs;
       list = (
@@ -45,7 +46,7 @@ fits c =
         below-of (c .args .t1 .list) w32 (λ i. search needs),
       );
       eps = endpoints-known (c .args .t1 .eps) _
-          (c .good .0 .1 .1 .1 .1 .1 .1 .1 .1 .1 .1 .1 .0);
+          (c .good .0 .1 .1 .1 .1 .1 .1 .1 .1 .1 .1 .1 .1 .0);
       owners = (
         search needs,
         below-of (c .args .t1 .«ep_interfaces») w8 (λ
@@ -55,18 +56,20 @@ fits c =
       alternates =
           (search needs, below-of (c .args .t1 .alternates) w8 (λ i. search needs));
       quarantined = search needs;
+      given = let known = c .good .0 .1 .1 .1 .1 .1 .1 .1 .1 .1 .1 .1 .1 .1 .1 .1 .1 .1 .1 .1 .1 .1 .1 .0 .1 .0 .1 in search needs;
     }
 
 -- The length after the last call.
-room : (c : tie.After-slice-known4 Inv-loop μ-loop) → length (c .before .before .put-quarantined .last .0) ≡ WORDS
+room : (c : tie.After-slice-known5 Inv-loop μ-loop) → length (c .before .before .put-given .last .0) ≡ WORDS
 room c =
-    let last = c .before .before in let settings = last .before .before .before .before in let endpoints =
+    let last = c .before .before in let rings = last .before .before .before .before in let settings = rings .before .before .before .before in let endpoints =
     settings .before .before .before .before in omega (
       arith,
-      last .put-quarantined .kept .0,
+      last .put-given .kept .0,
+      rings .put-quarantined .kept .0,
       settings .put-settings .kept .0,
       endpoints .put-endpoints .kept .0,
-      endpoints .before .before .before .before .before .before .before .before .loop .inv .1,
+      endpoints .before .before .before .before .before .before .before .before .before .loop .inv .1,
     )
 
 returns : tie.Need-returns Inv-loop μ-loop
@@ -118,6 +121,9 @@ put-settings-requires c κs = search needs
 
 put-quarantined-requires : tie.Need-put-quarantined-requires Inv-loop μ-loop
 put-quarantined-requires c κs = search needs
+
+put-given-requires : tie.Need-put-given-requires Inv-loop μ-loop
+put-given-requires c κs = search needs
 
 enum-told : tie.Need-enum-told Inv-loop μ-loop
 enum-told c = search needs
@@ -182,23 +188,32 @@ slice-write-image-13 c = simp length-set (omega (arith, room (c .before)))
 slice-write-image-14 : tie.Need-slice-write-image-14 Inv-loop μ-loop
 slice-write-image-14 c = simp length-set (omega (arith, room (c .before)))
 
-same-length : tie.Need-same-length Inv-loop μ-loop
-same-length c = simp length-set (omega (arith, room (c .before), c .before .before .before .before .before .before .before .before .before .before .before .before .before .before .before .before .before .before .before .loop .inv .0))
+cast-image-8 : tie.Need-cast-image-8 Inv-loop μ-loop
+cast-image-8 c = search needs
 
-revoked-made : (c : tie.At-match-came Inv-loop μ-loop) → c .match .revoked ≡ revoked (c .before .before .before .before .before .before .before .before .before .before .before .before .before .before .before .before .before .before .before .before .before .before .args .t1 .«control_handle»)
+slice-write-image-15 : tie.Need-slice-write-image-15 Inv-loop μ-loop
+slice-write-image-15 c = simp length-set (omega (arith, room (c .before)))
+
+slice-write-image-16 : tie.Need-slice-write-image-16 Inv-loop μ-loop
+slice-write-image-16 c = simp length-set (omega (arith, room (c .before)))
+
+same-length : tie.Need-same-length Inv-loop μ-loop
+same-length c = simp length-set (omega (arith, room (c .before), c .before .before .before .before .before .before .before .before .before .before .before .before .before .before .before .before .before .before .before .before .before .before .before .before .loop .inv .0))
+
+revoked-made : (c : tie.At-match-came Inv-loop μ-loop) → c .match .revoked ≡ revoked (c .before .before .before .before .before .before .before .before .before .before .before .before .before .before .before .before .before .before .before .before .before .before .before .before .before .before .before .args .t1 .«control_handle»)
 unfolding revoked
 revoked-made c = ⊎-elim (λ w. rw (w .1 .given .1) (w .2)) (λ w. rw (w .1 .given .1) (w .2)) (c .match .came)
 
 returns-2 : tie.Need-returns-2 Inv-loop μ-loop
 returns-2 c =
     let c3 = c .before .before .before in
-    let last = c3 in let settings = last .before .before .before .before in let endpoints =
-    settings .before .before .before .before in let exit = endpoints .before .before .before .before .before .before .before
+    let last = c3 in let rings = last .before .before .before .before in let settings = rings .before .before .before .before in let endpoints =
+    settings .before .before .before .before in let exit = endpoints .before .before .before .before .before .before .before .before
     in let turn = exit .before .loop .inv in let start = exit .before .before .before .before in let f : Fits
     (start .args .t1) = fits start in (
       encoded (start .args .t1) f (start .args .image .now) (turn .0) (sym (turn .4 ∙
           rest-all _ _ _ _ (omega (arith, turn .2, exit .loop-test .left)))) (endpoints .put-endpoints .ensures)
-          (settings .put-settings .ensures) (last .put-quarantined .ensures) (revoked-made c),
+          (settings .put-settings .ensures) (rings .put-quarantined .ensures) (last .put-given .ensures) (revoked-made c),
       λ e. f,
     )
 
@@ -222,6 +237,7 @@ encode-spec =
     put-endpoints-requires
     put-settings-requires
     put-quarantined-requires
+    put-given-requires
     enum-told
     enum-told-2
     cast-image-2
@@ -243,5 +259,8 @@ encode-spec =
     slice-write-image-12
     slice-write-image-13
     slice-write-image-14
+    cast-image-8
+    slice-write-image-15
+    slice-write-image-16
     same-length
     returns-2)

@@ -22,7 +22,7 @@ returns-3 c =
       le-leb _ _ (c3 .if1 .left),
       le-leb _ _ (c .before .before .if2 .left),
       le-leb
-          (c4 .args .n) 255 (omega arith),
+          (c4 .args .max-slots) 255 (omega arith),
       ne-eqb spacing 32 (c .before .if3 .taken),
       not-true (eqb spacing 64) (c .if4 .taken),
     )
@@ -40,7 +40,7 @@ returns-4 c =
       le-leb _ _ (c3 .if1 .left),
       le-leb _ _ (c .before .before .if2 .left),
       le-leb
-          (c4 .args .n) 255 (omega arith),
+          (c4 .args .max-slots) 255 (omega arith),
       known,
       c .speed-known .ensures,
     )

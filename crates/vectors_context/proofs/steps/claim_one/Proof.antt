@@ -1,5 +1,4 @@
-use lib.Dec.{lit<}
-use Rattle.context.specs.Steps.{highestDci}
+use native.Mathlib.Omega.{arith}
 use borrow.Author.Needs.{needs}
 use Rattle.vectors_context.proofs.steps.claim_one.Statement.{statement}
 use Rattle.vectors_context.proofs.steps.claim_one.Tie as tie
@@ -20,8 +19,7 @@ slice-aggregate-prepare-configure-context-5 : tie.Need-slice-aggregate-prepare-c
 slice-aggregate-prepare-configure-context-5 c = search needs
 
 prepare-configure-context-requires : tie.Need-prepare-configure-context-requires
-unfolding highestDci
-prepare-configure-context-requires c κs = (search needs, lit< tt)
+prepare-configure-context-requires c κs = (search needs, λ i l. absurd (omega arith))
 
 slice-aggregate-text : tie.Need-slice-aggregate-text
 slice-aggregate-text c = search needs

@@ -29,9 +29,9 @@ returns c =
     let finish = c .before .before in
     let called = finish .before .before .before .before .before .before .before .before in
     let read = called .before .before .before .before in
-    let start = read .before .before .before .before .before .before .before .before in
+    let start = read .before .before .before .before .before .before .before in
     rw (← read .decode .ensures)
-    (cross (read .decode .result) _ _ _ _ _ (read .decode .ensures) (claim-keeps (read .decode .result) _ _ _ (start .args .outcomes .now) (start .args .interface) (start .args .alternate) (start .args .rings .now))
+    (cross (read .decode .result) _ _ _ _ _ (read .decode .ensures) (claim-keeps (read .decode .result) _ _ _ (start .args .outcomes .now) (start .args .interface) (start .args .alternate))
     (called .claim .result) _ _ _ _ _ (called .claim .ensures) (finish .finish .ensures .0) (finish .finish .ensures .1) (finish .finish .ensures .2))
 
 pub xhci-device-claim-spec : {M : Type 1} → statement M

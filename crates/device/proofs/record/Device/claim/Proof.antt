@@ -1,5 +1,5 @@
 use mathlib.Core.Path.{sym, ap, _∙_}
-use Rattle.record_checks.specs.Offer.{checkOf}
+use Rattle.record_checks.specs.Draw.{checkOf}
 use Rattle.device.specs.Claim.{claim}
 use Rattle.device.proofs.Exits.{refused-left, passed-left}
 use borrow.Author.Needs.{needs}
@@ -46,7 +46,7 @@ returns-2 : tie.Need-returns-2
 unfolding claim checkOf
 returns-2 c =
     let c4 = c .before .before .before .before in
-    let s = c4 .before .before .before .before .before .before in
+    let s = c4 .before .before .before .before .before in
     rw (c .refused .ensures) (refused-left _ _ (c4 .claim-check .ensures .check) _ (ap checkOf (c .before .before .checked2 .given .1))
     (s .args .self) _ (s .args .ctx .now) (s .args .routes .now) (s .args .log .now))
 

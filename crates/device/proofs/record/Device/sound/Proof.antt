@@ -1,7 +1,7 @@
 use mathlib.Core.Path.{sym, _∙_}
 use borrow.Author.Tests.{not-true, not-false}
-use Rattle.device.specs.Device.{listOf, endpointMapIn, heldOf, quarantinedOf}
-use Rattle.device.specs.Sound.{slotSound, countsFit, listsSound, allRings, ringsSound, sound}
+use Rattle.device.specs.Device.{listOf, endpointMapIn, heldOf, quarantinedOf, givenOf}
+use Rattle.device.specs.Sound.{slotSound, countsFit, listsSound, liveRings, ringsSound, storeSound, sound}
 use Rattle.device.proofs.Facts.{count-facts}
 use borrow.Author.Needs.{needs}
 use Rattle.device.proofs.record.Device.sound.Statement.{statement}
@@ -31,7 +31,7 @@ returns-2 c =
 
 lists-sound-requires : tie.Need-lists-sound-requires
 unfolding countsFit
-lists-sound-requires c κs = let f = count-facts (c .before .before .before .before .before .before .before .before .before .before .args .self) (sym (c .before .counts-fit .ensures) ∙ not-false _ (c .if2 .left)) in (f .list, f .held, f .endpoints)
+lists-sound-requires c κs = let f = count-facts (c .before .before .before .before .before .before .before .before .before .before .before .args .self) (sym (c .before .counts-fit .ensures) ∙ not-false _ (c .if2 .left)) in (f .list, f .held, f .endpoints)
 
 returns-3 : tie.Need-returns-3
 unfolding sound slotSound countsFit listsSound listOf endpointMapIn heldOf
@@ -53,12 +53,12 @@ rings-sound-requires : tie.Need-rings-sound-requires
 unfolding countsFit
 rings-sound-requires c κs =
     let c3 = c .before .before .before in
-    let c12 = c3 .before .before .before .before .before .before .before .before .before in
+    let c12 = c3 .before .before .before .before .before .before .before .before .before .before in
     let f = count-facts (c12 .args .self) (sym (c3 .counts-fit .ensures) ∙ not-false _ (c .before .before .if2 .left)) in
-    (f .endpoints, f .quarantined)
+    (f .endpoints, (f .quarantined, f .given))
 
 returns-4 : tie.Need-returns-4
-unfolding sound slotSound countsFit listsSound listOf endpointMapIn heldOf ringsSound allRings quarantinedOf
+unfolding sound slotSound countsFit listsSound listOf endpointMapIn heldOf ringsSound storeSound liveRings quarantinedOf givenOf
 returns-4 c =
     let c3 = c .before .before .before in
     let c4 = c3 .before in

@@ -1,4 +1,4 @@
-// An endpoint as its Dci and its ring; the ring is the next one offered.
+// An endpoint as its Dci and its ring; the ring is the next one that may be drawn.
 use std::sync::Arc;
 
 use ax_sync::SpinLock as Mutex;

@@ -1,4 +1,4 @@
-// The five functions of device.rs, asked as a `Layer`.
+// The functions of device.rs, asked as a `Layer`.
 use std::cell::Cell;
 use std::collections::BTreeMap;
 use std::panic::{self, AssertUnwindSafe};
@@ -7,7 +7,9 @@ use std::sync::{Arc, Once};
 use std::task::{Context, Poll, Waker};
 
 use ax_sync::SpinLock;
-use scenario::{Answer, BringUp, Buffers, Cannot, Claim, Endpoint, HubUpdate, Layer, Outcome, Record, proper};
+use scenario::{
+    Answer, Asked, BringUp, Buffers, Cannot, Claim, Endpoint, GIVEN_ROOM, HubUpdate, Layer, Outcome, Record, Shown, proper,
+};
 use usb_if::descriptor::{ConfigurationDescriptor, DeviceDescriptor, EndpointType};
 use usb_if::endpoint::EndpointInfo;
 use usb_if::err::{TransferError, USBError};
@@ -92,14 +94,11 @@ fn lengths_fit(buffers: &Buffers, spacing: usize, n: u32) -> bool {
     buffers.ctx.len() == 33 * spacing && buffers.routes.len() == 32 * (n as usize + 1) && buffers.log.len() >= 64
 }
 
-fn rings_fit(rings: &[u64], taken: usize, record: &Record) -> bool {
-    let known = |ring: &u64| {
-        *ring == record.control || record.quarantined.contains(ring) || record.endpoints.iter().any(|e| e.ring == *ring)
-    };
-    let once = |(i, ring): (usize, &u64)| !rings[..i].contains(ring);
-    rings.len() == taken
-        && rings.iter().all(|ring| *ring != 0 && ring.is_multiple_of(16) && !known(ring))
-        && rings.iter().enumerate().all(once)
+/// The ring of control among those given, if these fit.
+fn control_ring(given: &[u64]) -> Option<u64> {
+    let fit = |(i, ring): (usize, &u64)| *ring != 0 && ring.is_multiple_of(16) && !given[..i].contains(ring);
+    let all_fit = given.len() <= GIVEN_ROOM && given.iter().enumerate().all(fit);
+    given.iter().copied().min().filter(|_| all_fit)
 }
 
 fn ring_of(endpoint: &EndpointHandle) -> u64 {
@@ -173,15 +172,15 @@ fn bring_up(args: &BringUp, buffers: &mut Buffers) -> Outcome {
         Poll::Ready(Err(err)) => return refused(answer(Poll::Ready(Err(err))).0, Record::default()),
         Poll::Pending => return Err(Cannot::NoSuchInput),
     };
-    let aligned = args.ring != 0 && args.ring.is_multiple_of(16);
-    if !lengths_fit(buffers, spacing, args.n) || !aligned {
+    if !lengths_fit(buffers, spacing, args.n) {
         return Err(Cannot::NoSuchInput);
     }
+    let ring = control_ring(&args.rings).ok_or(Cannot::NoSuchInput)?;
     let info = address_info(args)?;
     load(&mut device, buffers);
     bus::begin(Script {
         outcomes: buffers.outcomes.clone(),
-        rings: vec![args.ring],
+        rings: vec![ring],
         header: (args.header as usize, args.packet),
         configuration_value: args.config,
         configurations: words::configurations(&args.list).ok_or(Cannot::NoSuchInput)?,
@@ -196,7 +195,9 @@ fn bring_up(args: &BringUp, buffers: &mut Buffers) -> Outcome {
     let BringUp { slot, speed, .. } = *args;
     let n = args.n as u8;
     let list = words::first_configurations(&args.list, device.config_desc.len());
-    let record = Record { usable: number == 0, slot, n, spacing, speed, list, ..Record::default() };
+    let up = number == 0;
+    let given = args.rings.clone();
+    let record = Record { usable: up, up, slot, n, spacing, speed, list, given, ..Record::default() };
     Ok((kept(&device, record), Answer { number, code, count }))
 }
 
@@ -285,14 +286,9 @@ impl Original {
         Ok(core::mem::take(&mut self.configurations))
     }
 
-    /// Runs one of the functions on the device that a record describes.
-    fn on(
-        &mut self,
-        record: &Record,
-        rings: &[u64],
-        buffers: &mut Buffers,
-        call: impl FnOnce(&mut Device) -> Polled,
-    ) -> Outcome {
+    /// Runs one of the functions on the device that a record describes. The rings that it makes are the free ones of the
+    /// record, the lowest first; with too few of these there is no answer.
+    fn on(&mut self, record: &Record, buffers: &mut Buffers, call: impl FnOnce(&mut Device) -> Polled) -> Outcome {
         if !lengths_fit(buffers, record.spacing, record.n.into()) {
             return Err(Cannot::NoSuchInput);
         }
@@ -300,13 +296,14 @@ impl Original {
         self.list.clear();
         let mut device = device(record, configurations)?;
         load(&mut device, buffers);
-        bus::begin(Script { outcomes: buffers.outcomes.clone(), rings: rings.to_vec(), ..Script::default() });
+        let rings = record.free();
+        let free = rings.len();
+        bus::begin(Script { outcomes: buffers.outcomes.clone(), rings, ..Script::default() });
         let (number, code) = answer(proper(|| call(&mut device)));
         let script = bus::end();
         let kept = kept(&device, record.clone());
         let rings_matter = !matches!(number, 8 | 9);
-        let unfit = rings_matter && !rings_fit(rings, script.rings_taken, record);
-        if !unfit {
+        if !rings_matter || script.rings_taken <= free {
             let count = settle(&mut device, &script, buffers);
             self.list.clone_from(&record.list);
             self.configurations = device.config_desc;
@@ -323,26 +320,37 @@ impl Layer for Original {
     }
 
     fn claim(&mut self, record: &Record, args: &Claim, buffers: &mut Buffers) -> Outcome {
-        let Claim { interface, alternate, rings } = args;
+        let Claim { interface, alternate } = args;
         if !record.usable {
             return refused(12, record.clone());
         }
         let claim = |device: &mut Device| poll(device._claim_interface(*interface, *alternate)).map_ok(drop);
-        ask(|| self.on(record, rings, buffers, claim))
+        ask(|| self.on(record, buffers, claim))
+    }
+
+    // The original has no look ahead.
+    fn ask(&mut self, _: &Record, _: &Claim, _: &Buffers) -> Shown {
+        Err(Cannot::NoSuchInput)
+    }
+
+    // Its claim, as one.
+    fn commit(&mut self, record: &Record, asked: &Asked, buffers: &mut Buffers) -> Outcome {
+        let Asked { interface, alternate, .. } = *asked;
+        self.claim(record, &Claim { interface, alternate }, buffers)
     }
 
     fn release(&mut self, record: &Record, interface: u8, buffers: &mut Buffers) -> Outcome {
         if !record.usable {
             return refused(12, record.clone());
         }
-        ask(|| self.on(record, &[], buffers, |device| poll(device._release_interface(interface))))
+        ask(|| self.on(record, buffers, |device| poll(device._release_interface(interface))))
     }
 
     fn set_configuration(&mut self, record: &Record, value: u8, buffers: &mut Buffers) -> Outcome {
         if !record.usable {
             return refused(12, record.clone());
         }
-        ask(|| self.on(record, &[], buffers, |device| poll(device._set_configuration(value))))
+        ask(|| self.on(record, buffers, |device| poll(device._set_configuration(value))))
     }
 
     // `Device::update_hub` of src/device.rs does not ask whether the device is broken.
@@ -354,6 +362,16 @@ impl Layer for Original {
             parent_hub_slot_id: 0,
             root_hub_port_number: 0,
         };
-        ask(|| self.on(record, &[], buffers, |device| poll(device.update_hub_inner(params))))
+        ask(|| self.on(record, buffers, |device| poll(device.update_hub_inner(params))))
+    }
+
+    // `Device::disconnect` of src/device.rs has an answer of its own for a broken device, and runs this otherwise.
+    fn disconnect(&mut self, record: &Record, buffers: &mut Buffers) -> Outcome {
+        if !record.up {
+            return refused(12, record.clone());
+        }
+        let (record, answer) = ask(|| self.on(record, buffers, |device| poll(device._disconnect())))?;
+        let gone = answer.number == 0;
+        Ok((Record { usable: record.usable && !gone, up: !gone, ..record }, answer))
     }
 }
