@@ -199,22 +199,6 @@ endpoints-all eps owners l i e o g =
     ∙ rest-all _ _ _ _ (omega arith)
 
 -- One word more tested.
-pub below-next :
-    (bound k i : ℕ) (l : List ℕ) → i < k → getD l i 0 < bound → below bound (k - i) i l ≡ below bound (k - (i + 1)) (i + 1) l
-unfolding below
-below-next bound k i l h g =
-    let e : k - i ≡ suc (k - (i + 1)) = omega arith in rw (e, lt-ltb (getD l i 0) bound g)
-
-pub below-not :
-    (bound k i : ℕ) (l : List ℕ) → i < k → bound ≤ getD l i 0 → below bound (k - i) i l ≡ false
-unfolding below
-below-not bound k i l h g =
-    let e : k - i ≡ suc (k - (i + 1)) = omega arith in rw (e, le-ltb (getD l i 0) bound g)
-
-pub below-none : (bound k i : ℕ) (l : List ℕ) → k ≤ i → below bound (k - i) i l ≡ true
-unfolding below
-below-none bound k i l h = let e : k - i ≡ 0 = omega arith in rw e
-
 -- What an image is.
 module _ (l : List ℕ) (e : isImage l ≡ true) where
   bounds :

@@ -1,23 +1,23 @@
 // Whether words are an image.
 use super::layout;
 ghost use mathlib.Core.Path.{_≡_};
-ghost use Prim.Native.Nat.{_-_, _≤_};
+ghost use Prim.Native.Nat.{ℕ, _-_, _^_, _≤_};
+ghost use lib.Dec.{ltb};
 ghost use lib.ListN.{length};
 ghost use Rattle.device_image.specs.Image.{below, isImage};
 
-// Whether the words from `from` up to `to` are below a bound.
-fn all_below(image: &[u64], bound: u64, from: usize, to: usize) -> bool
+// The bits that any of the words from `from` up to `to` has: a power of two is above it if it is above each of them.
+fn bits_of(image: &[u64], from: usize, to: usize) -> u64
     requires { ⌜ to ≤ length (now image) ⌝ }
-    ensures { λ r. ⌜ r ≡ below bound (to - from) from (now (image .entry)) ⌝ }
+    ensures { λ r. ⌜ ((k : ℕ) → ltb r (2 ^ k) ≡ below (2 ^ k) (to - from) from (now (image .entry))) ⌝ }
 {
+    let mut bits = 0;
     let mut i = from;
     while i < to {
-        if bound <= image[i] {
-            return false;
-        }
+        bits |= image[i];
         i += 1;
     }
-    true
+    bits
 }
 
 pub fn is_image(image: &[u64]) -> bool
@@ -26,14 +26,14 @@ pub fn is_image(image: &[u64]) -> bool
     if image.len() != layout::WORDS {
         return false;
     }
-    if !all_below(image, 2, layout::USABLE, layout::SLOT) {
+    if 2 <= bits_of(image, layout::USABLE, layout::SLOT) {
         return false;
     }
-    if !all_below(image, 256, layout::SLOT, layout::LIST) {
+    if 256 <= bits_of(image, layout::SLOT, layout::LIST) {
         return false;
     }
-    if !all_below(image, 4294967296, layout::LIST, layout::SPACING) {
+    if 4294967296 <= bits_of(image, layout::LIST, layout::SPACING) {
         return false;
     }
-    all_below(image, 2, layout::UP, layout::GIVEN_COUNT)
+    image[layout::UP] < 2
 }
