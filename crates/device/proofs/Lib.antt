@@ -1,6 +1,4 @@
-pub mod AskAnswers
 pub mod AskLaws
-pub mod AskPromises
 pub mod ClaimLaws
 pub mod Contexts
 pub mod Counts

@@ -1,5 +1,4 @@
 pub mod Ask
-pub mod AskPromises
 pub mod Calls
 pub mod Check
 pub mod Claim

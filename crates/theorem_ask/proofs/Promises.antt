@@ -36,18 +36,18 @@ use Rattle.record_checks.specs.Draw.{sameRings}
 use Rattle.course_steps.specs.End.{settingsKept}
 use Rattle.course_claim.specs.Claim.{Claim, claimContext, claimCourse}
 use Rattle.course_claim.proofs.Contexts.{claim-at-configure}
 use Rattle.device.specs.declared.record.Device.{Device}
 use Rattle.device.specs.Device.{listOf, endpointMapIn, heldOf}
 use Rattle.device.specs.Left.{Left, refused, ended}
 use Rattle.device.specs.Calls.{onCheck}
 use Rattle.device.specs.Check.{recordCheck}
 use Rattle.device.specs.Claim.{claimCheck, drawn, claimIn, claimRecord, claimRun, claim}
 use Rattle.device.specs.Ask.{Ask, asking, noAsk, askOf, askCheck, returned, ask, sameAsk, currentCheck, commit}
-use Rattle.device.specs.AskPromises.{askedNow, AskTells, OutdatedTells, AskPromise, ClaimPromise, OutdatedPromise, FlagsShown, FlagsPromise}
-use Rattle.device.proofs.AskAnswers.{not-accepted, not-outdated, claim-current}
+use Rattle.theorem_ask.specs.Promises.{askedNow, AskTells, OutdatedTells, AskPromise, ClaimPromise, OutdatedPromise, FlagsShown, AskFlagsPromise}
+use Rattle.theorem_ask.proofs.Answers.{not-accepted, not-outdated, claim-current}
 use Rattle.device.proofs.AskLaws.{ask-then, ask-refused, ask-passed, drawn-many, words-few}
 use Rattle.device.proofs.Fit.{placed-setting, placed-if, placed-endpoints}
 use Rattle.device.proofs.Laws.{Passed, passed, andThen}
 
 -- What the comparison of rings says.
 same-told : (rs ss : List ℕ) → sameRings rs ss ≡ true → rs ≡ ss
@@ -292,7 +292,7 @@ module _ (d : Device) (ctx routes log : List ℕ) (i a : ℕ) (e : askCheck d (l
         high = (flags-below _, flags-below _);
       }
 
-pub shown-promise : FlagsPromise
+pub shown-promise : AskFlagsPromise
 shown-promise d ctx routes log i a = go (askCheck d (length ctx) (length routes) (length log) i a Pass) refl
   where
     go : (x : Check) → askCheck d (length ctx) (length routes) (length log) i a Pass ≡ x →

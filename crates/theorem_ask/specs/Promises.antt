@@ -1,4 +1,4 @@
--- What ask, commit and claim are to each other, whatever the record, the outcomes and all that is lent: proofs/AskPromises.antt proves
+-- What ask, commit and claim are to each other, whatever the record, the outcomes and all that is lent: proofs/Promises.antt proves
 -- each `..Promise`.
 use Prim.Native.Nat.{ℕ, _+_, _/_, _%_, _^_, _<_, _≤_}
 use mathlib.Core.Bool.{true, false}
@@ -73,8 +73,8 @@ pub record FlagsShown (d : Device) (stops : ℕ) (p : Ask) (l : Left) : Type 0 w
   pub low : (p .drops % 4 ≡ 0) × (p .adds % 4 ≡ 0)
   pub high : (p .drops < 2 ^ 32) × (p .adds < 2 ^ 32)
 
-abbrev pub FlagsPromise : Type 0
-FlagsPromise =
+abbrev pub AskFlagsPromise : Type 0
+AskFlagsPromise =
     (d : Device) (ctx routes log : List ℕ) (i a : ℕ) →
     let stops = length (queuesOf (ownedRings (Interface i) (endpointMapIn d))) in
     let outcomes = replicate {A = ℕ} stops 0 in
