@@ -18,17 +18,17 @@ use Rattle.descriptor_raw.specs.declared.RawAnswer.the-variants.{Accepte
 use Rattle.descriptor_raw.specs.Answer.{Left, countOf, leaves, accepts, unless}
 use Rattle.descriptor_raw.specs.Read.{descriptors, allWhole, allBorneOut, wellFormed, wordsOf, allWords, readWords, readDescriptors}
 use Rattle.descriptor_raw.specs.Write.{packetsGiven, writtenBytes, writeDescriptors}
-use Rattle.descriptor_raw.specs.Promises.{WrittenPromise, ReadPromise, Other, OthersPromise, Kept, KeptPromise}
+use Rattle.descriptor_raw.specs.Promises.{WrittenPromise, ReadPromise, Other, OthersPromise, RestKept, KeptPromise}
 use Rattle.descriptor_raw.proofs.Valid.{valid-words}
 use Rattle.descriptor_raw.proofs.Written.{Writable, written-well-formed, written-words, written-short}
 use Rattle.descriptor_raw.proofs.Yielded.{Fine, yielded-fine}
 
 comes-back : WrittenPromise
 unfolding readDescriptors writeDescriptors
-comes-back list lent words small v p room space =
+comes-back list buffer words small v p room space =
     let g : Writable list = record { small = small; words = valid-words list v; packets = p } in
     record {
-      written = rw (le-leb 2304 (length lent) room, v, p);
+      written = rw (le-leb 2304 (length buffer) room, v, p);
       fits = omega (arith, written-short list, valid-length list v);
       read = rw (le-leb 256 (length words) space, written-well-formed list g, written-words list g, v);
     }
@@ -61,7 +61,7 @@ passed bytes words count e =
 
 reads : ReadPromise
 unfolding readDescriptors readWords descriptors wellFormed
-reads bytes words lent count b e room =
+reads bytes words buffer count b e room =
     let p = passed bytes words count e in
     let f : Fine (readWords bytes) =
     yielded-fine 0 bytes b (and-right (allWhole (descriptors bytes)) (allBorneOut (descriptors bytes)) (p .formed)) in
@@ -69,7 +69,7 @@ reads bytes words lent count b e room =
       counted = p .counted;
       left = rw (le-leb 256 (length words) (p .space), p .formed, p .valid);
       valid = p .valid;
-      again = comes-back (readWords bytes) lent words (f .small) (p .valid) (f .packets) room (p .space);
+      again = comes-back (readWords bytes) buffer words (f .small) (p .valid) (f .packets) room (p .space);
     }
 
 no-words : (ds : List (List ℕ)) → ((k : ℕ) → k < length ds → Other (getD ds k [])) → allWords ds ≡ []
@@ -89,30 +89,30 @@ sets-past [] l i k h = refl
 sets-past (v ∷ vs) l i k h =
     sets-past vs (set l i v) (suc i) k (omega arith) ∙ getD-set-other l i k v 0 (λ e. omega arith)
 
-accepted-kept : (output lent : List ℕ) → Kept lent (accepts output lent)
+accepted-kept : (output buffer : List ℕ) → RestKept buffer (accepts output buffer)
 unfolding countOf
-accepted-kept output lent =
+accepted-kept output buffer =
     record {
-      long = length-sets lent 0 output;
-      past = λ k h. sets-past output lent 0 k (omega arith);
+      long = length-sets buffer 0 output;
+      past = λ k h. sets-past output buffer 0 k (omega arith);
     }
 
-refused-kept : (refusal : RawAnswer) (lent : List ℕ) → Kept lent (leaves refusal lent)
-refused-kept refusal lent = record { long = refl; past = λ k h. refl }
+refused-kept : (refusal : RawAnswer) (buffer : List ℕ) → RestKept buffer (leaves refusal buffer)
+refused-kept refusal buffer = record { long = refl; past = λ k h. refl }
 
-unless-kept : (holds : Bool) (refusal : RawAnswer) (lent : List ℕ) (next : Left) → Kept lent next → Kept lent (unless holds refusal lent next)
-unless-kept true refusal lent next n = n
-unless-kept false refusal lent next n = refused-kept refusal lent
+unless-kept : (holds : Bool) (refusal : RawAnswer) (buffer : List ℕ) (next : Left) → RestKept buffer next → RestKept buffer (unless holds refusal buffer next)
+unless-kept true refusal buffer next n = n
+unless-kept false refusal buffer next n = refused-kept refusal buffer
 
 kept : KeptPromise
 unfolding readDescriptors writeDescriptors
-kept given lent = (
-  unless-kept (leb 256 (length lent)) TooShort lent _
-      (unless-kept (wellFormed (descriptors given)) Malformed lent _
-      (unless-kept (validList (readWords given)) DescriptorList lent _
-      (accepted-kept (readWords given) lent))),
-  unless-kept (leb 2304 (length lent)) TooShort lent _
-      (unless-kept (validList given) DescriptorList lent _
-      (unless-kept (packetsGiven given) Malformed lent _
-      (accepted-kept (writtenBytes given) lent))),
+kept given buffer = (
+  unless-kept (leb 256 (length buffer)) TooShort buffer _
+      (unless-kept (wellFormed (descriptors given)) Malformed buffer _
+      (unless-kept (validList (readWords given)) DescriptorList buffer _
+      (accepted-kept (readWords given) buffer))),
+  unless-kept (leb 2304 (length buffer)) TooShort buffer _
+      (unless-kept (validList given) DescriptorList buffer _
+      (unless-kept (packetsGiven given) Malformed buffer _
+      (accepted-kept (writtenBytes given) buffer))),
 )

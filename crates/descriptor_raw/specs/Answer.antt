@@ -30,8 +30,8 @@ leaves answer memory = record { answer = answer; memory = memory }
 
 -- Accepted: the output from the first word or byte on, and past it what was there.
 abbrev pub accepts : List ℕ → List ℕ → Left
-accepts output lent = leaves (Accepted (length output)) (sets lent 0 output)
+accepts output buffer = leaves (Accepted (length output)) (sets buffer 0 output)
 
 -- One check, and what follows where it holds. A refusal changes nothing.
 abbrev pub unless : Bool → RawAnswer → List ℕ → Left → Left
-unless holds refusal lent next = cond holds next (leaves refusal lent)
+unless holds refusal buffer next = cond holds next (leaves refusal buffer)

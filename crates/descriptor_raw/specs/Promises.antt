@@ -14,36 +14,36 @@ use Rattle.descriptor_raw.specs.Read.{descriptors, wellFormed, readWords
 use Rattle.descriptor_raw.specs.Write.{packetsGiven, writtenBytes, writeDescriptors}
 
 -- The writer accepts a list and writes 2,304 bytes at most, and the reader of these gives the list back.
-pub record ComesBack (list lent words : List ℕ) : Type 0 where
-  pub written : writeDescriptors list lent ≡ accepts (writtenBytes list) lent
+pub record ComesBack (list buffer words : List ℕ) : Type 0 where
+  pub written : writeDescriptors list buffer ≡ accepts (writtenBytes list) buffer
   pub fits : length (writtenBytes list) ≤ 2304
   pub read : readDescriptors (writtenBytes list) words ≡ accepts list words
 
 -- Every valid list whose endpoint words have 1 to 3 packets comes back: two bits hold no more than 3.
 abbrev pub WrittenPromise : Type 0
 WrittenPromise =
-    (list lent words : List ℕ) →
+    (list buffer words : List ℕ) →
     Below (2 ^ 32) list →
     validList list ≡ true →
     packetsGiven list ≡ true →
-    2304 ≤ length lent →
+    2304 ≤ length buffer →
     256 ≤ length words →
-    ComesBack list lent words
+    ComesBack list buffer words
 
 -- The words that accepted bytes are read as, are a valid list, stand in the lent words, and come back.
-pub record IsRead (bytes words lent : List ℕ) (count : ℕ) : Type 0 where
+pub record IsRead (bytes words buffer : List ℕ) (count : ℕ) : Type 0 where
   pub counted : count ≡ length (readWords bytes)
   pub left : readDescriptors bytes words .memory ≡ sets words 0 (readWords bytes)
   pub valid : validList (readWords bytes) ≡ true
-  pub again : ComesBack (readWords bytes) lent words
+  pub again : ComesBack (readWords bytes) buffer words
 
 abbrev pub ReadPromise : Type 0
 ReadPromise =
-    (bytes words lent : List ℕ) (count : ℕ) →
+    (bytes words buffer : List ℕ) (count : ℕ) →
     Below (2 ^ 8) bytes →
     readDescriptors bytes words .answer ≡ Accepted count →
-    2304 ≤ length lent →
-    IsRead bytes words lent count
+    2304 ≤ length buffer →
+    IsRead bytes words buffer count
 
 -- A descriptor of another type.
 pub record Other (d : List ℕ) : Type 0 where
@@ -61,9 +61,9 @@ OthersPromise =
     readDescriptors bytes words ≡ accepts [] words
 
 -- What is lent past the output keeps its contents, so all of it after a refusal, whose count is 0.
-pub record Kept (lent : List ℕ) (left : Left) : Type 0 where
-  pub long : length (left .memory) ≡ length lent
-  pub past : (k : ℕ) → countOf (left .answer) ≤ k → getD (left .memory) k 0 ≡ getD lent k 0
+pub record RestKept (buffer : List ℕ) (left : Left) : Type 0 where
+  pub long : length (left .memory) ≡ length buffer
+  pub past : (k : ℕ) → countOf (left .answer) ≤ k → getD (left .memory) k 0 ≡ getD buffer k 0
 
 abbrev pub KeptPromise : Type 0
-KeptPromise = (given lent : List ℕ) → Kept lent (readDescriptors given lent) × Kept lent (writeDescriptors given lent)
+KeptPromise = (given buffer : List ℕ) → RestKept buffer (readDescriptors given buffer) × RestKept buffer (writeDescriptors given buffer)

@@ -64,8 +64,8 @@ readWords bytes = allWords (descriptors bytes)
 
 -- What the reader answers and leaves in the words that it is lent: 3, 20, 4 in this order.
 unfoldable pub readDescriptors : List ℕ → List ℕ → Left
-readDescriptors bytes lent =
-    unless (leb 256 (length lent)) TooShort lent
-    (unless (wellFormed (descriptors bytes)) Malformed lent
-    (unless (validList (readWords bytes)) DescriptorList lent
-    (accepts (readWords bytes) lent)))
+readDescriptors bytes buffer =
+    unless (leb 256 (length buffer)) TooShort buffer
+    (unless (wellFormed (descriptors bytes)) Malformed buffer
+    (unless (validList (readWords bytes)) DescriptorList buffer
+    (accepts (readWords bytes) buffer)))

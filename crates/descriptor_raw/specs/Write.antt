@@ -77,8 +77,8 @@ packetsGiven (w ∷ l) =
 
 -- What the writer answers and leaves in the bytes that it is lent: 3, 4, 20 in this order.
 unfoldable pub writeDescriptors : List ℕ → List ℕ → Left
-writeDescriptors list lent =
-    unless (leb 2304 (length lent)) TooShort lent
-    (unless (validList list) DescriptorList lent
-    (unless (packetsGiven list) Malformed lent
-    (accepts (writtenBytes list) lent)))
+writeDescriptors list buffer =
+    unless (leb 2304 (length buffer)) TooShort buffer
+    (unless (validList list) DescriptorList buffer
+    (unless (packetsGiven list) Malformed buffer
+    (accepts (writtenBytes list) buffer)))

@@ -14,26 +14,26 @@ use Rattle.descriptor_raw.specs.Write.{packetsGiven, writtenBytes, writeDescrip
 use Rattle.descriptor_raw.proofs.Valid.{valid-words}
 use Rattle.descriptor_writer.specs.Written.{Listed}
 
-module _ (list lent : List ℕ) where
-  pub too-short : length lent < 2304 → leaves TooShort lent ≡ writeDescriptors list lent
+module _ (list buffer : List ℕ) where
+  pub too-short : length buffer < 2304 → leaves TooShort buffer ≡ writeDescriptors list buffer
   unfolding writeDescriptors
-  too-short h = rw (lt-leb 2304 (length lent) h)
+  too-short h = rw (lt-leb 2304 (length buffer) h)
 
-  module _ (room : 2304 ≤ length lent) where
-    pub not-valid : validList list ≡ false → leaves DescriptorList lent ≡ writeDescriptors list lent
+  module _ (room : 2304 ≤ length buffer) where
+    pub not-valid : validList list ≡ false → leaves DescriptorList buffer ≡ writeDescriptors list buffer
     unfolding writeDescriptors
-    not-valid v = rw (le-leb 2304 (length lent) room, v)
+    not-valid v = rw (le-leb 2304 (length buffer) room, v)
 
     module _ (v : validList list ≡ true) where
-      pub not-given : packetsGiven list ≡ false → leaves Malformed lent ≡ writeDescriptors list lent
+      pub not-given : packetsGiven list ≡ false → leaves Malformed buffer ≡ writeDescriptors list buffer
       unfolding writeDescriptors
-      not-given p = rw (le-leb 2304 (length lent) room, v, p)
+      not-given p = rw (le-leb 2304 (length buffer) room, v, p)
 
       module _ (p : packetsGiven list ≡ true) where
-        pub listed : Listed list (length lent)
+        pub listed : Listed list (length buffer)
         listed = record { short = valid-length list v; words = valid-words list v; packets = p; space = room }
 
-        pub all-written : (count : ℕ) (out : List ℕ) → (count ≡ length (writtenBytes list)) × (out ≡ sets lent 0 (writtenBytes list)) →
-            leaves (Accepted count) out ≡ writeDescriptors list lent
+        pub all-written : (count : ℕ) (out : List ℕ) → (count ≡ length (writtenBytes list)) × (out ≡ sets buffer 0 (writtenBytes list)) →
+            leaves (Accepted count) out ≡ writeDescriptors list buffer
         unfolding writeDescriptors
-        all-written count out q = rw (le-leb 2304 (length lent) room, v, p, q .0, q .1)
+        all-written count out q = rw (le-leb 2304 (length buffer) room, v, p, q .0, q .1)

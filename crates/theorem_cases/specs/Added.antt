@@ -13,8 +13,8 @@ use Rattle.context.specs.Place.{SLOT, written, blockAt, readAt}
 use Rattle.context.specs.Steps.{configureWrites}
 
 -- An endpoint word of its fields, packed most significant first.
-abbrev pub endpointWord : (directionIn number type size packets interval : ℕ) → ℕ
-endpointWord directionIn number type size packets interval =
+abbrev pub wordOf : (directionIn number type size packets interval : ℕ) → ℕ
+wordOf directionIn number type size packets interval =
     ENDPOINT * 2 ^ 30
     + directionIn * 2 ^ 29
     + number * 2 ^ 25
@@ -25,11 +25,11 @@ endpointWord directionIn number type size packets interval =
 
 -- 0x81, interrupt, size 64, packets 1, interval 4.
 abbrev pub interrupt81 : ℕ
-interrupt81 = endpointWord 1 1 3 64 1 4
+interrupt81 = wordOf 1 1 3 64 1 4
 
 -- The same of 0x8F.
 abbrev pub interrupt8F : ℕ
-interrupt8F = endpointWord 1 15 3 64 1 4
+interrupt8F = wordOf 1 15 3 64 1 4
 
 -- The context of a Configure that adds one word, over zeros and with no endpoint in the record.
 abbrev pub oneAdded : (spacing speed word ring : ℕ) → List ℕ

@@ -66,7 +66,7 @@ use Rattle.theorem_slot.specs.Plain.{heldQueues, plainRoute, isHeldDci, without
 use Rattle.theorem_slot.specs.Theorem.{recordAfter, called, start}
 use Rattle.theorem_cases.specs.Added.{interrupt81, interrupt8F, addedHolds}
 use Rattle.theorem_cases.specs.Lists.{lists, allListed}
-use Rattle.theorem_cases.specs.Example.{list, given, asked, usual, ctx, log, free, done, alone, first, second}
+use Rattle.theorem_cases.specs.Example.{list, given, asked, usual, ctx, log, free, done, alone, broughtUp, second}
 
 -- One example: what is given, and what 01 expects.
 pub data Case : Type 0 where
@@ -218,7 +218,7 @@ cases ring =
     ∷ answered (claim (second .device) ctx (second .routes) log (0 ∷ 0 ∷ 7 ∷ 5 ∷ []) 0 1) 14 0
     ∷ answered (release (second .device) ctx (second .routes) log [] 0) 15 0
     ∷ answered (bringUp (asked 1 HIGH 4 false list) ctx free log done) 16 0
-    ∷ answered (bringUp usual ctx (first .routes) log done) 17 0
+    ∷ answered (bringUp usual ctx (broughtUp .routes) log done) 17 0
     ∷ answered (release (second .device) ctx free log done 0) 18 0
     ∷ answered (bringUp (asked 1 SUPER 8 false list) ctx free log done) 19 0
     ∷ answered (claim (alone .device) ctx (alone .routes) log done 0 0) 21 0

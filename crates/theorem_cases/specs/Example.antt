@@ -55,8 +55,8 @@ done = replicate 10 0
 abbrev pub alone : Left
 alone = bringUp (given (16 ∷ []) 1 HIGH 8 false list) ctx free log done
 
-abbrev pub first : Left
-first = bringUp usual ctx free log done
+abbrev pub broughtUp : Left
+broughtUp = bringUp usual ctx free log done
 
 abbrev pub second : Left
-second = claim (first .device) ctx (first .routes) log done 0 0
+second = claim (broughtUp .device) ctx (broughtUp .routes) log done 0 0

@@ -29,7 +29,7 @@ use Rattle.device.specs.Calls.{onCheck}
 use Rattle.context.specs.Place.{spacingOf}
 use Rattle.device_bring_up.specs.BringUp.{queueCheck, bringUpCheck, bringUpCourse, broughtLeft, bringUp}
 use Rattle.device_bring_up.proofs.Checks.{Passed, passed}
-use Rattle.theorem_contexts.specs.Contexts.{Byte, BusAddresses, done, failed, At, sizeSaid, BringUpReads, BringUpContexts}
+use Rattle.theorem_contexts.specs.Contexts.{Byte, BusAddresses, doneTimes, failedAfter, SentAt, sizeSaid, BringUpReads, BringUpContexts}
 use Rattle.theorem_contexts.proofs.Ended.{cut-count, cut-word, cut-end}
 
 size-said : (a : BringUp) → HeaderRead a → sizeSaid a ≡ headerPacketSize (a .speed) (a .packet)
@@ -48,7 +48,7 @@ module _ (a : BringUp) (ctx routes log o : List ℕ) (pass : bringUpCheck a (len
   unfolding bringUp bringUpCourse onCheck broughtLeft
   left-context = rw (pass, cut-end o log _ n c e x)
 
-  left-at : (P : List ℕ → Type 0) → n < length log → P (e .ctx) → At n c P (bringUp a ctx routes log o)
+  left-at : (P : List ℕ → Type 0) → n < length log → P (e .ctx) → SentAt n c P (bringUp a ctx routes log o)
   unfolding bringUp bringUpCourse onCheck broughtLeft
   left-at P h p =
       rw pass
@@ -87,64 +87,64 @@ module _ (a : BringUp) (ctx routes log : List ℕ) (pass : bringUpCheck a (lengt
   one-cut = bring-up-at-address a s ctx table [] (dones-past 0)
 
   module _ (e : HeaderRead a) where
-    two-cut : CutHere (done 2) (bringUpAddress a s ctx table) 2 command.Evaluate (brought answer.Cut nothingRead (sized a s ctx table) table)
-    two-cut = bring-up-at-packet a s ctx table (done 2) (λ k l m. dones-before 2 k (omega arith)) e (dones-past 2)
+    two-cut : CutHere (doneTimes 2) (bringUpAddress a s ctx table) 2 command.Evaluate (brought answer.Cut nothingRead (sized a s ctx table) table)
+    two-cut = bring-up-at-packet a s ctx table (doneTimes 2) (λ k l m. dones-before 2 k (omega arith)) e (dones-past 2)
 
     module _ (some : 0 < length (a .list)) where
       n : ℕ
       n = configurations (a .list)
 
-      three-cut : CutHere (done (5 + n)) (bringUpAddress a s ctx table) (5 + n) command.Configure (cutHere a s ctx table dropped)
+      three-cut : CutHere (doneTimes (5 + n)) (bringUpAddress a s ctx table) (5 + n) command.Configure (cutHere a s ctx table dropped)
       unfolding n dropped
-      three-cut = bring-up-at-configure a s ctx table (done (5 + n)) e some (λ k l m. dones-before (5 + n) k (omega arith)) (dones-past (5 + n))
+      three-cut = bring-up-at-configure a s ctx table (doneTimes (5 + n)) e some (λ k l m. dones-before (5 + n) k (omega arith)) (dones-past (5 + n))
 
       restore-cut : (code : ℕ) → (code ≡ 0 → ⊥) →
-          CutHere (failed (6 + n) code) (bringUpAddress a s ctx table) (7 + n) command.Configure
+          CutHere (failedAfter (6 + n) code) (bringUpAddress a s ctx table) (7 + n) command.Configure
           (cutHere a s ctx table (restoreContext (settings a s ctx table) dropped))
       unfolding n dropped
       restore-cut code z =
-          bring-up-at-restore a s ctx table (failed (6 + n) code) e some code (λ k l m. fails-before (6 + n) code k (omega arith))
+          bring-up-at-restore a s ctx table (failedAfter (6 + n) code) e some code (λ k l m. fails-before (6 + n) code k (omega arith))
           (fails-there (6 + n) code z)
           (let m : 6 + n + 1 ≡ 7 + n = omega arith in rw m at (fails-past (6 + n) code))
 
-      evaluate-cut : CutHere (done (7 + n)) (bringUpAddress a s ctx table) (7 + n) command.Evaluate
+      evaluate-cut : CutHere (doneTimes (7 + n)) (bringUpAddress a s ctx table) (7 + n) command.Evaluate
           (cutHere a s ctx table (valueContext (settings a s ctx table) dropped))
       unfolding n dropped
-      evaluate-cut = bring-up-at-evaluate a s ctx table (done (7 + n)) e some (λ k l m. dones-before (7 + n) k (omega arith)) (dones-past (7 + n))
+      evaluate-cut = bring-up-at-evaluate a s ctx table (doneTimes (7 + n)) e some (λ k l m. dones-before (7 + n) k (omega arith)) (dones-past (7 + n))
 
-      two-context : (bringUp a ctx routes log (done 2)) .ctx ≡ sized a s ctx table
+      two-context : (bringUp a ctx routes log (doneTimes 2)) .ctx ≡ sized a s ctx table
       unfolding s table
-      two-context = left-context a ctx routes log (done 2) pass 2 _ _ two-cut
+      two-context = left-context a ctx routes log (doneTimes 2) pass 2 _ _ two-cut
 
-      three-context : (bringUp a ctx routes log (done (5 + n))) .ctx ≡ dropped
+      three-context : (bringUp a ctx routes log (doneTimes (5 + n))) .ctx ≡ dropped
       unfolding s table cutHere
-      three-context = left-context a ctx routes log (done (5 + n)) pass (5 + n) _ _ three-cut
+      three-context = left-context a ctx routes log (doneTimes (5 + n)) pass (5 + n) _ _ three-cut
 
-      configure : At (5 + n) command.Configure (ConfigureReads s (a .speed) 0 0 [] [] [] [] ((bringUp a ctx routes log (done 2)) .ctx))
-          (bringUp a ctx routes log (done (5 + n)))
+      configure : SentAt (5 + n) command.Configure (ConfigureReads s (a .speed) 0 0 [] [] [] [] ((bringUp a ctx routes log (doneTimes 2)) .ctx))
+          (bringUp a ctx routes log (doneTimes (5 + n)))
       unfolding s table dropped n cutHere
       configure =
-          left-at a ctx routes log (done (5 + n)) pass (5 + n) _ _ three-cut _ (omega (arith, few))
+          left-at a ctx routes log (doneTimes (5 + n)) pass (5 + n) _ _ three-cut _ (omega (arith, few))
           (rw two-context (bring-up-configure-reads a s ctx table (facts .spaced)))
 
       restore : (code : ℕ) → (code ≡ 0 → ⊥) →
-          At (5 + n + 2) command.Configure (ConfigureReads s (a .speed) 0 0 [] [] [] [] ((bringUp a ctx routes log (done (5 + n))) .ctx))
-          (bringUp a ctx routes log (failed (5 + n + 1) code))
+          SentAt (5 + n + 2) command.Configure (ConfigureReads s (a .speed) 0 0 [] [] [] [] ((bringUp a ctx routes log (doneTimes (5 + n))) .ctx))
+          (bringUp a ctx routes log (failedAfter (5 + n + 1) code))
       unfolding s table n cutHere dropped
       restore code z =
           let one : 5 + n + 1 ≡ 6 + n = omega arith in
           let two : 5 + n + 2 ≡ 7 + n = omega arith in
           rw (one, two, three-context)
-          (left-at a ctx routes log (failed (6 + n) code) pass (7 + n) _ _ (restore-cut code z) _ few (bring-up-restore-reads a s ctx table (facts .spaced)))
+          (left-at a ctx routes log (failedAfter (6 + n) code) pass (7 + n) _ _ (restore-cut code z) _ few (bring-up-restore-reads a s ctx table (facts .spaced)))
 
-      evaluate : At (5 + n + 2) command.Evaluate
-          (ConfigurationReads s (configurationValue (getD (a .list) 0 0)) ((bringUp a ctx routes log (done (5 + n))) .ctx))
-          (bringUp a ctx routes log (done (5 + n + 2)))
+      evaluate : SentAt (5 + n + 2) command.Evaluate
+          (ConfigurationReads s (configurationValue (getD (a .list) 0 0)) ((bringUp a ctx routes log (doneTimes (5 + n))) .ctx))
+          (bringUp a ctx routes log (doneTimes (5 + n + 2)))
       unfolding s table n cutHere dropped
       evaluate =
           let two : 5 + n + 2 ≡ 7 + n = omega arith in
           rw (two, three-context)
-          (left-at a ctx routes log (done (7 + n)) pass (7 + n) _ _ evaluate-cut _ few (bring-up-evaluate-reads a s ctx table (facts .spaced)))
+          (left-at a ctx routes log (doneTimes (7 + n)) pass (7 + n) _ _ evaluate-cut _ few (bring-up-evaluate-reads a s ctx table (facts .spaced)))
 
   one-context : (bringUp a ctx routes log []) .ctx ≡ addressed a s ctx table
   unfolding s table
@@ -158,7 +158,7 @@ module _ (a : BringUp) (ctx routes log : List ℕ) (pass : bringUpCheck a (lengt
             left-at a ctx routes log [] pass 0 _ _ one-cut _ (omega (arith, few))
             (bring-up-address-reads a s ctx table (facts .spaced) (facts .speed) (facts .chain) byte-port byte-root ring);
         packet = λ e.
-            left-at a ctx routes log (done 2) pass 2 _ _ (two-cut e) _ (omega (arith, few)) (rw (one-context, size-said a e) (bring-up-packet-reads a s ctx table (facts .spaced) byte-packet e));
+            left-at a ctx routes log (doneTimes 2) pass 2 _ _ (two-cut e) _ (omega (arith, few)) (rw (one-context, size-said a e) (bring-up-packet-reads a s ctx table (facts .spaced) byte-packet e));
         configure = configure;
         restore = λ code z e some. restore e some code z;
         evaluate = evaluate;

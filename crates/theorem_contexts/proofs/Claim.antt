@@ -25,7 +25,7 @@ use Rattle.device.specs.Claim.{claimCheck, drawn, claimIn, claimRecord, claim}
 use Rattle.device.proofs.Contexts as context
 use Rattle.device.proofs.Laws.{Passed, passed}
 use Rattle.device.proofs.Kept.{claim-passed}
-use Rattle.theorem_contexts.specs.Contexts.{Byte, BusAddresses, done, failed, interfaceEndpoints, ClaimReads, ClaimContexts}
+use Rattle.theorem_contexts.specs.Contexts.{Byte, BusAddresses, doneTimes, failedAfter, interfaceEndpoints, ClaimReads, ClaimContexts}
 use Rattle.theorem_contexts.proofs.Ended.{ended-context, ended-at}
 
 -- Where each ring is a bus address, what stands at any place is one.
@@ -58,21 +58,21 @@ module _ (d : Device) (ctx routes log : List ℕ) (i a : ℕ)
   unfolding n
   few = omega (arith, facts .room, queues-fit (ownedRings (Interface i) (endpointMapIn d)))
 
-  first-cut : CutHere (done n) (claimCourse given ctx routes) n command.Configure (settingsKept answer.Cut 0 (claimContext given ctx) routes)
+  first-cut : CutHere (doneTimes n) (claimCourse given ctx routes) n command.Configure (settingsKept answer.Cut 0 (claimContext given ctx) routes)
   unfolding n given claimIn
-  first-cut = claim-at-configure given ctx routes (done n) (λ k l m. dones-before n k (omega arith)) (dones-past n)
+  first-cut = claim-at-configure given ctx routes (doneTimes n) (λ k l m. dones-before n k (omega arith)) (dones-past n)
 
-  first-context : (claim d ctx routes log (done n) i a) .ctx ≡ claimContext given ctx
+  first-context : (claim d ctx routes log (doneTimes n) i a) .ctx ≡ claimContext given ctx
   unfolding claim given
-  first-context = ended-context (claimRecord d i a rings) (done n) log _ _ _ pass n _ _ first-cut
+  first-context = ended-context (claimRecord d i a rings) (doneTimes n) log _ _ _ pass n _ _ first-cut
 
   undo-cut : (code : ℕ) → (code ≡ 0 → ⊥) →
-      CutHere (failed (n + 1) code) (claimCourse given ctx routes) (n + 2) command.Configure
+      CutHere (failedAfter (n + 1) code) (claimCourse given ctx routes) (n + 2) command.Configure
       (settingsKept answer.Cut 0 (undoContext given (claimContext given ctx)) routes)
   unfolding n given claimIn
   undo-cut code z =
       let two : n + 1 + 1 ≡ n + 2 = omega arith in
-      claim-at-undo given ctx routes (failed (n + 1) code) code (λ k l m. fails-before (n + 1) code k (omega arith))
+      claim-at-undo given ctx routes (failedAfter (n + 1) code) code (λ k l m. fails-before (n + 1) code k (omega arith))
       (fails-there (n + 1) code z) (rw two at (fails-past (n + 1) code))
 
   next-spaced : Spaced (d .spacing) (length (claimContext given ctx))
@@ -83,10 +83,10 @@ module _ (d : Device) (ctx routes log : List ℕ) (i a : ℕ)
   claim-reads =
       record {
         configure =
-            ended-at (claimRecord d i a rings) (done n) log _ _ _ pass n command.Configure _ first-cut _ (omega (arith, few))
+            ended-at (claimRecord d i a rings) (doneTimes n) log _ _ _ pass n command.Configure _ first-cut _ (omega (arith, few))
             (context.claim-reads d (facts .facts) ctx (facts .spaced) i a rings byte-i byte-a offered own);
         undo = λ code z.
-            ended-at (claimRecord d i a rings) (failed (n + 1) code) log _ _ _ pass (n + 2) command.Configure _ (undo-cut code z) _ few
+            ended-at (claimRecord d i a rings) (failedAfter (n + 1) code) log _ _ _ pass (n + 2) command.Configure _ (undo-cut code z) _ few
             (rw first-context
             (context.undo-reads d (facts .facts) (claimContext given ctx) next-spaced i a rings byte-i byte-a offered own));
       }

@@ -16,7 +16,7 @@ use Rattle.course_steps.specs.End.{End}
 use Rattle.device.specs.declared.record.Device.{Device}
 use Rattle.device.specs.Left.{Left, ended}
 use Rattle.device.specs.Calls.{onCheck}
-use Rattle.theorem_contexts.specs.Contexts.{At}
+use Rattle.theorem_contexts.specs.Contexts.{SentAt}
 
 -- the words of a course that is cut
 module _ {A : Type 0} (o log : List ℕ) (course : Course A) (n : ℕ) (c : Command) (e : A) (x : CutHere o course n c e) where
@@ -41,7 +41,7 @@ module _ (made : End → Device) (o log : List ℕ) (course : Course End) (k : C
   ended-context = rw (pass, cut-end o log course n c e x)
 
   -- its words too
-  pub ended-at : (P : List ℕ → Type 0) → n < length log → P (e .ctx) → At n c P (onCheck k (ended made (played o 0 course log)) refuse)
+  pub ended-at : (P : List ℕ → Type 0) → n < length log → P (e .ctx) → SentAt n c P (onCheck k (ended made (played o 0 course log)) refuse)
   unfolding onCheck ended
   ended-at P h p =
       rw pass

@@ -20,7 +20,7 @@ use Rattle.device.specs.Check.{recordCheck}
 use Rattle.device.specs.Release.{releaseCheck, releaseIn, releaseRecord, release}
 use Rattle.device.proofs.Contexts as context
 use Rattle.device.proofs.Laws.{Passed, passed}
-use Rattle.theorem_contexts.specs.Contexts.{Byte, done, interfaceEndpoints, ReleaseReads, ReleaseContexts}
+use Rattle.theorem_contexts.specs.Contexts.{Byte, doneTimes, interfaceEndpoints, ReleaseReads, ReleaseContexts}
 use Rattle.theorem_contexts.proofs.Ended.{ended-at}
 
 module _ (d : Device) (ctx routes log : List ℕ) (i : ℕ)
@@ -35,17 +35,17 @@ module _ (d : Device) (ctx routes log : List ℕ) (i : ℕ)
   unfolding n
   few = omega (arith, facts .room, queues-fit (ownedRings (Interface i) (endpointMapIn d)))
 
-  cut : CutHere (done n) (releaseCourse (releaseIn d i) ctx routes) n command.Configure
+  cut : CutHere (doneTimes n) (releaseCourse (releaseIn d i) ctx routes) n command.Configure
       (settingsKept answer.Cut 0 (releaseContext (releaseIn d i) ctx) routes)
   unfolding n releaseIn
-  cut = release-at-configure (releaseIn d i) ctx routes (done n) (λ k l m. dones-before n k (omega arith)) (dones-past n)
+  cut = release-at-configure (releaseIn d i) ctx routes (doneTimes n) (λ k l m. dones-before n k (omega arith)) (dones-past n)
 
   release-reads : ReleaseReads d i ctx (λ outcomes. release d ctx routes log outcomes i)
   unfolding n release
   release-reads =
       record {
         configure =
-            ended-at (releaseRecord d i) (done n) log _ _ _ pass n command.Configure _ cut _ few
+            ended-at (releaseRecord d i) (doneTimes n) log _ _ _ pass n command.Configure _ cut _ few
             (context.release-reads d (facts .facts) ctx (facts .spaced) i byte-i);
       }
 

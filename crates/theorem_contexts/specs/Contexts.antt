@@ -46,21 +46,21 @@ abbrev pub BusAddresses : List ℕ → Type 0
 BusAddresses rings = (k : ℕ) → getD rings k 0 < 2 ^ 64
 
 -- Outcomes: n commands done, and then perhaps one that failed.
-abbrev pub done : ℕ → List ℕ
-done n = replicate n 0
+abbrev pub doneTimes : ℕ → List ℕ
+doneTimes n = replicate n 0
 
-abbrev pub failed : ℕ → ℕ → List ℕ
-failed n code = done n ++ (code ∷ [])
+abbrev pub failedAfter : ℕ → ℕ → List ℕ
+failedAfter n code = doneTimes n ++ (code ∷ [])
 
 -- A call that ended at command number n, which is this one, and left a context of which P holds.
-pub record At (n : ℕ) (c : Command) (P : List ℕ → Type 0) (l : Left) : Type 0 where
+pub record SentAt (n : ℕ) (c : Command) (P : List ℕ → Type 0) (l : Left) : Type 0 where
   pub count : l .count ≡ n + 1
   pub word : getD (l .log) n 0 ≡ commandWord c
   pub reads : P (l .ctx)
 
 -- The endpoints of a record and of one of its interfaces, with their rings.
-abbrev pub endpoints : Device → List Queue
-endpoints d = queuesOf ((endpointMapIn d) .rings)
+abbrev pub recordEndpoints : Device → List Queue
+recordEndpoints d = queuesOf ((endpointMapIn d) .rings)
 
 abbrev pub interfaceEndpoints : Device → ℕ → List Queue
 interfaceEndpoints d i = queuesOf (ownedRings (Interface i) (endpointMapIn d))
@@ -72,7 +72,7 @@ heldBy d i = cond (isHeld i (heldOf d)) (settingWords (listOf d) i (alternateOf 
 -- A Configure of a record's device: an interface and an alternate, words to drop, words to add with their rings.
 abbrev pub Configures : Device → ℕ → ℕ → List ℕ → List ℕ → List Queue → List ℕ → List ℕ → Type 0
 Configures d i a dropped added rings =
-    ConfigureReads (d .spacing) (d .«port_speed») i a dropped added rings (queueDcis (endpoints d))
+    ConfigureReads (d .spacing) (d .«port_speed») i a dropped added rings (queueDcis (recordEndpoints d))
 
 -- A claim stops its interface's endpoints first. Its Configure drops the words that the interface holds and adds those of the alternate,
 -- each with the ring drawn for it; where the SetInterface fails, another drops these and adds the old ones, with their rings.
@@ -80,15 +80,15 @@ pub record ClaimReads (d : Device) (i a : ℕ) (ctx : List ℕ) (call : List ℕ
   pub configure :
       let stops = length (interfaceEndpoints d i) in
       let new = settingWords (listOf d) i a in
-      At stops command.Configure (Configures d i a (heldBy d i) new (queues (wordDcis new) (drawn d i a)) ctx) (call (done stops))
+      SentAt stops command.Configure (Configures d i a (heldBy d i) new (queues (wordDcis new) (drawn d i a)) ctx) (call (doneTimes stops))
   pub undo :
       let stops = length (interfaceEndpoints d i) in
       let new = settingWords (listOf d) i a in
-      let was = (call (done stops)) .ctx in
+      let was = (call (doneTimes stops)) .ctx in
       (code : ℕ) →
       (code ≡ 0 → ⊥) →
-      At (stops + 2) command.Configure (Configures d i (alternateOf i (heldOf d)) new (heldBy d i) (interfaceEndpoints d i) was)
-      (call (failed (stops + 1) code))
+      SentAt (stops + 2) command.Configure (Configures d i (alternateOf i (heldOf d)) new (heldBy d i) (interfaceEndpoints d i) was)
+      (call (failedAfter (stops + 1) code))
 
 abbrev pub ClaimContexts : Type 0
 ClaimContexts =
@@ -105,7 +105,7 @@ pub record ReleaseReads (d : Device) (i : ℕ) (ctx : List ℕ) (call : List ℕ
   pub configure :
       let stops = length (interfaceEndpoints d i) in
       let a = alternateOf i (heldOf d) in
-      At stops command.Configure (Configures d i a (settingWords (listOf d) i a) [] [] ctx) (call (done stops))
+      SentAt stops command.Configure (Configures d i a (settingWords (listOf d) i a) [] [] ctx) (call (doneTimes stops))
 
 abbrev pub ReleaseContexts : Type 0
 ReleaseContexts =
@@ -119,20 +119,20 @@ ReleaseContexts =
 -- the endpoints' routes.
 pub record SetReads (d : Device) (value : ℕ) (ctx routes : List ℕ) (call : List ℕ → Left) : Type 0 where
   pub configure :
-      let stops = length (endpoints d) in
-      At stops command.Configure (Configures d 0 0 (heldWords (listOf d) (heldOf d)) [] [] ctx) (call (done stops))
+      let stops = length (recordEndpoints d) in
+      SentAt stops command.Configure (Configures d 0 0 (heldWords (listOf d) (heldOf d)) [] [] ctx) (call (doneTimes stops))
   pub restore :
-      let stops = length (endpoints d) in
-      let was = (call (done stops)) .ctx in
+      let stops = length (recordEndpoints d) in
+      let was = (call (doneTimes stops)) .ctx in
       (code : ℕ) →
       (code ≡ 0 → ⊥) →
-      At (stops + 2) command.Configure (Configures d 0 0 [] (heldWords (listOf d) (heldOf d)) (endpoints d) was)
-      (call (failed (stops + 1) code))
+      SentAt (stops + 2) command.Configure (Configures d 0 0 [] (heldWords (listOf d) (heldOf d)) (recordEndpoints d) was)
+      (call (failedAfter (stops + 1) code))
   pub evaluate :
-      let stops = length (endpoints d) in
-      let was = (call (done stops)) .ctx in
-      replaced routes (d .slot .0) (endpoints d) [] ≡ replace.Done →
-      At (stops + 2) command.Evaluate (ConfigurationReads (d .spacing) value was) (call (done (stops + 2)))
+      let stops = length (recordEndpoints d) in
+      let was = (call (doneTimes stops)) .ctx in
+      replaced routes (d .slot .0) (recordEndpoints d) [] ≡ replace.Done →
+      SentAt (stops + 2) command.Evaluate (ConfigurationReads (d .spacing) value was) (call (doneTimes (stops + 2)))
 
 abbrev pub SetContexts : Type 0
 SetContexts =
@@ -145,7 +145,7 @@ SetContexts =
 -- A hub update's Evaluate.
 pub record HubUpdateReads (d : Device) (ports : ℕ) (multi : Bool) (ns : ℕ) (ctx : List ℕ) (call : List ℕ → Left) : Type 0 where
   pub evaluate :
-      At 0 command.Evaluate (HubReads (d .spacing) (d .«port_speed») ports multi (thinkValue (thinkTime ns)) ctx) (call [])
+      SentAt 0 command.Evaluate (HubReads (d .spacing) (d .«port_speed») ports multi (thinkValue (thinkTime ns)) ctx) (call [])
 
 abbrev pub HubUpdateContexts : Type 0
 HubUpdateContexts =
@@ -164,28 +164,28 @@ pub record BringUpReads (a : BringUp) (s : ℕ) (call : List ℕ → Left) : Typ
   pub address :
       let route = routeString (a .hubs) (a .hasParent) (a .parent) (a .port) in
       let translator = translatorOf (a .speed) (a .hubs) (a .hasParent) (a .parent) (a .port) in
-      At 0 command.Address (AddressReads s (a .speed) route translator (a .rootPort) (controlRing a)) (call [])
+      SentAt 0 command.Address (AddressReads s (a .speed) route translator (a .rootPort) (controlRing a)) (call [])
   pub packet :
-      HeaderRead a → At 2 command.Evaluate (MaxPacketReads s (sizeSaid a) ((call []) .ctx)) (call (done 2))
+      HeaderRead a → SentAt 2 command.Evaluate (MaxPacketReads s (sizeSaid a) ((call []) .ctx)) (call (doneTimes 2))
   pub configure :
       let reads = 5 + configurations (a .list) in
       HeaderRead a →
       0 < length (a .list) →
-      At reads command.Configure (ConfigureReads s (a .speed) 0 0 [] [] [] [] ((call (done 2)) .ctx)) (call (done reads))
+      SentAt reads command.Configure (ConfigureReads s (a .speed) 0 0 [] [] [] [] ((call (doneTimes 2)) .ctx)) (call (doneTimes reads))
   pub restore :
       let reads = 5 + configurations (a .list) in
       (code : ℕ) →
       (code ≡ 0 → ⊥) →
       HeaderRead a →
       0 < length (a .list) →
-      At (reads + 2) command.Configure (ConfigureReads s (a .speed) 0 0 [] [] [] [] ((call (done reads)) .ctx))
-      (call (failed (reads + 1) code))
+      SentAt (reads + 2) command.Configure (ConfigureReads s (a .speed) 0 0 [] [] [] [] ((call (doneTimes reads)) .ctx))
+      (call (failedAfter (reads + 1) code))
   pub evaluate :
       let reads = 5 + configurations (a .list) in
       HeaderRead a →
       0 < length (a .list) →
-      At (reads + 2) command.Evaluate (ConfigurationReads s (configurationValue (getD (a .list) 0 0)) ((call (done reads)) .ctx))
-      (call (done (reads + 2)))
+      SentAt (reads + 2) command.Evaluate (ConfigurationReads s (configurationValue (getD (a .list) 0 0)) ((call (doneTimes reads)) .ctx))
+      (call (doneTimes (reads + 2)))
 
 abbrev pub BringUpContexts : Type 0
 BringUpContexts =

@@ -37,7 +37,7 @@ use Rattle.theorem_slot.specs.Answers.{isBringUp}
 use Rattle.theorem_slot.specs.Call as call
 use Rattle.theorem_slot.specs.Groups.{drawnFrom}
 use Rattle.theorem_slot.specs.Plain.{Phase, up, unplugged, notUp, isUp, isUnplugged, isNotUp, plainRoute, effectOf, anew, observed}
-use Rattle.theorem_slot.specs.Theorem.{State, Turn, called, after, Between, Turns, start, Kept, Demand3, SoundWhileUsable, Claimed, ClaimsAccepted, BroughtUpAgain, BegunAnew, Untouched}
+use Rattle.theorem_slot.specs.Theorem.{State, Turn, called, after, Between, Turns, start, Kept, Demand3, SoundWhileUsable, ClaimRouted, ClaimsAccepted, BroughtUpAgain, BegunAnew, Untouched}
 use Rattle.theorem_slot.proofs.Good.{Down, Unrouted, Good, Empty, Stands, stands-table, stands-room, live-here, usable-sound}
 use Rattle.theorem_slot.proofs.Step.{calledHere}
 use Rattle.theorem_slot.proofs.Refusing.{called-here, down-same}
@@ -87,25 +87,25 @@ called-stands slot before s disconnects buffers keeps o g =
     on-record slot before s disconnects buffers keeps refl g (λ x. disconnect-stands slot before s buffers x)
 
 -- A table with the words that a slot has in another.
-withRow : List ℕ → ℕ → List ℕ → List ℕ
-withRow table slot base = sets table (32 * slot) (take 32 (drop (32 * slot) base))
+withOwn : List ℕ → ℕ → List ℕ → List ℕ
+withOwn table slot base = sets table (32 * slot) (take 32 (drop (32 * slot) base))
 
 module _ (table : List ℕ) (slot : ℕ) (base : List ℕ) (room : 32 * slot + 32 ≤ length table) (same : length base ≡ length table) where
-  abbrev row : List ℕ
-  row = take 32 (drop (32 * slot) base)
+  abbrev own : List ℕ
+  own = take 32 (drop (32 * slot) base)
 
-  row-length : length row ≡ 32
-  row-length = length-take-le 32 (drop (32 * slot) base) (omega (arith, length-drop (32 * slot) base, room, same))
+  own-length : length own ≡ 32
+  own-length = length-take-le 32 (drop (32 * slot) base) (omega (arith, length-drop (32 * slot) base, room, same))
 
-  row-others : (k : ℕ) → OutsideSlot slot k → getD (withRow table slot base) k 0 ≡ getD table k 0
-  unfolding withRow
-  row-others k (inl h) = sets-before row table (32 * slot) k h
-  row-others k (inr h) = sets-past row table (32 * slot) k (omega (arith, h, row-length))
+  own-others : (k : ℕ) → OutsideSlot slot k → getD (withOwn table slot base) k 0 ≡ getD table k 0
+  unfolding withOwn
+  own-others k (inl h) = sets-before own table (32 * slot) k h
+  own-others k (inr h) = sets-past own table (32 * slot) k (omega (arith, h, own-length))
 
-  row-own : (d : ℕ) → d < 32 → routeOf (withRow table slot base) slot d ≡ routeOf base slot d
-  unfolding withRow routeOf routeIndex
-  row-own d h =
-      sets-there row table (32 * slot) d (omega (arith, h, row-length)) (omega (arith, room, row-length))
+  own-there : (d : ℕ) → d < 32 → routeOf (withOwn table slot base) slot d ≡ routeOf base slot d
+  unfolding withOwn routeOf routeIndex
+  own-there d h =
+      sets-there own table (32 * slot) d (omega (arith, h, own-length)) (omega (arith, room, own-length))
       ∙ getD-take 32 (drop (32 * slot) base) d 0 h
       ∙ getD-drop (32 * slot) base d 0
 
@@ -121,7 +121,7 @@ pub record Sofar (slot : ℕ) (still : ℕ → Bool) (before : List ℕ) (s : St
 module _ (slot : ℕ) (still : ℕ → Bool) (before : List ℕ) (s : State) (t : Turn) (o : OfSlot slot (t .call .asked))
     (w : Between slot still (s .routes) (t .table)) (f : Sofar slot still before s) where
   base : List ℕ
-  base = withRow (t .table) slot (f .base)
+  base = withOwn (t .table) slot (f .base)
 
   here : State
   here = record { device = s .device; routes = t .table; plain = s .plain }
@@ -130,7 +130,7 @@ module _ (slot : ℕ) (still : ℕ → Bool) (before : List ℕ) (s : State) (t 
   was = stands-table slot (f .base) s (f .stands)
 
   base-long : length base ≡ length (t .table)
-  unfolding base withRow
+  unfolding base withOwn
   base-long = length-sets (t .table) (32 * slot) (take 32 (drop (32 * slot) (f .base)))
 
   same-long : length (f .base) ≡ length (t .table)
@@ -144,11 +144,11 @@ module _ (slot : ℕ) (still : ℕ → Bool) (before : List ℕ) (s : State) (t 
 
   base-others : (k : ℕ) → OutsideSlot slot k → getD base k 0 ≡ getD (t .table) k 0
   unfolding base
-  base-others = row-others (t .table) slot (f .base) long-enough same-long
+  base-others = own-others (t .table) slot (f .base) long-enough same-long
 
   base-own : (d : ℕ) → d < 32 → routeOf base slot d ≡ routeOf (f .base) slot d
   unfolding base
-  base-own = row-own (t .table) slot (f .base) long-enough same-long
+  base-own = own-there (t .table) slot (f .base) long-enough same-long
 
   base-table : Untouched slot base (t .table)
   base-table = record { long = sym base-long; words = λ k x. sym (base-others k x) }
@@ -307,7 +307,7 @@ claimed-good :
     recordCheck (s .device) (length (l .ctx)) (length (s .routes)) (length (l .log)) (claimCheck (s .device) i a Pass) ≡ Pass →
     ((k : ℕ) → k < 32 → outcomeAt (l .outcomes) k ≡ Done) →
     let words = settingWords (s .plain .list) i a in
-    Claimed slot words (drawnFrom (s .plain .groups) (length words)) (call.left (claims i a) l (s .device) (s .routes))
+    ClaimRouted slot words (drawnFrom (s .plain .groups) (length words)) (call.left (claims i a) l (s .device) (s .routes))
 claimed-good slot before s u g i a l x y k done =
     let e = claim-done slot before s l i a x y g k done u in
     let p = passed (s .device) _ _ _ _ k .0 in

@@ -218,18 +218,18 @@ brought-fit a d e x u v s = record { usable = u; up = v; is-sound = λ n. ⊎-el
 
 -- An unplugging's.
 unplugged-fit :
-    (d : Device) (ctx table log : ℕ) → disconnectCheck d ctx table log ≡ Pass → (lent routes : List ℕ) (e : End) →
-    Ended (d .slot .0) lent routes e → Fit disconnects d (e .answer) (disconnectRecord d e)
+    (d : Device) (ctx table log : ℕ) → disconnectCheck d ctx table log ≡ Pass → (buffer routes : List ℕ) (e : End) →
+    Ended (d .slot .0) buffer routes e → Fit disconnects d (e .answer) (disconnectRecord d e)
 unfolding usableAfter upAfter isBringUp number
-unplugged-fit d ctx table log k lent routes e (inl v) =
+unplugged-fit d ctx table log k buffer routes e (inl v) =
     let m = disconnect-moves d ctx table log k e (ap (λ (x : End). x .moved) v) in
     record {
       usable = m .usable;
       up = m .up ∙ sym (ap (λ (x : End). isLost (x .answer)) v);
       is-sound = λ n. m .is-sound;
     }
-unplugged-fit d ctx table log k lent routes e (inr v) =
-    let w = unplugging-stayed lent routes e v in
+unplugged-fit d ctx table log k buffer routes e (inr v) =
+    let w = unplugging-stayed buffer routes e v in
     let m = disconnect-stays d ctx table log k e (w .kept) (w .lost) in
     record { usable = m .usable; up = m .up ∙ up-passed d ctx table log k .up ∙ sym (w .lost); is-sound = λ n. m .is-sound }
 

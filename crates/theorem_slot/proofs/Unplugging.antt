@@ -38,7 +38,7 @@ use Rattle.device.specs.Disconnect.{ringsInDoubt, disconnectRecord, disconnect}
 use Rattle.device.proofs.Facts.{sound-facts}
 use Rattle.device.proofs.Disconnected.{up-passed, disconnect-moves, disconnect-stays, disconnect-quarantined, disconnect-cut}
 use Rattle.theorem_slot.specs.Call.{Buffers, disconnects, left}
-use Rattle.theorem_slot.specs.Unplugging.{passes, AcceptedByDisable, Gone, AcceptedLeaves, Stays, LostLeaves, ContextUnwritten, QuarantinedOnce, RingsCounted, SoundRings}
+use Rattle.theorem_slot.specs.Unplugging.{passes, AcceptedByDisable, Gone, AcceptedLeaves, LostKeeps, LostLeaves, ContextUnwritten, QuarantinedOnce, RingsCounted, SoundRings}
 use Rattle.theorem_slot.proofs.Ends.{Stayed, unplugging-stayed}
 use Rattle.theorem_slot.proofs.Step.{Mild, MildCheck, refused-mild, mild-disconnect}
 use Rattle.theorem_slot.proofs.Refusing.{down-refuses}
@@ -157,7 +157,7 @@ module _ (d : Device) (b : Buffers) (routes : List ℕ) where
   lost-end (inl v) e = not-both (isLost answer.Accepted) (sym (ap (λ (x : End). isLost (x .answer)) v) ∙ e) refl
   lost-end (inr v) e = unplugging-stayed (b .ctx) routes (end d b routes) v
 
-  stays-run : check d b routes ≡ Pass → Stayed routes (end d b routes) → Stays d routes (run d b routes)
+  stays-run : check d b routes ≡ Pass → Stayed routes (end d b routes) → LostKeeps d routes (run d b routes)
   stays-run k l =
       let m = disconnect-stays d (length (b .ctx)) (length routes) (length (b .log)) k (end d b routes) (l .kept) (l .lost) in
       record {
@@ -172,7 +172,7 @@ module _ (d : Device) (b : Buffers) (routes : List ℕ) where
 pub lost-leaves : LostLeaves
 unfolding refused
 lost-leaves d b routes =
-    by-check d b routes (λ l. isLost (l .answer) ≡ true → Stays d routes l)
+    by-check d b routes (λ l. isLost (l .answer) ≡ true → LostKeeps d routes l)
     (λ k v e. stays-run d b routes k (lost-end d b routes v (sym (ap isLost (run-answer d b routes)) ∙ e)))
     (λ a m e. not-both (isLost a) e (m .1))
 

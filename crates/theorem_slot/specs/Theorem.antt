@@ -124,7 +124,7 @@ abbrev pub SoundWhileUsable : Type 0
 SoundWhileUsable = AfterBringUp (λ slot still before s. s .device .usable ≡ true → sound (s .device) ≡ true)
 
 -- and a claim that passes its checks, with every outcome done, is accepted, and the rings that it draws are routed.
-pub record Claimed (slot : ℕ) (words rings : List ℕ) (l : Left) : Type 0 where
+pub record ClaimRouted (slot : ℕ) (words rings : List ℕ) (l : Left) : Type 0 where
   pub accepted : l .answer ≡ answer.Accepted
   pub routed :
       (d : ℕ) → d < 32 → someDci d words ≡ true → routeOf (l .routes) slot d ≡ ringFor d (queues (wordDcis words) rings) 0
@@ -137,7 +137,7 @@ ClaimsAccepted =
     recordCheck (s .device) (length (l .ctx)) (length (s .routes)) (length (l .log)) (claimCheck (s .device) i a Pass) ≡ Pass →
     ((k : ℕ) → k < 32 → outcomeAt (l .outcomes) k ≡ Done) →
     let words = settingWords (s .plain .list) i a in
-    Claimed slot words (drawnFrom (s .plain .groups) (length words)) (left (claims i a) l (s .device) (s .routes)))
+    ClaimRouted slot words (drawnFrom (s .plain .groups) (length words)) (left (claims i a) l (s .device) (s .routes)))
 
 -- Not only the first bring-up works: on an unplugged slot, one whose other checks pass, with 8 header bytes and, at SuperSpeed, the
 -- exponent 9, every outcome done, is accepted; what follows goes on from there.

@@ -54,7 +54,7 @@ AcceptedLeaves =
     l .answer ≡ answer.Accepted → Gone d l
 
 -- 14 and 15: the table, the held settings and the endpoints' rings are as they were.
-pub record Stays (d : Device) (routes : List ℕ) (l : Left) : Type 0 where
+pub record LostKeeps (d : Device) (routes : List ℕ) (l : Left) : Type 0 where
   pub table : l .routes ≡ routes
   pub held : heldOf (l .device) ≡ heldOf d
   pub rings : (endpointMapIn (l .device)) .rings ≡ (endpointMapIn d) .rings
@@ -64,7 +64,7 @@ abbrev pub LostLeaves : Type 0
 LostLeaves =
     (d : Device) (b : Buffers) (routes : List ℕ) →
     let l = left disconnects b d routes in
-    isLost (l .answer) ≡ true → Stays d routes l
+    isLost (l .answer) ≡ true → LostKeeps d routes l
 
 -- Whatever the answer, the context is as it was lent.
 abbrev pub ContextUnwritten : Type 0
