@@ -1,12 +1,13 @@
--- Demand 3 of the linked library.
-use Prim.Native.Nat.{ℕ}
-use mathlib.Core.Path.{_≡_, refl, sym, ap, _∙_}
+-- Demand 3 of the linked library, and the groups of its rings.
+use Prim.Native.Nat.{ℕ, _≤_}
+use mathlib.Core.Path.{_≡_, refl, sym, ap, subst, _∙_}
 use mathlib.Core.Bool.{Bool, true, false, not, cond, _&&_}
 use mathlib.Core.List.{List, [], _∷_}
 use borrow.Author.Tests.{eq-eqb}
 use lib.Dec.{eqb}
 use lib.ListN.{length}
 use Rattle.answer.specs.Answer.{number, isAccepted}
+use Rattle.device.specs.declared.record.Device.{Device}
 use Rattle.device.specs.Left.{Left}
 use Rattle.device_bring_up.specs.BringUp.{bringUp}
 use Rattle.device_image.specs.Image.{decode, isImage}
@@ -15,9 +16,11 @@ use Rattle.device_image.specs.Fits.{Fits}
 use Rattle.device_image.proofs.Laws.{image-encode, decode-encode}
 use Rattle.xhci_device.specs.Crossed.{Crossed, answeredOf, crossed, CrossedAs}
 use Rattle.theorem_slot.specs.Call.{Buffers, Asked, bringsUp, claims, commits, releases, configures, updatesHub, disconnects, left}
+use Rattle.theorem_slot.specs.Rings.{first, OfRecord}
 use Rattle.theorem_slot.specs.Theorem.{State, recordAfter, called, after, Turns, start}
 use Rattle.theorem_slot.proofs.Demand3.{kept-by-number}
-use Rattle.theorem_library.specs.Library.{Exchange, reads, GivenImage, imageAfter, imageThen, Exchanges, imageEnd, tableEnd, turnsOf, LibraryDemand3}
+use Rattle.theorem_slot.proofs.Rings.{given-parted, records-groups}
+use Rattle.theorem_library.specs.Library.{Exchange, reads, GivenImage, imageAfter, imageThen, Exchanges, imageEnd, tableEnd, turnsOf, LibraryDemand3, LibraryGroups}
 
 -- What a call that reads its image leaves.
 record Leaves (x : Crossed) (l : Left) : Type 0 where
@@ -25,6 +28,7 @@ record Leaves (x : Crossed) (l : Left) : Type 0 where
   pub device : decode (x .image) ≡ l .device
   pub routes : x .routes ≡ l .routes
   pub answer : x .answered .answer ≡ number (l .answer)
+  pub count : x .answered .count ≡ l .count
 
 leaves : (x : Crossed) (l : Left) (ok : Bool) (image ctx routes log : List ℕ) → ok ≡ true → CrossedAs x ok l image ctx routes log → Leaves x l
 unfolding crossed answeredOf
@@ -36,6 +40,7 @@ leaves x l ok image ctx routes log t c =
       device = ap (λ (y : Crossed). decode (y .image)) e ∙ decode-encode (l .device) f;
       routes = ap (λ (y : Crossed). y .routes) e;
       answer = ap (λ (y : Crossed). y .answered .answer) e;
+      count = ap (λ (y : Crossed). y .answered .count) e;
     }
 
 -- The caller's image, and the record and table of a state.
@@ -121,4 +126,19 @@ library-demand-three b l image routes x still es empty size meets zero o =
       table = w .has .table;
       record-there = w .has .there;
       device = w .has .device;
+    }
+
+pub library-groups : LibraryGroups
+unfolding reads left called recordAfter
+library-groups s b l image routes x still es size meets logged o =
+    let up : Left = bringUp b (l .ctx) routes (l .log) (l .outcomes) in
+    let v : Leaves x up = leaves x up _ image (l .ctx) routes (l .log) (eq-eqb (length image) WORDS size) meets in
+    let begins : State = called s (first b l routes) in
+    let w = went (b .slot) still (x .image) (x .routes) begins es (record { there = v .image; device = v .device; table = v .routes }) o in
+    let count : 1 ≤ up .count = subst (λ n. 1 ≤ n) (v .count) logged in
+    record {
+      parted = given-parted s b l routes still (turnsOf es) count (w .turns);
+      own =
+          λ u. rw (w .has .device)
+          (records-groups s b l routes still (turnsOf es) count (w .turns) (sym (ap (λ (d : Device). d .up) (w .has .device)) ∙ u));
     }

@@ -1,5 +1,6 @@
--- Demand 3 of the linked library: lists of calls of the exported functions, which hand the record on as an image in a lent buffer.
-use Prim.Native.Nat.{ℕ, _<_}
+-- Demand 3 of the linked library, and the groups of its rings: lists of calls of the exported functions, which hand the record on as an
+-- image in a lent buffer.
+use Prim.Native.Nat.{ℕ, _<_, _≤_}
 use mathlib.Core.Path.{_≡_}
 use mathlib.Core.Bool.{Bool, true, false, not, cond, _&&_}
 use mathlib.Core.List.{List, [], _∷_}
@@ -12,7 +13,9 @@ use Rattle.device_image.specs.Image.{decode, isImage}
 use Rattle.device_image.specs.Layout.{WORDS}
 use Rattle.xhci_device.specs.Crossed.{Crossed, CrossedAs}
 use Rattle.theorem_slot.specs.Call.{Buffers, Asked, bringsUp, claims, commits, releases, configures, updatesHub, disconnects, Call, left, OfSlot}
-use Rattle.theorem_slot.specs.Theorem.{State, Turn, after, Between, start, Kept}
+use Rattle.theorem_slot.specs.Groups.{Parted}
+use Rattle.theorem_slot.specs.Rings.{first, OfRecord}
+use Rattle.theorem_slot.specs.Theorem.{State, Turn, called, after, Between, start, Kept}
 
 -- A call of an exported function: what is asked, the image and the table that are lent, and what it returns and leaves in the buffers.
 pub record Exchange : Type 0 where
@@ -96,14 +99,33 @@ pub record KeptAcross (slot : ℕ) (still : ℕ → Bool) (before image routes :
   pub record-there : isImage image ≡ true
   pub device : decode image ≡ s .device
 
+abbrev pub brings : BringUp → Buffers → List ℕ → List ℕ → Crossed → Exchange
+brings b l image routes x =
+    record { call = record { asked = bringsUp b; buffers = l }; image = image; table = routes; crossed = x; keeps = false }
+
 -- A bring-up that answers 0, of a slot whose routes were all 0, and whatever calls follow.
 abbrev pub LibraryDemand3 : Type 0
 LibraryDemand3 =
     (b : BringUp) (l : Buffers) (image routes : List ℕ) (x : Crossed) (still : ℕ → Bool) (es : List Exchange) →
     ((d : ℕ) → d < 32 → routeOf routes (b .slot) d ≡ 0) →
     length image ≡ WORDS →
-    Meets (record { call = record { asked = bringsUp b; buffers = l }; image = image; table = routes; crossed = x; keeps = false }) →
+    Meets (brings b l image routes x) →
     x .answered .answer ≡ 0 →
     Exchanges (b .slot) still (x .image) (x .routes) es →
     KeptAcross (b .slot) still routes (imageEnd (x .image) es) (tableEnd (x .routes) es)
     (after (start b (bringUp b (l .ctx) routes (l .log) (l .outcomes))) (turnsOf es))
+
+-- Each given ring is in one group, and while the record that the caller has is up, its own groups are these.
+pub record GroupsAcross (image : List ℕ) (s : State) : Type 0 where
+  pub parted : Parted (s .plain .groups)
+  pub own : decode image .up ≡ true → OfRecord (decode image) (s .plain .groups)
+
+-- A bring-up that logs a word, whatever it answers and whatever was before it, and whatever calls follow.
+abbrev pub LibraryGroups : Type 0
+LibraryGroups =
+    (s : State) (b : BringUp) (l : Buffers) (image routes : List ℕ) (x : Crossed) (still : ℕ → Bool) (es : List Exchange) →
+    length image ≡ WORDS →
+    Meets (brings b l image routes x) →
+    1 ≤ x .answered .count →
+    Exchanges (b .slot) still (x .image) (x .routes) es →
+    GroupsAcross (imageEnd (x .image) es) (after (called s (first b l routes)) (turnsOf es))
