@@ -12,6 +12,7 @@ use Rattle.answer.specs.declared.Check.the-variants.{Pass, Refuse}
 use Rattle.answer.specs.Check.{unless}
 use Rattle.answer.specs.Answer.{isAccepted}
 use Rattle.context_block.specs.Flags.{flagsOf}
+use Rattle.record_endpoint.specs.Order.{PLACES}
 use Rattle.record_checks.specs.Draw.{sameRings}
 use Rattle.device.specs.declared.record.Device.{Device}
 use Rattle.device.specs.declared.ask.Preview.{Preview}
@@ -75,4 +76,4 @@ commit d ctx routes log outcomes p =
 -- What the code's ask hands back is its answer and what it returns, with at most 30 rings.
 pub record PreviewAs (r : Preview) (x : Answer × Ask) : Type 0 where
   pub told : (r .answer, asking (r .interface) (r .alternate) (r .drops) (r .adds) (take (r .count) (r .rings))) ≡ x
-  pub room : r .count ≤ 30
+  pub room : r .count ≤ PLACES

@@ -51,7 +51,7 @@ pub fn endpoint_map_of(eps: [Endpoint; PLACES], owners: [u8; PLACES], n: usize) 
         let place = order::place_of(e.address);
         i += 1;
         // A place past the end is none.
-        if place < 30 {
+        if place < PLACES {
             c.rings[place] = e.ring;
             c.owners[place] = owner;
             c.active[place] = on;

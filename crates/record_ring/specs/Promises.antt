@@ -11,7 +11,7 @@ use Rattle.record_ring.specs.Store.{GIVEN-ROOM, givenOk, among, lowest, 
 -- Rings that may be given: 1 to 64, nonzero multiples of 16, no two alike.
 pub record Given (rings : List ℕ) : Type 0 where
   pub some : 0 < length rings
-  pub room : length rings ≤ 64
+  pub room : length rings ≤ GIVEN-ROOM
   pub nonzero : (i : ℕ) → i < length rings → getD rings i 0 ≡ 0 → ⊥
   pub multiple : (i : ℕ) → i < length rings → getD rings i 0 % 16 ≡ 0
   pub apart : (i j : ℕ) → i < length rings → j < length rings → getD rings i 0 ≡ getD rings j 0 → i ≡ j

@@ -13,6 +13,7 @@ use Rattle.command.specs.Command.{commandWord}
 use Rattle.context_block.specs.Fields.{DROP-FLAG, ADD-FLAG}
 use Rattle.context.specs.Place.{CONTROL, readAt}
 use Rattle.record_endpoint.specs.declared.endpoint_map.Owner.the-variants.{Interface}
+use Rattle.record_endpoint.specs.Order.{PLACES}
 use Rattle.record_endpoint.specs.EndpointMap.{ownedRings, queuesOf}
 use Rattle.device.specs.declared.record.Device.{Device}
 use Rattle.device.specs.Device.{endpointMapIn}
@@ -40,7 +41,7 @@ module _ (d : Device) (ctx routes log outcomes : List ℕ) where
     -- something else
     pub other : r .0 ≡ answer.Accepted → (r .1 ≡ p → ⊥) → l .answer ≡ answer.OutdatedAsk
     -- more rings than any ask returns
-    pub many : r .0 ≡ answer.Accepted → 30 < length (p .rings) → l .answer ≡ answer.OutdatedAsk
+    pub many : r .0 ≡ answer.Accepted → PLACES < length (p .rings) → l .answer ≡ answer.OutdatedAsk
     -- no other commit gets it
     pub only : l .answer ≡ answer.OutdatedAsk → (r .0 ≡ answer.Accepted) × (r .1 ≡ p → ⊥)
     -- it changes nothing, and the record stays usable

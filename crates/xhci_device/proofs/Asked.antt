@@ -24,7 +24,7 @@ use Rattle.device.specs.Ask.{Ask, asking, noAsk, askOf, askCheck, returned, ask
 use Rattle.device.proofs.Laws.{passed}
 use Rattle.device_image.specs.Image.{isImage, decode}
 use Rattle.xhci_device.specs.declared.ask.Shown.{Shown}
-use Rattle.xhci_device.specs.Ask.{logLent, askedIn, shownOf, inFront}
+use Rattle.xhci_device.specs.Ask.{logRoom, askedIn, shownOf, inFront}
 use Rattle.xhci_device.proofs.Steps.{zeros-slot, none-passed}
 
 -- One ring more in front of lent words.
@@ -54,16 +54,16 @@ put-all {i = i} {n = n} p h g = let e : i ≡ n = omega arith in rw (← e) (p .
 
 -- The record's ask is the image's.
 module _ (image : List ℕ) (ctx routes log i a n : ℕ) (d : Device) (e : d ≡ decode image) where
-  pub asked-as : ask d ctx routes (logLent log n) i a ≡ askedIn image ctx routes log i a n
+  pub asked-as : ask d ctx routes (logRoom log n) i a ≡ askedIn image ctx routes log i a n
   unfolding askedIn ask askCheck returned
   asked-as = go (isImage image) refl
     where
       go : (b : Bool) → isImage image ≡ b →
-          ask d ctx routes (logLent log n) i a ≡ cond b (ask (decode image) ctx routes (logLent log n) i a) (Unusable, noAsk)
-      go true q = ap (λ (x : Device). ask x ctx routes (logLent log n) i a) e
+          ask d ctx routes (logRoom log n) i a ≡ cond b (ask (decode image) ctx routes (logRoom log n) i a) (Unusable, noAsk)
+      go true q = ap (λ (x : Device). ask x ctx routes (logRoom log n) i a) e
       go false q =
-          let k : recordCheck d ctx routes (logLent log n) (claimCheck d i a Pass) ≡ Refuse Unusable =
-          none-passed d ctx routes (logLent log n) (claimCheck d i a Pass) (ap (λ (x : Device). x .slot .0) e ∙ zeros-slot image q) in
+          let k : recordCheck d ctx routes (logRoom log n) (claimCheck d i a Pass) ≡ Refuse Unusable =
+          none-passed d ctx routes (logRoom log n) (claimCheck d i a Pass) (ap (λ (x : Device). x .slot .0) e ∙ zeros-slot image q) in
           rw k
 
 -- Without room nothing is returned.
@@ -95,8 +95,8 @@ module _ (p : Preview) (x : Answer × Ask) (s : PreviewAs p x) (full : length (p
 
 -- The rings have room in the lent words.
 pub rings-room :
-    (d : Device) (ctx routes log i a n : ℕ) (p : Preview) → PreviewAs p (ask d ctx routes (logLent log n) i a) → length (p .rings) ≡ 30 → p .count ≤ n
-unfolding logLent
+    (d : Device) (ctx routes log i a n : ℕ) (p : Preview) → PreviewAs p (ask d ctx routes (logRoom log n) i a) → length (p .rings) ≡ 30 → p .count ≤ n
+unfolding logRoom
 rings-room d ctx routes log i a n p s full = go (decided (ltb n 30))
   where
     go : Decided (ltb n 30) → p .count ≤ n

@@ -16,13 +16,13 @@ abbrev pub ASK-RINGS : ℕ
 ASK-RINGS = 30
 
 -- Fewer get 3 where it stands among the checks, as too short a log does.
-unfoldable pub logLent : ℕ → ℕ → ℕ
-logLent log words = cond (ltb words ASK-RINGS) 0 log
+unfoldable pub logRoom : ℕ → ℕ → ℕ
+logRoom log words = cond (ltb words ASK-RINGS) 0 log
 
 -- Where the buffer holds no record, 12; else what the record's ask returns.
 unfoldable pub askedIn : List ℕ → ℕ → ℕ → ℕ → ℕ → ℕ → ℕ → Answer × Ask
 askedIn image ctx routes log interface alternate words =
-    cond (isImage image) (ask (decode image) ctx routes (logLent log words) interface alternate) (Unusable, noAsk)
+    cond (isImage image) (ask (decode image) ctx routes (logRoom log words) interface alternate) (Unusable, noAsk)
 
 unfoldable pub shownOf : Answer × Ask → Shown
 shownOf x =

@@ -5,14 +5,14 @@ use borrow.Author.Tests.{lt-ltb, le-ltb}
 use borrow.Author.Needs.{needs}
 use lib.ListN.{length}
 use Rattle.device.specs.Ask.{ask, PreviewAs}
-use Rattle.xhci_device.specs.Ask.{logLent, askedIn}
+use Rattle.xhci_device.specs.Ask.{logRoom, askedIn}
 use Rattle.xhci_device.proofs.Asked.{asked-as, shown-as, front-as, rings-room}
 use Rattle.xhci_device.proofs.ask.xhci_device_ask.Statement.{statement}
 use Rattle.xhci_device.proofs.ask.xhci_device_ask.Tie as tie
 
 -- The log that the words lent for the rings leave to the ask.
-room-as : (c : tie.Joined1) → c .if1 .room ≡ logLent (c .before .before .before .before .args .log) (length (c .before .before .before .before .args .rings .now))
-unfolding logLent
+room-as : (c : tie.Joined1) → c .if1 .room ≡ logRoom (c .before .before .before .before .args .log) (length (c .before .before .before .before .args .rings .now))
+unfolding logRoom
 room-as c =
     ⊎-elim (λ w. w .1 ∙ sym (rw (lt-ltb (length (c .before .before .before .before .args .rings .now)) 30 (w .0 .taken)) refl))
     (λ w. w .1 ∙ sym (rw (le-ltb (length (c .before .before .before .before .args .rings .now)) 30 (w .0 .left)) refl))
@@ -22,7 +22,7 @@ room-as c =
 shown :
     (c : tie.After-ask) →
     let s = c .before .before .before .before .before in
-    PreviewAs (c .ask .result) (ask (c .before .before .decode .result) (s .args .ctx) (s .args .routes) (logLent (s .args .log) (length (s .args .rings .now))) (s .args .interface) (s .args .alternate))
+    PreviewAs (c .ask .result) (ask (c .before .before .decode .result) (s .args .ctx) (s .args .routes) (logRoom (s .args .log) (length (s .args .rings .now))) (s .args .interface) (s .args .alternate))
 shown c = rw (← room-as (c .before)) (c .ask .ensures)
 
 full : (c : tie.After-ask) → length (c .ask .result .rings) ≡ 30
