@@ -1,6 +1,6 @@
 -- What a block's fields read after each list of settings, whatever the block of 32 bytes held: proofs/Promises.antt proves each `..Promise`.
 use Prim.Native.Nat.{ℕ, _/_, _%_, _^_, _<_}
-use mathlib.Core.Bool.{Bool, true, false, cond}
+use mathlib.Core.Bool.{Bool, true, cond}
 use mathlib.Core.List.{List, [], _∷_, _++_}
 use mathlib.Core.Logic.{_≢_}
 use mathlib.Core.Path.{_≡_}
@@ -15,7 +15,7 @@ use Rattle.context_field.specs.declared.Field.{Field}
 use Rattle.context_field.specs.Field.{readField, InBlock}
 use Rattle.context_block.specs.Fields.{DROP-FLAGS, ADD-FLAGS, DROP-FLAG, ADD-FLAG, CONFIGURATION-VALUE, INTERFACE-NUMBER, ALTERNATE-SETTING, ROUTE-STRING, SPEED, MTT, HUB, CONTEXT-ENTRIES, ROOT-HUB-PORT-NUMBER, NUMBER-OF-PORTS, PARENT-HUB-SLOT-ID, PARENT-PORT-NUMBER, TT-THINK-TIME, MULT, MAX-PSTREAMS, INTERVAL, MAX-ESIT-PAYLOAD-HI, CERR, EP-TYPE, MAX-BURST-SIZE, MAX-PACKET-SIZE, DCS, TR-DEQUEUE-POINTER-LO, TR-DEQUEUE-POINTER-HI, AVERAGE-TRB-LENGTH, MAX-ESIT-PAYLOAD-LO, apartFromAll}
 use Rattle.context_block.specs.FieldWrite.{FieldWrite, _:=_, fieldsWritten}
-use Rattle.context_block.specs.Blocks.{changed, addressSlot, addressEndpoint, errorCount, endpointFields, wordDci, someDci, dropFlags, hubFields}
+use Rattle.context_block.specs.Blocks.{changed, addressSlot, addressEndpoint, errorCount, endpointFields, someDci, dropFlags, hubFields}
 
 -- Every field listed reads the value beside it.
 unfoldable pub Holds : List ℕ → List FieldWrite → Type 0

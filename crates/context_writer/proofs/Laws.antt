@@ -1,20 +1,20 @@
 -- What one turn of each loop comes to.
 use Prim.Native.Nat.{ℕ, suc, _+_, _*_, _<_, _≤_}
 use mathlib.Core.Path.{_≡_, sym, ap}
-use mathlib.Core.List.{List, [], _∷_, _++_}
+use mathlib.Core.List.{List}
 use native.Mathlib.Numerals.{add-one}
 use native.Mathlib.Omega.{arith}
 use lib.ListN.{length, drop, getD}
 use lib.Seq.{drop-cons}
 use Rattle.context_field.specs.Field.{writeField}
 use Rattle.context_block.specs.Fields.{ADD-FLAG, DROP-FLAG}
-use Rattle.context_block.specs.FieldWrite.{_:=_, fieldsWritten}
+use Rattle.context_block.specs.FieldWrite.{fieldsWritten}
 use Rattle.context_block.specs.Blocks.{dropFlags, wordDci, endpointFields}
 use Rattle.descriptor.specs.Word.{endpointDescriptor}
 use Rattle.transfer.specs.Routes.{Queue, ringFor}
 use Rattle.context.specs.Place.{CONTROL, inBlock, onPart, written}
 use Rattle.context.specs.Steps.{addWrites}
-use Rattle.context.proofs.Laws.{written-append, written-block}
+use Rattle.context.proofs.Laws.{written-block}
 use Rattle.context_block_writer.proofs.Laws.{control-write}
 
 -- One more word dropped.

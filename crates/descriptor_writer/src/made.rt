@@ -4,7 +4,6 @@ use descriptor_raw::size;
 ghost use Prim.Native.Nat.{_<_};
 ghost use mathlib.Core.Path.{_≡_};
 ghost use Rattle.descriptor_raw.specs.Write.{configurationDescriptor, interfaceDescriptor, endpointBytes};
-ghost use Rattle.descriptor.specs.Word.{endpointDescriptor};
 
 // Bit 7 of a configuration's attributes is always set.
 const RESERVED_ONE: u8 = 0x80;

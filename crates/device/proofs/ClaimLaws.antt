@@ -51,7 +51,7 @@ use Rattle.device.specs.Claim.{claimCheck, drawn, pendingOf, argsIn, cla
 use Rattle.device.proofs.Ends.{handed, else-quarantined}
 use Rattle.device.proofs.Facts.{sound-facts, none-quarantined}
 use Rattle.device.proofs.Kept.{claim-entered}
-use Rattle.device.proofs.Laws.{record-passed, refused-first, own-check}
+use Rattle.device.proofs.Laws.{refused-first, own-check}
 
 -- Rings go in quarantine after 14, and after no other answer.
 module _ (a : Answer) (rings : List ℕ) (d : Device) where

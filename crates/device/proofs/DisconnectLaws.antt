@@ -1,7 +1,7 @@
 -- What an unplugging leaves whose checks have passed.
 use Prim.Native.Nat.{ℕ, _≤_}
 use mathlib.Core.Path.{_≡_, refl, sym, ap, _∙_}
-use mathlib.Core.Logic.{_⊎_, inl, inr, ⊎-elim}
+use mathlib.Core.Logic.{_⊎_, ⊎-elim}
 use mathlib.Core.Bool.{Bool, true, false, cond}
 use mathlib.Core.List.{List, [], _∷_, _++_}
 use lib.ListN.{length, take}
@@ -15,8 +15,7 @@ use Rattle.record_ring.proofs.Entered.{entered-append, entered-none}
 use Rattle.record_endpoint.specs.declared.endpoint_map.EndpointMap.{EndpointMap}
 use Rattle.record_endpoint.specs.declared.endpoint_map.Owner.the-variants.{Any}
 use Rattle.record_endpoint.specs.declared.pending.Queues.{Queues}
-use Rattle.record_endpoint.specs.Endpoint.{padded}
-use Rattle.record_endpoint.specs.EndpointMap.{noEndpoints, withActive, queuesOf, queueDcis, QueuesAs}
+use Rattle.record_endpoint.specs.EndpointMap.{noEndpoints, withActive, QueuesAs}
 use Rattle.record_checks.specs.declared.rings.Quarantine.{Quarantine}
 use Rattle.record_checks.specs.Rings.{QuarantinedAs}
 use Rattle.course_steps.specs.declared.CourseEnd.{CourseEnd}
@@ -26,7 +25,7 @@ use Rattle.course_disconnect.specs.Disconnect.{disconnectCourse}
 use Rattle.course_disconnect.proofs.Ends.{Ended, disconnect-ends}
 use Rattle.device.specs.declared.record.Device.{Device}
 use Rattle.device.specs.declared.record.Called.{Called}
-use Rattle.device.specs.Device.{endpointMapIn, quarantinedOf, keep, put, rebuilt, controlRevoked, gone, ringArray, withEndpoints, withHeld, withQuarantined, unusable}
+use Rattle.device.specs.Device.{endpointMapIn, quarantinedOf, keep, put, rebuilt, controlRevoked, gone, withEndpoints, withHeld, withQuarantined, unusable}
 use Rattle.device.specs.Sound.{sound}
 use Rattle.device.specs.Left.{leaves, marked, ended}
 use Rattle.device.specs.Check.{disconnectCheck}

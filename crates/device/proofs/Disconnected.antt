@@ -1,6 +1,6 @@
 -- What an unplugging makes of a record that is up.
 use Prim.Native.Nat.{ℕ, _+_, _*_, _≤_}
-use mathlib.Core.Path.{_≡_, refl, sym, ap, _∙_}
+use mathlib.Core.Path.{_≡_, refl, ap, _∙_}
 use mathlib.Core.Bool.{Bool, true, false, cond, _&&_}
 use mathlib.Core.List.{List, [], _∷_, _++_}
 use mathlib.Core.Logic.{_⊎_, ⊎-elim}
@@ -11,7 +11,6 @@ use lib.ListN.{length, take}
 use Rattle.laws.specs.Distinct.{elem, distinct}
 use Rattle.laws.proofs.Tests.{and-left, and-right, and-true, not-both}
 use Rattle.laws.proofs.Distinct.{elem-none, elem-here, elem-cases, distinct-fits}
-use Rattle.answer.specs.declared.Answer.{Answer}
 use Rattle.answer.specs.declared.Check.the-variants.{Pass}
 use Rattle.answer.specs.Answer.{isBroken, isLost}
 use Rattle.record_ring.specs.Rings.{ringOk, ringsOk, entered}
@@ -19,7 +18,7 @@ use Rattle.record_ring.proofs.Entered.{elem-left, elem-right, elem-either, ente
 use Rattle.record_endpoint.specs.declared.endpoint_map.EndpointMap.{EndpointMap}
 use Rattle.record_endpoint.specs.declared.endpoint_map.Owner.the-variants.{Any}
 use Rattle.record_endpoint.specs.Endpoint.{ringsOf}
-use Rattle.record_endpoint.specs.EndpointMap.{noEndpoints, queuesOf, queueRings, withActive}
+use Rattle.record_endpoint.specs.EndpointMap.{noEndpoints, withActive}
 use Rattle.record_endpoint.proofs.Laws.{active-rings}
 use Rattle.record_endpoint.proofs.Clean.{clean-none, clean-active}
 use Rattle.record_settings.specs.Match.{endpointsMatch}

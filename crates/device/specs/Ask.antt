@@ -1,6 +1,6 @@
 -- A claim in two calls: the ask shows what it would do, the commit does it.
-use Prim.Native.Nat.{ℕ, _+_, _/_, _%_, _^_, _<_, _≤_}
-use mathlib.Core.Bool.{Bool, true, false, _&&_}
+use Prim.Native.Nat.{ℕ, _≤_}
+use mathlib.Core.Bool.{Bool, _&&_}
 use mathlib.Core.List.{List, []}
 use mathlib.Core.Path.{_≡_}
 use lib.Dec.{eqb}
@@ -10,7 +10,6 @@ use Rattle.answer.specs.declared.Answer.the-variants as answer
 use Rattle.answer.specs.declared.Check.{Check}
 use Rattle.answer.specs.declared.Check.the-variants.{Pass, Refuse}
 use Rattle.answer.specs.Check.{unless}
-use Rattle.answer.specs.Answer.{isAccepted}
 use Rattle.context_block.specs.Flags.{flagsOf}
 use Rattle.record_endpoint.specs.Order.{PLACES}
 use Rattle.record_checks.specs.Draw.{sameRings}
@@ -19,7 +18,7 @@ use Rattle.device.specs.declared.ask.Preview.{Preview}
 use Rattle.device.specs.Left.{Left, refused}
 use Rattle.device.specs.Check.{recordCheck}
 use Rattle.device.specs.Calls.{onCheck}
-use Rattle.device.specs.Claim.{claimCheck, drawn, claimIn, claimRun, claim}
+use Rattle.device.specs.Claim.{claimCheck, drawn, claimIn, claimRun}
 
 -- What an ask returns and a commit is given: the flags of the endpoints that the claim would drop and add, bit d for Dci d, and the rings
 -- that it would draw, in the order of the endpoint words.

@@ -8,7 +8,6 @@ use record_checks::Checked;
 use record_endpoint::PLACES;
 ghost use mathlib.Core.Path.{_≡_};
 ghost use mathlib.Core.Bool.{true, _&&_};
-ghost use lib.ListN.{length};
 ghost use Rattle.answer.specs.declared.Answer.the-variants as answers;
 ghost use Rattle.answer.specs.declared.Check.the-variants.{Pass};
 ghost use Rattle.descriptor_list.specs.declared.Found.the-variants.{Endpoints};

@@ -1,11 +1,11 @@
 -- What the checks of a bring-up come to, and what it says that they passed.
-use Prim.Native.Nat.{ℕ, _+_, _*_, _<_, _≤_}
+use Prim.Native.Nat.{ℕ, _+_, _*_, _≤_}
 use mathlib.Core.Path.{_≡_, refl, sym, ap, _∙_}
 use mathlib.Core.Bool.{Bool, true, false, cond, _&&_, _||_}
 use mathlib.Core.List.{List}
 use mathlib.Core.Logic.{_⊎_, inl, inr, ⊎-elim}
 use native.Mathlib.Omega.{arith}
-use borrow.Author.Tests.{eqb-true, leb-true, le-leb, lt-leb}
+use borrow.Author.Tests.{eqb-true, leb-true}
 use lib.Dec.{eqb, leb}
 use lib.ListN.{length}
 use Rattle.laws.proofs.Tests.{and-left, and-right}

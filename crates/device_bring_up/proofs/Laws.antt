@@ -5,11 +5,11 @@ use mathlib.Core.Bool.{Bool, true, false, cond, _&&_, _||_}
 use mathlib.Core.List.{List, []}
 use mathlib.Core.Logic.{_⊎_, inl, inr}
 use native.Mathlib.Omega.{arith}
-use borrow.Author.Tests.{eqb-true, eq-eqb, not-true}
+use borrow.Author.Tests.{eqb-true, eq-eqb}
 use lib.Dec.{eqb, leb}
 use lib.ListN.{length, getD, length-set}
 use lib.Seq.{getD-set-same, getD-set-other}
-use Rattle.laws.proofs.Tests.{not-both, and-left}
+use Rattle.laws.proofs.Tests.{not-both}
 use Rattle.def.specs.Speed.{speedKnown, exponentOk}
 use Rattle.descriptor_list.specs.Valid.{configurations, validList}
 use Rattle.hub.specs.Chain.{chainOk}

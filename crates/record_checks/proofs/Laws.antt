@@ -10,10 +10,10 @@ use borrow.Author.Tests.{eqb-true, eqb-false}
 use lib.Dec.{eqb}
 use lib.ListN.{length, getD, set, take, drop, replicate, length-append, length-set, length-take, List·getD-eq-default, getD-replicate}
 use lib.Seq.{getD-take, getD-set-same, getD-set-other, set-out, take-nil}
-use Rattle.laws.proofs.Tests.{and-left, and-right, and-true, not-both}
+use Rattle.laws.proofs.Tests.{and-true, not-both}
 use Rattle.laws.proofs.Cases.{Decided, decided, false-if, or-right}
 use Rattle.laws.specs.Distinct.{elem, distinct}
-use Rattle.laws.proofs.Distinct.{elem-none, elem-here, elem-cases, elem-at, elem-place, elem-append, distinct-first, distinct-rest, distinct-cons, distinct-place, distinct-append}
+use Rattle.laws.proofs.Distinct.{elem-none, elem-here, elem-cases, elem-at, elem-append, distinct-first, distinct-rest, distinct-cons, distinct-place, distinct-append}
 use Rattle.descriptor.specs.Word.{endpointDescriptor}
 use Rattle.record_ring.specs.Rings.{ringOk, ringsOk}
 use Rattle.record_ring.proofs.Laws.{ring-at, ring-nonzero, disjoint-elem, Offered}

@@ -1,21 +1,20 @@
 -- What sound rings are: the live ones and the quarantined ones fit, and all together, each once, have room.
 use Prim.Native.Nat.{ℕ, _+_, _≤_}
-use mathlib.Core.Path.{_≡_, refl, sym, ap, _∙_}
+use mathlib.Core.Path.{_≡_, refl}
 use mathlib.Core.Logic.{_⊎_, inl, inr, ⊎-elim}
 use mathlib.Core.Bool.{Bool, true, false, not, _&&_, _||_}
 use mathlib.Core.List.{List, [], _∷_, _++_}
-use native.Mathlib.Omega.{arith}
 use borrow.Author.Tests.{eq-eqb, eqb-true, le-leb, leb-true}
 use lib.Dec.{eqb, leb}
 use lib.ListN.{length, length-append}
 use Rattle.laws.specs.Distinct.{elem, distinct}
 use Rattle.laws.proofs.Tests.{and-left, and-right, and-true, not-both}
-use Rattle.laws.proofs.Cases.{Decided, decided, false-if}
+use Rattle.laws.proofs.Cases.{decided, false-if}
 use Rattle.laws.proofs.Distinct.{distinct-first, distinct-rest, distinct-cons, distinct-append, distinct-fits, elem-place}
 use Rattle.record_ring.specs.Rings.{ringOk, ringsOk, notAmong}
 use Rattle.record_ring.proofs.Laws.{ring-at}
 use Rattle.record_ring.proofs.Entered.{rings-ok-append, elem-left, elem-right, elem-either, not-among-from, not-among-has, not-among-distinct, not-among-ok}
-use Rattle.record_checks.specs.Rings.{ringsFit, eachOnce, soundRings}
+use Rattle.record_checks.specs.Rings.{eachOnce, soundRings}
 
 pub record SoundRings (usable : Bool) (live quarantined : List ℕ) : Type 0 where
   pub few : length (eachOnce live quarantined) ≤ 61

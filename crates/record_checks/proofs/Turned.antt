@@ -1,17 +1,16 @@
 -- Control's ring before the others or behind them.
 use Prim.Native.Nat.{ℕ, _≤_}
 use mathlib.Core.Path.{_≡_, refl, sym, ap, _∙_}
-use mathlib.Core.Logic.{inl, inr, ⊎-elim}
-use mathlib.Core.Bool.{Bool, true, false, not, _&&_, _||_}
+use mathlib.Core.Logic.{⊎-elim}
+use mathlib.Core.Bool.{Bool, true, false, _&&_, _||_}
 use mathlib.Core.List.{List, [], _∷_, _++_}
 use native.Mathlib.Omega.{arith}
 use lib.Dec.{eqb}
 use lib.ListN.{length, take, length-take}
 use Rattle.laws.specs.Distinct.{elem, distinct}
-use Rattle.laws.proofs.Tests.{and-left, and-right, and-true, not-both}
+use Rattle.laws.proofs.Tests.{not-both}
 use Rattle.laws.proofs.Cases.{false-if, or-right}
-use Rattle.laws.proofs.Distinct.{elem-none, elem-here, elem-there, elem-cases, elem-append, distinct-first, distinct-rest, distinct-cons, distinct-append}
-use Rattle.record_ring.specs.Rings.{ringsOk}
+use Rattle.laws.proofs.Distinct.{elem-none, elem-here, elem-cases, elem-append, distinct-first, distinct-rest, distinct-cons, distinct-append}
 use Rattle.record_ring.specs.Store.{givenOk, among}
 use Rattle.record_checks.specs.Rings.{soundRings}
 use Rattle.record_checks.specs.Store.{soundStore}

@@ -1,8 +1,8 @@
 -- Given, free and drawn rings are what is promised of them.
-use Prim.Native.Nat.{ℕ, zero, suc, _+_, _%_, _≤_, _<_}
-use mathlib.Core.Path.{_≡_, refl, sym, ap, _∙_}
-use mathlib.Core.Logic.{_⊎_, inl, inr, ⊎-elim}
-use mathlib.Core.Bool.{Bool, true, false, not, cond, _&&_, _||_}
+use Prim.Native.Nat.{ℕ, suc, _+_, _%_, _≤_, _<_}
+use mathlib.Core.Path.{_≡_, refl, sym, _∙_}
+use mathlib.Core.Logic.{_⊎_, inl, inr}
+use mathlib.Core.Bool.{true, false, not, _&&_, _||_}
 use mathlib.Core.List.{List, [], _∷_, _++_}
 use native.Mathlib.Omega.{arith}
 use borrow.Author.Tests.{leb-true, leb-false, le-leb, eqb-true, eqb-false, eq-eqb, ne-eqb, not-true}
@@ -10,14 +10,14 @@ use lib.Dec.{eqb, leb}
 use lib.ListN.{length, getD, take}
 use lib.Seq.{length-take-le}
 use Rattle.laws.specs.Distinct.{elem, distinct}
-use Rattle.laws.proofs.Tests.{and-left, and-right, and-true, not-both}
+use Rattle.laws.proofs.Tests.{and-left, and-right, and-true}
 use Rattle.laws.proofs.Cases.{Decided, decided, false-if, or-none}
 use Rattle.laws.proofs.Distinct.{elem-none, elem-here, elem-there, elem-cases, elem-at, elem-place, elem-append, distinct-first, distinct-rest, distinct-cons, distinct-place, without, elem-without, length-without-one, distinct-without}
-use Rattle.record_ring.specs.Rings.{ringOk, ringsOk, disjoint, notAmong, offerOk}
+use Rattle.record_ring.specs.Rings.{ringOk, ringsOk, notAmong, offerOk}
 use Rattle.record_ring.specs.Store.{GIVEN-ROOM, givenOk, among, inserted, sorted, lowest, least, freeRings}
-use Rattle.record_ring.specs.Promises.{Given, GivenPromise, Lowest, LowestPromise, Least, LeastPromise, Free, FreePromise, CountPromise, DrawnPromise}
+use Rattle.record_ring.specs.Promises.{Given, GivenPromise, LowestPromise, LeastPromise, Free, FreePromise, CountPromise, DrawnPromise}
 use Rattle.record_ring.proofs.Laws.{ring-at, ring-nonzero, disjoint-from}
-use Rattle.record_ring.proofs.Sorted.{Rises, elem-inserted-cases, elem-sorted, length-sorted, rises-sorted, rises-distinct, elem-take, rises-take, rises-at, rises-left-out, elem-not-among, distinct-not-among, lower, least-cons, not-among-none, not-among-without}
+use Rattle.record_ring.proofs.Sorted.{Rises, elem-sorted, length-sorted, rises-sorted, rises-distinct, elem-take, rises-take, rises-at, rises-left-out, elem-not-among, distinct-not-among, lower, least-cons, not-among-none, not-among-without}
 
 -- Given rings.
 ring-multiple : (r : ℕ) → ringOk r ≡ true → r % 16 ≡ 0

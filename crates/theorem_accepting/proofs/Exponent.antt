@@ -1,14 +1,12 @@
 -- 19 leaves what 16 leaves.
 use Prim.Native.Nat.{ℕ, _+_}
 use mathlib.Core.Path.{_≡_, refl, ap}
-use mathlib.Core.Bool.{false, cond}
+use mathlib.Core.Bool.{cond}
 use mathlib.Core.List.{List, _∷_}
 use borrow.Author.Tests.{eq-eqb, ne-eqb}
 use lib.Dec.{eqb}
 use lib.ListN.{length}
-use Rattle.def.specs.Speed.{exponentOk}
 use Rattle.answer.specs.declared.Answer.the-variants as answer
-use Rattle.answer.specs.declared.Check.the-variants.{Pass}
 use Rattle.answer.specs.Answer.{number, isAccepted}
 use Rattle.command.specs.declared.Command.{Command}
 use Rattle.command.specs.declared.Sent.{Sent}

@@ -23,7 +23,7 @@ use Rattle.record_settings.specs.Match.{addressesFree}
 use Rattle.transfer.specs.declared.Replaced.{Replaced}
 use Rattle.transfer.specs.declared.Replaced.the-variants as replace
 use Rattle.transfer.specs.Routes.{replaced}
-use Rattle.course_steps.specs.End.{End, settingsKept, settingsMoved, answerOf}
+use Rattle.course_steps.specs.End.{End, settingsKept, answerOf}
 use Rattle.course_claim.specs.Claim.{Claim, claimPublished, claimPublish, claimSwitchBack, claimUndone, claimUndo, claimSwitch, claimResume, claimConfigure, claimCourse}
 use Rattle.device.specs.declared.record.Device.{Device}
 use Rattle.device.specs.Device.{listOf, endpointMapIn, freeOf}

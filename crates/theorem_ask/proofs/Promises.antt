@@ -2,7 +2,7 @@
 use Prim.Native.Nat.{ℕ, zero, suc, _+_, _/_, _%_, _^_, _<_, _≤_}
 use mathlib.Core.Path.{_≡_, refl, sym, ap, _∙_}
 use mathlib.Core.Logic.{inl, inr}
-use mathlib.Core.Bool.{Bool, true, false, cond, _&&_}
+use mathlib.Core.Bool.{true, false, _&&_}
 use mathlib.Core.List.{List, [], _∷_}
 use native.Mathlib.Omega.{arith}
 use borrow.Author.Tests.{eqb-true, eq-eqb}
@@ -18,7 +18,7 @@ use Rattle.answer.specs.declared.Check.the-variants.{Pass, Refuse}
 use Rattle.answer.specs.Answer.{number, isAccepted}
 use Rattle.command.specs.declared.Command.the-variants as command
 use Rattle.command.specs.Command.{commandWord}
-use Rattle.command.specs.Course.{Course, played}
+use Rattle.command.specs.Course.{played}
 use Rattle.command.proofs.Laws.{log-word}
 use Rattle.command.proofs.Reached.{CutHere, dones-before, dones-past}
 use Rattle.context_block.specs.Fields.{DROP-FLAG, ADD-FLAG}
@@ -31,7 +31,7 @@ use Rattle.context.proofs.Added.{drop-flag-reads, add-flag-reads}
 use Rattle.record_endpoint.specs.declared.endpoint_map.Owner.the-variants.{Interface}
 use Rattle.record_endpoint.specs.EndpointMap.{ownedRings, queuesOf}
 use Rattle.record_endpoint.proofs.Laws.{queues-fit}
-use Rattle.record_settings.specs.Held.{isHeld, alternateOf, settingWords}
+use Rattle.record_settings.specs.Held.{isHeld, alternateOf}
 use Rattle.record_checks.specs.Draw.{sameRings}
 use Rattle.course_steps.specs.End.{settingsKept}
 use Rattle.course_claim.specs.Claim.{Claim, claimContext, claimCourse}
@@ -40,14 +40,13 @@ use Rattle.device.specs.declared.record.Device.{Device}
 use Rattle.device.specs.Device.{listOf, endpointMapIn, heldOf}
 use Rattle.device.specs.Left.{Left, refused, ended}
 use Rattle.device.specs.Calls.{onCheck}
-use Rattle.device.specs.Check.{recordCheck}
-use Rattle.device.specs.Claim.{claimCheck, drawn, claimIn, claimRecord, claimRun, claim}
-use Rattle.device.specs.Ask.{Ask, asking, noAsk, askOf, askCheck, returned, ask, sameAsk, currentCheck, commit}
+use Rattle.device.specs.Claim.{claimCheck, drawn, claimIn, claimRun, claim}
+use Rattle.device.specs.Ask.{Ask, noAsk, askOf, askCheck, returned, ask, sameAsk, currentCheck, commit}
 use Rattle.theorem_ask.specs.Promises.{askedNow, AskTells, OutdatedTells, AskPromise, ClaimPromise, OutdatedPromise, FlagsShown, AskFlagsPromise}
 use Rattle.theorem_ask.proofs.Answers.{not-accepted, not-outdated, claim-current}
-use Rattle.device.proofs.AskLaws.{ask-then, ask-refused, ask-passed, drawn-many, words-few}
+use Rattle.device.proofs.AskLaws.{ask-refused, ask-passed, drawn-many, words-few}
 use Rattle.device.proofs.Fit.{placed-setting, placed-if, placed-endpoints}
-use Rattle.device.proofs.Laws.{Passed, passed, andThen}
+use Rattle.device.proofs.Laws.{Passed, passed}
 
 -- What the comparison of rings says.
 same-told : (rs ss : List ℕ) → sameRings rs ss ≡ true → rs ≡ ss

@@ -1,5 +1,5 @@
 -- The interval of an isochronous endpoint at Full speed.
-use mathlib.Core.Path.{_≡_, _∙_}
+use mathlib.Core.Path.{_∙_}
 use Rattle.descriptor.specs.Endpoint.{heldExponent, isochronousInterval, xhciInterval}
 use Rattle.context_block.specs.Promises.{Holds, endpointReads}
 use Rattle.context.specs.Place.{readAt}

@@ -16,7 +16,7 @@ use Rattle.device_image.specs.Fits.{Fits}
 use Rattle.device_image.proofs.Laws.{image-encode, decode-encode}
 use Rattle.xhci_device.specs.Crossed.{Crossed, answeredOf, crossed, CrossedAs}
 use Rattle.theorem_slot.specs.Call.{Buffers, Asked, bringsUp, claims, commits, releases, configures, updatesHub, disconnects, left}
-use Rattle.theorem_slot.specs.Rings.{first, OfRecord}
+use Rattle.theorem_slot.specs.Rings.{first}
 use Rattle.theorem_slot.specs.Theorem.{State, recordAfter, called, after, Turns, start}
 use Rattle.theorem_slot.proofs.Demand3.{kept-by-number}
 use Rattle.theorem_slot.proofs.Rings.{given-parted, records-groups}

@@ -27,7 +27,7 @@ use Rattle.record_endpoint.specs.declared.endpoint_map.Owner.{Owner}
 use Rattle.record_endpoint.specs.declared.endpoint_map.Owner.the-variants.{Interface}
 use Rattle.record_endpoint.proofs.Laws.{dci-place, dci-low, dci-high, owned-at, owned-zero, claimed-ring, pending-at, word-at, wordDcis as endpointDcis, queues-name, queues-other, queues-ring, queues-small}
 use Rattle.record_settings.specs.Match.{hasPlace, addressesFree}
-use Rattle.record_settings.proofs.Laws.{each-at, each-if, free-at, pending-place}
+use Rattle.record_settings.proofs.Laws.{free-at, pending-place}
 use Rattle.theorem_routing.specs.Routing.{InTable, RoutedBy, NamedBy, Rerouted}
 
 -- What holds of the Dci at each place holds of each Dci of a device context but 0 and control's.

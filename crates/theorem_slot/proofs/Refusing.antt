@@ -1,5 +1,5 @@
 -- Calls on a record that is neither usable nor up: each is refused with 12 and changes nothing.
-use mathlib.Core.Path.{_≡_, refl, _∙_, ap}
+use mathlib.Core.Path.{_≡_, refl, ap}
 use mathlib.Core.Bool.{Bool, true, false}
 use mathlib.Core.List.{List}
 use Rattle.laws.proofs.Tests.{not-both}
@@ -15,7 +15,7 @@ use Rattle.device.specs.Release.{release}
 use Rattle.device.specs.SetConfiguration.{setConfiguration}
 use Rattle.device.specs.Disconnect.{disconnect}
 use Prim.Native.Nat.{ℕ}
-use Rattle.theorem_slot.specs.Call.{Buffers, Asked, bringsUp, claims, commits, releases, configures, updatesHub, disconnects, Call, left, contextCut}
+use Rattle.theorem_slot.specs.Call.{Buffers, Asked, bringsUp, claims, commits, releases, configures, updatesHub, disconnects, left, contextCut}
 use Rattle.theorem_slot.specs.Answers.{isBringUp}
 use Rattle.theorem_slot.specs.Plain.{effectOf}
 use Rattle.theorem_slot.specs.Theorem.{State, recordAfter, called}

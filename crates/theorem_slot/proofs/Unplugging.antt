@@ -1,9 +1,9 @@
 -- What the answers of an unplugging say.
-use Prim.Native.Nat.{ℕ, suc, _+_, _*_, _<_, _≤_}
+use Prim.Native.Nat.{ℕ, suc, _+_}
 use mathlib.Core.Path.{_≡_, refl, sym, ap, _∙_}
-use mathlib.Core.Bool.{Bool, true, false, _&&_}
-use mathlib.Core.List.{List, [], _∷_}
-use mathlib.Core.Logic.{_⊎_, inl, inr, ⊎-elim}
+use mathlib.Core.Bool.{true, _&&_}
+use mathlib.Core.List.{List}
+use mathlib.Core.Logic.{inl, inr}
 use native.Mathlib.Omega.{arith}
 use lib.ListN.{length}
 use Rattle.laws.proofs.Tests.{not-both}
@@ -13,24 +13,23 @@ use Rattle.answer.specs.declared.Check.{Check}
 use Rattle.answer.specs.declared.Check.the-variants.{Pass, Refuse}
 use Rattle.answer.specs.Answer.{number, isAccepted, isBroken, isLost}
 use Rattle.command.specs.Command.{outcomeAt}
-use Rattle.command.specs.Course.{Course, result, played}
+use Rattle.command.specs.Course.{result, played}
 use Rattle.transfer.specs.Routes.{routeOf, withoutSlot}
 use Rattle.transfer.proofs.Laws.{without-own}
 use Rattle.record_ring.specs.Rings.{entered}
 use Rattle.record_ring.proofs.Entered.{entered-again}
 use Rattle.record_endpoint.specs.declared.endpoint_map.EndpointMap.{EndpointMap}
 use Rattle.record_endpoint.specs.declared.endpoint_map.Owner.the-variants.{Any}
-use Rattle.record_endpoint.specs.EndpointMap.{noEndpoints, queuesOf, queueDcis, queueRings}
+use Rattle.record_endpoint.specs.EndpointMap.{noEndpoints, queuesOf, queueDcis}
 use Rattle.record_endpoint.proofs.Laws.{active-rings}
 use Rattle.theorem_routing.proofs.Laws.{no-queues}
 use Rattle.theorem_controller.specs.Controller.{isDone}
-use Rattle.course_steps.specs.End.{End, settingsKept, settingsMoved}
+use Rattle.course_steps.specs.End.{End, settingsMoved}
 use Rattle.course_steps.proofs.Laws.{length-dcis}
 use Rattle.course_disconnect.specs.Disconnect.{disconnectCourse}
 use Rattle.course_disconnect.proofs.Ends.{Ended, disconnect-ends, disconnect-accepted}
 use Rattle.device.specs.declared.record.Device.{Device}
 use Rattle.device.specs.Device.{endpointMapIn, heldOf, quarantinedOf}
-use Rattle.device.specs.Sound.{sound}
 use Rattle.device.specs.Left.{Left, refused, ended}
 use Rattle.device.specs.Check.{disconnectCheck}
 use Rattle.device.specs.Calls.{onCheck}
@@ -38,7 +37,7 @@ use Rattle.device.specs.Disconnect.{ringsInDoubt, disconnectRecord, disconnect}
 use Rattle.device.proofs.Facts.{sound-facts}
 use Rattle.device.proofs.Disconnected.{up-passed, disconnect-moves, disconnect-stays, disconnect-quarantined, disconnect-cut}
 use Rattle.theorem_slot.specs.Call.{Buffers, disconnects, left}
-use Rattle.theorem_slot.specs.Unplugging.{passes, AcceptedByDisable, Gone, AcceptedLeaves, LostKeeps, LostLeaves, ContextUnwritten, QuarantinedOnce, RingsCounted, SoundRings}
+use Rattle.theorem_slot.specs.Unplugging.{passes, AcceptedByDisable, Gone, AcceptedLeaves, LostKeeps, LostLeaves, ContextUnwritten, QuarantinedOnce, SoundRings}
 use Rattle.theorem_slot.proofs.Ends.{Stayed, unplugging-stayed}
 use Rattle.theorem_slot.proofs.Step.{Mild, MildCheck, refused-mild, mild-disconnect}
 use Rattle.theorem_slot.proofs.Refusing.{down-refuses}

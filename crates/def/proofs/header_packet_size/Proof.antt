@@ -1,9 +1,7 @@
 use native.Mathlib.Omega.{arith}
-use Prim.Native.Nat.{ℕ, _<_}
-use mathlib.Core.Path.{_≡_}
 use mathlib.Core.Logic.{_⊎_, ⊎-elim, inl, inr}
 use borrow.Author.Tests.{eq-eqb, ne-eqb}
-use Rattle.def.specs.Speed.{SUPER, SUPER-PLUS, headerPacketSize}
+use Rattle.def.specs.Speed.{headerPacketSize}
 use Rattle.def.proofs.Laws.{super-true, super-false, exponent-nine}
 use Rattle.def.proofs.header_packet_size.Statement.{statement}
 use Rattle.def.proofs.header_packet_size.Tie as tie

@@ -1,4 +1,4 @@
-use Prim.Native.Nat.{ℕ, _+_, min, max}
+use Prim.Native.Nat.{max}
 use mathlib.Core.Path.{_≡_, _∙_}
 use mathlib.Core.Logic.{⊎-elim}
 use native.Mathlib.Omega.{arith}

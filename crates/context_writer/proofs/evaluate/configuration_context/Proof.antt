@@ -1,4 +1,4 @@
-use mathlib.Core.Path.{refl, _∙_}
+use mathlib.Core.Path.{refl}
 use Rattle.context_block.specs.FieldWrite.{fieldsWritten, inside, allInside}
 use Rattle.context_block.specs.Blocks.{changed}
 use Rattle.context.specs.Steps.{configurationWrites}

@@ -1,7 +1,7 @@
 use mathlib.Core.Path.{refl}
 use native.Mathlib.Nat.{add-sub-cancel-left}
 use native.Mathlib.Omega.{arith}
-use Rattle.context_block.specs.FieldWrite.{fieldsWritten, inside, allInside}
+use Rattle.context_block.specs.FieldWrite.{inside, allInside}
 use Rattle.context_block.specs.Blocks.{changed}
 use Rattle.context.specs.Place.{onPart}
 use Rattle.context.specs.Steps.{hubWrites}

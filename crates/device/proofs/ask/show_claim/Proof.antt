@@ -1,15 +1,13 @@
 use Prim.Native.Nat.{_+_, _≤_}
-use mathlib.Core.Path.{_≡_, refl, sym, ap, _∙_}
-use mathlib.Core.Bool.{true, cond, _&&_}
+use mathlib.Core.Path.{_≡_, refl, sym}
+use mathlib.Core.Bool.{true, cond}
 use mathlib.Core.List.{[]}
 use mathlib.Core.Logic.{inl, inr, ⊎-elim}
 use native.Mathlib.Omega.{arith}
 use lib.ListN.{length, take}
 use lib.Seq.{length-take-le}
 use Rattle.laws.proofs.Tests.{and-left, and-right}
-use Rattle.laws.specs.Distinct.{distinct}
 use Rattle.descriptor_list.proofs.Laws.{found-inside}
-use Rattle.record_ring.specs.Rings.{ringsOk}
 use Rattle.record_ring.proofs.Promises.{given-fits}
 use Rattle.record_settings.specs.Held.{isHeld, alternateOf, settingWords}
 use Rattle.device.specs.Device.{listOf, heldOf, quarantinedOf, givenOf}

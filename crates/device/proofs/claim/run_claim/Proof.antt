@@ -1,5 +1,5 @@
 use Prim.Native.Nat.{_+_, _≤_}
-use mathlib.Core.Path.{_≡_, refl, sym, ap, _∙_}
+use mathlib.Core.Path.{_≡_, refl, sym, ap}
 use mathlib.Core.Bool.{true, cond, _&&_}
 use mathlib.Core.List.{[]}
 use mathlib.Core.Logic.{inl, inr, ⊎-elim}

@@ -1,5 +1,4 @@
 use borrow.Author.Tests.{not-true, not-false}
-use mathlib.Core.Path.{refl}
 use Rattle.answer.specs.Answer.{number}
 use Rattle.device.specs.Device.{withConfiguration}
 use Rattle.device.proofs.Marks.{not-configured}

@@ -1,7 +1,4 @@
 use borrow.Author.Needs.{needs}
-use native.Mathlib.Omega.{arith}
-use lib.ListN.{length, take}
-use Rattle.record_endpoint.specs.Endpoint.{ringsOf}
 use Rattle.record_checks.proofs.Drawn.{drawn-room, drawn-front}
 use Rattle.record_checks.proofs.draw.drawn_in_order.Statement.{statement}
 use Rattle.record_checks.proofs.draw.drawn_in_order.Tie as tie

@@ -1,7 +1,4 @@
 use borrow.Author.Needs.{needs}
-use native.Mathlib.Omega.{arith}
-use lib.ListN.{length, take}
-use Rattle.record_endpoint.specs.Endpoint.{ringsOf}
 use Rattle.record_checks.proofs.Drawn.{drawn-room, drawn-pending}
 use Rattle.record_checks.proofs.draw.drawn_rings.Statement.{statement}
 use Rattle.record_checks.proofs.draw.drawn_rings.Tie as tie

@@ -1,5 +1,4 @@
 use mathlib.Core.Path.{sym, ap, _∙_}
-use mathlib.Core.List.{List}
 use borrow.Author.Tests.{not-true, not-false}
 use Rattle.record_checks.specs.Draw.{checkOf}
 use Rattle.device.specs.Ask.{asking}
