@@ -77,6 +77,8 @@ static uint64_t command(struct xhci_device_command c) {
     return (uint64_t)c.operation << 16 | (uint64_t)c.first << 8 | c.second;
 }
 
+_Static_assert(sizeof(struct xhci_device_asked) == 24, "the size that host/cross/build names");
+
 static struct xhci_device_asked show(const struct request *r, void *b[BUFFERS]) {
     const uint64_t *n = r->number;
     return xhci_device_ask(b[IMAGE], (size_t)r->count[IMAGE], (size_t)n[0], (size_t)n[1], (size_t)n[2], (uint8_t)n[3],

@@ -1,5 +1,22 @@
 //! Where the words of an image stand, by the names of host/include/xhci_device.h. What a record gets from now on is appended:
 //! no word moves.
+//!
+//! ```
+//! use xhci_device::layout::{GIVEN, GIVEN_COUNT, SLOT, WORDS};
+//!
+//! /// The rings that a slot was given, of an image that C has left.
+//! fn given(image: &[u64; WORDS]) -> &[u64] {
+//!     &image[GIVEN..][..image[GIVEN_COUNT] as usize]
+//! }
+//!
+//! # let (mut ctx, mut routes, mut log) = ([0; 1056], [0; 64], [0; 64]);
+//! # let memory = xhci_device::Memory { ctx: &mut ctx, routes: &mut routes, log: &mut log, outcomes: &[0; 64] };
+//! # let args = xhci_device::BringUp { slot: xhci_device::SlotId(1), n: 1, speed: 3, parent: None, port: 1,
+//! #     root_port: 1, rings: &[0x1000, 0x2000], header: 8, packet: 64, value: 0, hubs: &[],
+//! #     list: &[0x0040_0000, 0x4000_0000, 0xA384_0410] };
+//! # let (record, _, _) = xhci_device::Record::bring_up(memory, &args);
+//! assert_eq!((record.words()[SLOT], given(record.words())), (1, [0x1000, 0x2000].as_slice()));
+//! ```
 
 // Flags: 0 or 1.
 /// 01's mark: whether calls may use the record.

@@ -28,7 +28,7 @@ pub use record::{Configuration, Endpoint, Record, Setting};
 /// The version of this crate and of the header for C.
 pub const VERSION: &str = env!("CARGO_PKG_VERSION");
 
-/// A device slot.
+/// A device slot: the number that Enable Slot gave. [`route_index`] shows where its routes stand.
 #[derive(Clone, Copy, Debug, PartialEq, Eq, PartialOrd, Ord, Hash)]
 pub struct SlotId(pub u8);
 

@@ -4,13 +4,20 @@ use core::fmt;
 
 use crate::library;
 
-/// How many words the reader is lent at least.
+/// How many words the reader, [`read_descriptors`], is lent at least.
 pub const READ_WORDS: usize = 256;
 
-/// How many bytes the writer is lent at least.
+/// How many bytes the writer, [`write_descriptors`], is lent at least.
 pub const WRITE_BYTES: usize = 2304;
 
 /// Why descriptors were not read or written. Nothing that was lent has changed.
+///
+/// ```
+/// use xhci_device::{READ_WORDS, read_descriptors};
+///
+/// let refusal = read_descriptors(&[9, 2, 25], &mut [0; READ_WORDS]).unwrap_err();
+/// assert_eq!((refusal.number(), refusal.to_string().as_str()), (20, "the descriptors are malformed"));
+/// ```
 #[derive(Clone, Copy, Debug, PartialEq, Eq)]
 pub enum RawRefusal {
     /// Less than `READ_WORDS` words or `WRITE_BYTES` bytes are lent.

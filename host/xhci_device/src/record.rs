@@ -44,6 +44,23 @@ pub struct Record {
 }
 
 /// An endpoint of a record, with the interface that owns it.
+///
+/// ```
+/// use xhci_device::{Dci, Endpoint, Setting};
+///
+/// # let (mut ctx, mut routes, mut log) = ([0; 1056], [0; 64], [0; 64]);
+/// # let memory = xhci_device::Memory { ctx: &mut ctx, routes: &mut routes, log: &mut log, outcomes: &[0; 64] };
+/// # let args = xhci_device::BringUp { slot: xhci_device::SlotId(1), n: 1, speed: 3, parent: None, port: 1,
+/// #     root_port: 1, rings: &[0x1000, 0x2000], header: 8, packet: 64, value: 0, hubs: &[],
+/// #     list: &[0x0040_0000, 0x4000_0000, 0xA384_0410] };
+/// # let (mut record, _, _) = xhci_device::Record::bring_up(memory, &args);
+/// # let memory = xhci_device::Memory { ctx: &mut ctx, routes: &mut routes, log: &mut log, outcomes: &[0; 64] };
+/// # record.claim(memory, 0, 0);
+/// assert!(record.held().eq([Setting { interface: 0, alternate: 0 }]));
+/// let endpoint = record.endpoints().next().unwrap();
+/// assert_eq!(endpoint, Endpoint { address: 0x81, interface: 0, ring: 0x2000, active: true });
+/// assert_eq!(endpoint.dci(), Dci(3));
+/// ```
 #[derive(Clone, Copy, Debug, PartialEq, Eq)]
 pub struct Endpoint {
     /// The endpoint number, and 0x80 for IN.
@@ -63,7 +80,7 @@ impl Endpoint {
     }
 }
 
-/// A held setting.
+/// A held setting ([`Endpoint`] shows one).
 #[derive(Clone, Copy, Debug, PartialEq, Eq)]
 pub struct Setting {
     /// The interface.
@@ -73,6 +90,21 @@ pub struct Setting {
 }
 
 /// The value of a configuration that was read or set.
+///
+/// ```
+/// use xhci_device::{Answer, Configuration, Memory, Record};
+///
+/// assert_eq!(Record::new().configuration(), None);
+/// # let (mut ctx, mut routes, mut log) = ([0; 1056], [0; 64], [0; 64]);
+/// # let memory = xhci_device::Memory { ctx: &mut ctx, routes: &mut routes, log: &mut log, outcomes: &[0; 64] };
+/// # let args = xhci_device::BringUp { slot: xhci_device::SlotId(1), n: 1, speed: 3, parent: None, port: 1,
+/// #     root_port: 1, rings: &[0x1000, 0x2000], header: 8, packet: 64, value: 0, hubs: &[],
+/// #     list: &[0x0040_0000, 0x4000_0000, 0xA384_0410] };
+/// # let (mut record, _, _) = xhci_device::Record::bring_up(memory, &args);
+/// let memory = Memory { ctx: &mut ctx, routes: &mut routes, log: &mut log, outcomes: &[0; 64] };
+/// assert_eq!(record.set_configuration(memory, 0), (Answer::Accepted, 3)); // no longer configured
+/// assert_eq!(record.configuration(), Some(Configuration(0)));
+/// ```
 #[derive(Clone, Copy, Debug, PartialEq, Eq)]
 pub struct Configuration(pub u8);
 

@@ -1,4 +1,4 @@
-//! docs/BEHAVIOUR.md, and the ten lists of docs/THEOREM.md, held against the proved library: pictures, examples and
+//! docs/BEHAVIOUR.md, and the sixteen lists of docs/THEOREM.md, held against the proved library: pictures, examples and
 //! tables are read out of the pages.
 #![forbid(unsafe_code)]
 
@@ -49,7 +49,7 @@ const CHECKED: [&str; 37] = [
     "course unplugging",
     "course unplugging again",
     "sound",
-    "ten lists",
+    "sixteen lists",
 ];
 
 #[test]
