@@ -1,8 +1,10 @@
 use mathlib.Core.Path.{refl, _∙_}
 use native.Mathlib.Omega.{arith}
 use Rattle.command.specs.Course.{onSent}
-use Rattle.command.proofs.Phases.{Begins, continued, went-on, swept-on}
-use Rattle.course_steps.proofs.Laws.{dcis-in, ended, room-same}
+use Rattle.command.specs.Sweep.{orCode}
+use Rattle.command.proofs.Phases.{Begins, continued, went-on}
+use Rattle.course_steps.specs.End.{answerOf}
+use Rattle.course_steps.proofs.Laws.{room-same, ended, ended-resumed}
 use Rattle.course_claim.specs.Claim.{claimContext, claimResume, claimConfigure}
 use borrow.Author.Needs.{needs}
 use Rattle.course_claim.proofs.configure.Statement.{statement}
@@ -81,9 +83,9 @@ returns-2 c =
     let c8 = c5 .before .before .before in
     let c12 = c8 .before .before .before .before in
     let c16 = c12 .before .before .before .before in
-    went-on _ _ _ _ _ refl (c12 .send .ensures) (c8 .s .given .1) (rw (← c16 .prepare-configure .ensures, dcis-in) (swept-on _ _ _ _ _
-    (c5 .resume-stopped-endpoints .ensures _) refl (ended _ (c .settings-kept .ensures ∙ rw
-    (c .before .answer-of .ensures, c .before .before .or-code .ensures)))))
+    went-on _ _ _ _ _ refl (c12 .send .ensures) (c8 .s .given .1) (rw (← c16 .prepare-configure .ensures)
+    (ended-resumed _ _ _ _ (λ s. answerOf (orCode _ s)) (c5 .resume-stopped-endpoints .ensures _)
+    (c .settings-kept .ensures ∙ rw (c .before .answer-of .ensures, c .before .before .or-code .ensures))))
 
 same-length-6 : tie.Need-same-length-6
 same-length-6 c = search needs

@@ -1,9 +1,9 @@
 use mathlib.Core.Path.{_≡_, refl, _∙_}
-use mathlib.Core.List.{List, []}
 use native.Mathlib.Omega.{arith}
 use Rattle.command.specs.Course.{onSent}
-use Rattle.command.proofs.Phases.{Begins, continued, went-on, swept-on}
-use Rattle.course_steps.proofs.Laws.{dcis-in, ended}
+use Rattle.command.proofs.Phases.{Begins, continued, went-on}
+use Rattle.course_steps.specs.End.{configureFailed}
+use Rattle.course_steps.proofs.Laws.{ended, ended-resumed}
 use Rattle.course_release.specs.Release.{releaseOf, releaseContext, releaseResume, releaseConfigure}
 use borrow.Author.Needs.{needs}
 use Rattle.course_release.proofs.configure.Statement.{statement}
@@ -87,9 +87,9 @@ returns-2 c =
     let c4 = c .before .before .before .before in
     let c7 = c4 .before .before .before in
     let c11 = c7 .before .before .before .before in
-    went-on _ _ _ _ _ refl (c11 .send .ensures) (c7 .s .given .1) (rw (← prepared (c11 .before .before .before .before), dcis-in)
-    (swept-on _ _ _ _ _ (c4 .resume-stopped-endpoints .ensures _) refl
-    (ended _ (c .settings-kept .ensures ∙ rw (c .before .configure-failed .ensures)))))
+    went-on _ _ _ _ _ refl (c11 .send .ensures) (c7 .s .given .1) (rw (← prepared (c11 .before .before .before .before))
+    (ended-resumed _ _ _ _ (configureFailed _) (c4 .resume-stopped-endpoints .ensures _)
+    (c .settings-kept .ensures ∙ rw (c .before .configure-failed .ensures))))
 
 same-length-6 : tie.Need-same-length-6
 same-length-6 c = search needs
