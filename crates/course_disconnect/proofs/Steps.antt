@@ -1,6 +1,6 @@
 -- The loop that stops endpoints past failures, and the exits of the course.
 use Prim.Native.Nat.{ℕ, _+_, _<_, _≤_}
-use mathlib.Core.Path.{_≡_, refl, ap, _∙_}
+use mathlib.Core.Path.{_≡_, refl, sym, ap, _∙_}
 use mathlib.Core.Bool.{Bool, true, false, cond}
 use mathlib.Core.List.{List, [], _∷_}
 use native.Mathlib.Nat.{add-zero}
@@ -12,18 +12,17 @@ use lib.ListN.{length, getD, drop, set, length-take, drop-of-length-le}
 use lib.Seq.{drop-cons, getD-take}
 use Rattle.answer.specs.declared.Answer.the-variants as answer
 use Rattle.command.proofs.Sent.{the-type}
-use Rattle.command.specs.declared.Command.the-variants as command
 use Rattle.command.specs.declared.Sent.{Sent}
 use Rattle.command.specs.declared.Sent.the-variants.{Done, Failed, Cut}
 use Rattle.command.specs.Command.{commandWord, outcomeAt, stopCommand}
-use Rattle.command.specs.Course.{Course, ends, sends, onSent, then, words, Played, played}
+use Rattle.command.specs.Course.{Course, ends, onSent, then, words, Played, played}
 use Rattle.command.specs.Sweep.{stopEach}
 use Rattle.command.proofs.Laws.{played-ends, played-sends, played-then}
+use Rattle.command.proofs.Phases.{Begins, continued, went-on}
 use Rattle.command.proofs.Sweeps.{words-length-stop-each}
 use Rattle.record_endpoint.specs.declared.pending.Queues.{Queues}
-use Rattle.transfer.specs.Routes.{withoutSlot}
 use Rattle.course_steps.specs.Arrays.{dcisIn}
-use Rattle.course_steps.specs.End.{End, settingsKept, settingsMoved}
+use Rattle.course_steps.specs.End.{End, settingsKept}
 use Rattle.course_disconnect.specs.declared.Stops.{Stops}
 use Rattle.course_disconnect.specs.Disconnect.{stopsLeave, disable, disconnectCourse}
 
@@ -43,7 +42,7 @@ pub stops-start : (q : Queues) (o log ctx : List ℕ) (n : ℕ) →
 stops-start q o log ctx n = rw add-zero
 
 module _ (q : Queues) (o log log′ ctx : List ℕ) (n i : ℕ) (s : Sent) (room : length (q .dcis) ≡ 30) (few : q .count ≤ 30) (h : i < q .count)
-    (es : s ≡ outcomeAt o (n + i)) (el : log′ ≡ set log (n + i) (commandWord (stopCommand (getD (q .dcis) i 0)))) where
+    (sent-as : (s ≡ outcomeAt o (n + i)) × (log′ ≡ set log (n + i) (commandWord (stopCommand (getD (q .dcis) i 0))))) where
   rest : drop i (dcisIn q) ≡ getD (q .dcis) i 0 ∷ drop (i + 1) (dcisIn q)
   unfolding dcisIn
   rest =
@@ -55,7 +54,7 @@ module _ (q : Queues) (o log log′ ctx : List ℕ) (n i : ℕ) (s : Sent) (room
       played o (n + i + 1)
       (onSent s (stopEach ctx (drop (i + 1) (dcisIn q))) (λ code. stopEach ctx (drop (i + 1) (dcisIn q))) (ends true)) log′
   unfolding stopEach
-  turn = rw (rest, el, es) (played-sends _ _ _ _ _ _)
+  turn = rw (rest, sent-as .1, sent-as .0) (played-sends _ _ _ _ _ _)
 
   -- A turn of it.
   pub stops-next : OneOf uncut (tagOf the-type s) →
@@ -85,63 +84,14 @@ stops-count q o log left n r e =
     let c : r .count ≡ n + length (words o n (stopEach [] (dcisIn q))) = ap (λ p. p .count) e in
     omega (arith, c, words-length-stop-each o [] (dcisIn q) n, length-take (q .count) (q .dcis))
 
--- Disable.
-module _ (o log log′ ctx routes : List ℕ) (n slot : ℕ) (s : Sent) (es : s ≡ outcomeAt o n)
-    (el : log′ ≡ set log n (commandWord command.Disable)) where
-  disabled : played o n (disable slot ctx routes) log ≡
-      record {
-        end =
-            onSent s
-            (settingsMoved answer.Accepted ctx (withoutSlot routes slot))
-            (λ code. settingsKept answer.InterfaceBroken 0 ctx routes)
-            (settingsKept answer.Cut 0 ctx routes);
-        count = n + 1;
-        log = log′;
-      }
-  unfolding disable
-  disabled = rw (el, es) (played-sends _ _ _ _ _ _ ∙ played-ends _ _ _ _)
-
-  pub disable-done : s ≡ Done → played o n (disable slot ctx routes) log ≡
-      record { end = settingsMoved answer.Accepted ctx (withoutSlot routes slot); count = n + 1; log = log′ }
-  unfolding onSent
-  disable-done e = disabled ∙ rw e
-
-  pub disable-failed : (code : ℕ) → s ≡ Failed code → played o n (disable slot ctx routes) log ≡
-      record { end = settingsKept answer.InterfaceBroken 0 ctx routes; count = n + 1; log = log′ }
-  unfolding onSent
-  disable-failed code e = disabled ∙ rw e
-
-  pub disable-cut : s ≡ Cut → played o n (disable slot ctx routes) log ≡
-      record { end = settingsKept answer.Cut 0 ctx routes; count = n + 1; log = log′ }
-  unfolding onSent
-  disable-cut e = disabled ∙ rw e
-
--- The whole course.
-after : ℕ → List ℕ → List ℕ → Bool → Course End
-after slot ctx routes cut = cond cut (ends (settingsKept answer.Cut 0 ctx routes)) (disable slot ctx routes)
-
-module _ (o log log′ ctx routes : List ℕ) (slot : ℕ) (dcis : List ℕ) (s : Sent) (es : s ≡ outcomeAt o 0)
-    (el : log′ ≡ set log 0 (commandWord (stopCommand 1))) where
-  begun : played o 0 (disconnectCourse slot dcis ctx routes) log ≡
-      played o 1 (then (onSent s (stopEach ctx dcis) (λ code. stopEach ctx dcis) (ends true)) (after slot ctx routes)) log′
-  unfolding disconnectCourse stopEach then after
-  begun = rw (el, es) (played-sends _ _ _ _ _ _)
-
-  pub control-cut : s ≡ Cut → played o 0 (disconnectCourse slot dcis ctx routes) log ≡
-      record { end = settingsKept answer.Cut 0 ctx routes; count = 1; log = log′ }
-  unfolding onSent then after
-  control-cut e = begun ∙ rw (e, played-ends)
-
-  module _ (t : OneOf uncut (tagOf the-type s)) (p : Played Bool) (e : p ≡ played o 1 (stopEach ctx dcis) log′) where
-    stopped : played o 0 (disconnectCourse slot dcis ctx routes) log ≡ played o (p .count) (after slot ctx routes (p .end)) (p .log)
-    stopped = begun ∙ rw (past-failure s (stopEach ctx dcis) (ends true) t, e) (played-then o 1 (stopEach ctx dcis) (after slot ctx routes) log′)
-
-    pub stops-were-cut : p .end ≡ true → played o 0 (disconnectCourse slot dcis ctx routes) log ≡
-        record { end = settingsKept answer.Cut 0 ctx routes; count = p .count; log = p .log }
-    unfolding after
-    stops-were-cut c = stopped ∙ rw (c, played-ends)
-
-    pub then-disable : p .end ≡ false → played o 0 (disconnectCourse slot dcis ctx routes) log ≡
-        played o (p .count) (disable slot ctx routes) (p .log)
-    unfolding after
-    then-disable c = stopped ∙ rw c
+-- The whole course, where control's Stop is not cut: what is left of it after the other stops.
+module _ (o log log′ ctx routes : List ℕ) (slot : ℕ) (dcis : List ℕ) (s : Sent) (p : Played Bool) where
+  pub stopped : {x : Played End} → (s ≡ outcomeAt o 0) × (log′ ≡ set log 0 (commandWord (stopCommand 1))) →
+      OneOf uncut (tagOf the-type s) → p ≡ played o 1 (stopEach ctx dcis) log′ →
+      x ≡ played o (p .count) (cond (p .end) (ends (settingsKept answer.Cut 0 ctx routes)) (disable slot ctx routes)) (p .log) →
+      x ≡ played o 0 (disconnectCourse slot dcis ctx routes) log
+  unfolding disconnectCourse stopEach then Begins continued
+  stopped {x} sent-as t e h =
+      let after : Bool → Course End = λ cut. cond cut (ends (settingsKept answer.Cut 0 ctx routes)) (disable slot ctx routes) in
+      let next : x ≡ played o 1 (then (stopEach ctx dcis) after) log′ = rw (played-then, ← e) h in
+      went-on o log 0 _ _ refl sent-as refl (next ∙ ap (λ c. played o 1 (then c after) log′) (sym (past-failure s _ (ends true) t)))

@@ -24,6 +24,7 @@ use Rattle.command.specs.declared.Sent.the-variants as sent
 use Rattle.command.specs.Command.{commandWord, outcomeAt}
 use Rattle.command.specs.Course.{Course, ends, onSent, Played, played}
 use Rattle.command.proofs.Laws.{played-ends, played-sends, played-then}
+use Rattle.command.proofs.Phases.{Begins, continued, went-on}
 use Rattle.hub.specs.Route.{routeString}
 use Rattle.hub.specs.Translator.{translatorOf}
 use Rattle.context.specs.Place.{written, Spaced}
@@ -92,8 +93,8 @@ module _
   module _ (read : Reading) (ctx routes : List ℕ) (next : Course Brought) where
     -- it is done
     pub done : s ≡ sent.Done → played o n (step c read ctx routes next) log ≡ played o (n + 1) next left
-    unfolding step onSent
-    done d = rw (played-sends, ← sent-as .0, ← sent-as .1, d)
+    unfolding step onSent Begins continued
+    done d = sym (went-on o log n c (step c read ctx routes next) refl sent-as d refl)
 
     -- or not
     stopped : NotDone s →
@@ -252,7 +253,7 @@ pub accepted : (a : Answer) → a ≡ answer.Accepted → isAccepted a ≡ true
 unfolding number
 accepted a e = rw e
 
--- The exits of the whole: what is read with the header, and then with the packet size.
+-- What is left of the whole where the header was read, and then the descriptors.
 module _
     (a : BringUp) (spacing : ℕ) (o ctx routes log : List ℕ) (ctx₁ log₁ : List ℕ) (r : InitEnd)
     (addressed :
@@ -262,45 +263,35 @@ module _
     (header :
     played o 0 (step command.Address nothingRead ctx₁ routes (bringUpHeader a spacing ctx₁ routes)) log
     ≡ orEnded r (a .list) ctx₁ routes log₁ (played o 2 (bringUpPacket a spacing ctx₁ routes) log₁)) where
-  to-header : {p : Played Brought} →
-      p ≡ played o 0 (step command.Address nothingRead ctx₁ routes (bringUpHeader a spacing ctx₁ routes)) log →
-      p ≡ played o 0 (bringUpAddress a spacing ctx routes) log
+  pub header-read :
+      played o 0 (bringUpAddress a spacing ctx routes) log
+      ≡ orEnded r (a .list) ctx₁ routes log₁ (played o 2 (bringUpPacket a spacing ctx₁ routes) log₁)
   unfolding bringUpAddress
-  to-header e = rw (← addressed) e
+  header-read = rw (← addressed) header
 
-  pub not-addressed : Refused (r .answer) →
-      leavesRead r (a .list) ctx₁ routes log₁ ≡ played o 0 (bringUpAddress a spacing ctx routes) log
-  not-addressed h = to-header (ends-here r (a .list) ctx₁ routes log₁ _ h header)
+module _ (a : BringUp) (spacing : ℕ) (o routes ctx log : List ℕ) (t : InitEnd) where
+  -- the descriptors, where the header was accepted over this context
+  pub descriptors-read : {p : Played Brought} (before logged : List ℕ) (r : InitEnd) →
+      p ≡ orEnded r (a .list) before routes logged (played o 2 (bringUpPacket a spacing before routes) logged) →
+      r .answer ≡ answer.Accepted → ctx ≡ written spacing (maxPacketWrites (a .speed) (a .packet)) before →
+      played o 2 (step command.Evaluate nothingRead ctx routes (bringUpConfiguration a spacing ctx routes)) logged
+      ≡ orEnded t (a .list) ctx routes log (afterRead t o a spacing ctx routes log) →
+      p ≡ orEnded t (a .list) ctx routes log (afterRead t o a spacing ctx routes log)
+  unfolding bringUpPacket
+  descriptors-read before logged r e ok packet d = goes-on r (a .list) before routes logged _ ok e ∙ rw (← packet) d
 
-  module _
-      (ok : r .answer ≡ answer.Accepted) (ctx₂ log₂ : List ℕ) (t : InitEnd)
-      (packet : ctx₂ ≡ written spacing (maxPacketWrites (a .speed) (a .packet)) ctx₁)
-      (descriptors :
-      played o 2 (step command.Evaluate nothingRead ctx₂ routes (bringUpConfiguration a spacing ctx₂ routes)) log₁
-      ≡ orEnded t (a .list) ctx₂ routes log₂ (afterRead t o a spacing ctx₂ routes log₂)) where
-    to-packet : played o 0 (bringUpAddress a spacing ctx routes) log
-        ≡ orEnded t (a .list) ctx₂ routes log₂ (afterRead t o a spacing ctx₂ routes log₂)
-    unfolding bringUpPacket
-    to-packet = sym (to-header (sym (goes-on r (a .list) ctx₁ routes log₁ _ ok header ∙ rw (← packet) descriptors)))
+  module _ {p : Played Brought} (e : p ≡ orEnded t (a .list) ctx routes log (afterRead t o a spacing ctx routes log))
+      (read : t .answer ≡ answer.Accepted) where
+    -- there is no configuration
+    pub none-to-set : length (a .list) ≡ 0 → leavesRead t (a .list) ctx routes log ≡ p
+    unfolding afterRead
+    none-to-set n = sym (goes-on t (a .list) ctx routes log _ read e ∙ rw (eq-eqb (length (a .list)) 0 n))
 
-    pub not-read : Refused (t .answer) →
-        leavesRead t (a .list) ctx₂ routes log₂ ≡ played o 0 (bringUpAddress a spacing ctx routes) log
-    not-read h = ends-here t (a .list) ctx₂ routes log₂ _ h to-packet
-
-    module _ (read : t .answer ≡ answer.Accepted) where
-      -- there is no configuration
-      pub none-to-set : length (a .list) ≡ 0 →
-          leavesRead t (a .list) ctx₂ routes log₂ ≡ played o 0 (bringUpAddress a spacing ctx routes) log
-      unfolding afterRead
-      none-to-set e =
-          sym (goes-on t (a .list) ctx₂ routes log₂ _ read to-packet ∙ rw (eq-eqb (length (a .list)) 0 e))
-
-      -- or there is one
-      pub first-set : {p : Played Brought} → 0 < length (a .list) → p ≡ played o (t .count) (bringUpSet a spacing ctx₂ routes) log₂ →
-          p ≡ played o 0 (bringUpAddress a spacing ctx routes) log
-      unfolding afterRead
-      first-set h e =
-          e
-          ∙ sym
-          (goes-on t (a .list) ctx₂ routes log₂ _ read to-packet
-          ∙ rw (ne-eqb (length (a .list)) 0 (λ (z : length (a .list) ≡ 0). omega (arith, z))))
+    -- or there is one
+    pub first-set : {q : Played Brought} → 0 < length (a .list) → q ≡ played o (t .count) (bringUpSet a spacing ctx routes) log → q ≡ p
+    unfolding afterRead
+    first-set h s =
+        s
+        ∙ sym
+        (goes-on t (a .list) ctx routes log _ read e
+        ∙ rw (ne-eqb (length (a .list)) 0 (λ (z : length (a .list) ≡ 0). omega (arith, z))))

@@ -24,7 +24,7 @@ use Rattle.course_steps.specs.Arrays.{courseLeaves}
 use Rattle.course_steps.proofs.Laws.{dcis-in}
 use Rattle.course_set_configuration.specs.declared.run.SettingsArgs.{SettingsArgs}
 use Rattle.course_set_configuration.specs.Parts.{resumed}
-use Rattle.course_set_configuration.specs.SetConfiguration.{Settings, settingsOf, dropContext, restoreContext, valueContext, setEvaluate, setPublished, setPublish, setRestored, setRestore, setSwitch, setResume, setConfigure}
+use Rattle.course_set_configuration.specs.SetConfiguration.{Settings, settingsOf, valueContext, setEvaluate, setPublished, setPublish, setRestored, setResume}
 
 -- The endpoints are resumed.
 module _ (a : SettingsArgs) (list ctx routes o log : List ℕ) (n code : ℕ) where
@@ -56,74 +56,6 @@ module _ (a : SettingsArgs) (list ctx routes o log : List ℕ) (n code : ℕ) wh
       p ≡ played o n (setRestored (settingsOf a list) code ctx routes) log
   unfolding resumed setRestored
   resumed-restored e = e ∙ rw (dcis-in, played-then, played-then, restored-as)
-
--- The Configure that drops the endpoints.
-module _
-    (a : Settings) (o ctx routes log : List ℕ) (n : ℕ) (next left : List ℕ) (s : Sent) (given : next ≡ dropContext a ctx)
-    (sent-as : (s ≡ outcomeAt o n) × (left ≡ set log n (commandWord command.Configure))) where
-  module _ {p : Played End} where
-    -- it is done
-    pub configured : s ≡ sent.Done → p ≡ played o (n + 1) (setSwitch a next routes) left →
-        p ≡ played o n (setConfigure a ctx routes) log
-    unfolding setConfigure onSent
-    configured d e = rw (played-sends, ← sent-as .0, ← sent-as .1, ← given, d) e
-
-    -- fails
-    pub not-configured : (code : ℕ) → s ≡ sent.Failed code → p ≡ played o (n + 1) (setResume a code next routes) left →
-        p ≡ played o n (setConfigure a ctx routes) log
-    unfolding setConfigure onSent
-    not-configured code d e = rw (played-sends, ← sent-as .0, ← sent-as .1, ← given, d) e
-
-  -- or is cut
-  pub configure-cut : (r : CourseEnd) → s ≡ sent.Cut → r ≡ record { answer = answer.Cut; count = n + 1; active = 0; moved = false } →
-      courseLeaves r next routes left ≡ played o n (setConfigure a ctx routes) log
-  unfolding setConfigure onSent
-  configure-cut r d e = rw (played-sends, ← sent-as .0, ← sent-as .1, ← given, d, played-ends, e)
-
--- The SetConfiguration.
-module _
-    (a : Settings) (o ctx routes log : List ℕ) (n : ℕ) (left : List ℕ) (s : Sent)
-    (sent-as : (s ≡ outcomeAt o n) × (left ≡ set log n (commandWord (command.SetConfiguration (a .value))))) where
-  module _ {p : Played End} where
-    -- it is done
-    pub switched : s ≡ sent.Done → p ≡ played o (n + 1) (setPublish a ctx routes) left → p ≡ played o n (setSwitch a ctx routes) log
-    unfolding setSwitch onSent
-    switched d e = rw (played-sends, ← sent-as .0, ← sent-as .1, d) e
-
-    -- fails
-    pub not-switched : (code : ℕ) → s ≡ sent.Failed code → p ≡ played o (n + 1) (setRestore a code ctx routes) left →
-        p ≡ played o n (setSwitch a ctx routes) log
-    unfolding setSwitch onSent
-    not-switched code d e = rw (played-sends, ← sent-as .0, ← sent-as .1, d) e
-
-  -- or is cut
-  pub switch-cut : (r : CourseEnd) → s ≡ sent.Cut → r ≡ record { answer = answer.Cut; count = n + 1; active = 0; moved = false } →
-      courseLeaves r ctx routes left ≡ played o n (setSwitch a ctx routes) log
-  unfolding setSwitch onSent
-  switch-cut r d e = rw (played-sends, ← sent-as .0, ← sent-as .1, d, played-ends, e)
-
--- The Configure that adds them again.
-module _
-    (a : Settings) (o ctx routes log : List ℕ) (n code : ℕ) (next left : List ℕ) (s : Sent) (given : next ≡ restoreContext a ctx)
-    (sent-as : (s ≡ outcomeAt o n) × (left ≡ set log n (commandWord command.Configure))) where
-  -- it is done
-  pub restored : {p : Played End} → s ≡ sent.Done → p ≡ played o (n + 1) (setRestored a code next routes) left →
-      p ≡ played o n (setRestore a code ctx routes) log
-  unfolding setRestore onSent
-  restored d e = rw (played-sends, ← sent-as .0, ← sent-as .1, ← given, d) e
-
-  -- fails
-  pub not-restored : (r : CourseEnd) (later : ℕ) → s ≡ sent.Failed later →
-      r ≡ record { answer = answer.InterfaceBroken; count = n + 1; active = 0; moved = false } →
-      courseLeaves r next routes left ≡ played o n (setRestore a code ctx routes) log
-  unfolding setRestore onSent
-  not-restored r later d e = rw (played-sends, ← sent-as .0, ← sent-as .1, ← given, d, played-ends, e)
-
-  -- or is cut
-  pub restore-cut : (r : CourseEnd) → s ≡ sent.Cut → r ≡ record { answer = answer.Cut; count = n + 1; active = 0; moved = false } →
-      courseLeaves r next routes left ≡ played o n (setRestore a code ctx routes) log
-  unfolding setRestore onSent
-  restore-cut r d e = rw (played-sends, ← sent-as .0, ← sent-as .1, ← given, d, played-ends, e)
 
 -- The last Evaluate.
 told : (o left next table : List ℕ) (n : ℕ) (s : Sent) →

@@ -9,10 +9,14 @@ use lib.Dec.{eqb, leb, ltb}
 use lib.ListN.{length, drop, getD, length-take}
 use Rattle.laws.proofs.Computed.{all-below}
 use Rattle.laws.proofs.Tests.{and-left, and-right}
+use Rattle.answer.specs.declared.Answer.{Answer}
+use Rattle.command.specs.declared.Sent.{Sent}
 use Rattle.command.specs.declared.Sent.the-variants.{Done}
 use Rattle.command.specs.declared.Swept.{Swept}
-use Rattle.command.specs.Course.{played}
+use Rattle.command.specs.Course.{ends, then, played}
 use Rattle.command.specs.Sweep.{stopEndpoints, resumeStoppedEndpoints, SweptAs}
+use Rattle.command.proofs.Laws.{played-ends}
+use Rattle.command.proofs.Phases.{swept-on}
 use Rattle.command.proofs.Sweeps.{stop-done-count, resume-count}
 use Rattle.context.specs.Place.{Spaced}
 use Rattle.context.specs.Promises.{EndpointDcis}
@@ -20,7 +24,9 @@ use Rattle.record_endpoint.specs.declared.pending.Queues.{Queues}
 use Rattle.record_endpoint.specs.EndpointMap.{gathered, queuesOf, queueDcis, queueRings, QueuesAs}
 use Rattle.record_endpoint.specs.Order.{dciAt}
 use Rattle.transfer.specs.Routes.{Queue, queues}
-use Rattle.course_steps.specs.Arrays.{dcisIn, ringsIn, queuesIn, Room}
+use Rattle.course_steps.specs.declared.CourseEnd.{CourseEnd}
+use Rattle.course_steps.specs.End.{settingsKept}
+use Rattle.course_steps.specs.Arrays.{dcisIn, ringsIn, queuesIn, courseLeaves, Room}
 
 -- the Dcis of queues made of Dcis and rings
 pub dcis-queues : (ds rs : List ℕ) → queueDcis (queues ds rs) ≡ ds
@@ -121,3 +127,19 @@ room-as spacing ctx old all by whole s o a =
 -- and in a context of the same length
 pub room-same : (s m n : ℕ) (old all : Queues) → Room s m old all → n ≡ m → Room s n old all
 room-same s m n old all r e = rw e r
+
+-- what a phase leaves where its course has ended
+pub ended : {log ctx routes : List ℕ} {n active : ℕ} {a : Answer} {moved : Bool} {r : CourseEnd} (o : List ℕ) →
+    r ≡ record { answer = a; count = n; active = active; moved = moved } →
+    courseLeaves r ctx routes log
+    ≡ played o n (ends (record { answer = a; active = active; moved = moved; ctx = ctx; routes = routes })) log
+ended o e = rw (e, played-ends)
+
+-- where it ends with some queues' endpoints resumed
+pub ended-resumed : {left ctx routes : List ℕ} {back : Swept} {r : CourseEnd} (q : Queues) (o log : List ℕ) (n : ℕ) (f : Sent → Answer) →
+    SweptAs back left (played o n (resumeStoppedEndpoints ctx (dcisIn q)) log) →
+    r ≡ record { answer = f (back .sent); count = back .count; active = back .active; moved = false } →
+    courseLeaves r ctx routes left
+    ≡ played o n
+    (then (resumeStoppedEndpoints ctx (queueDcis (queuesIn q))) (λ s. ends (settingsKept (f (s .sent)) (s .active) ctx routes))) log
+ended-resumed q o log n f a e = rw dcis-in (swept-on o log n _ _ a refl (ended o e))

@@ -1,6 +1,9 @@
+use mathlib.Core.Path.{_≡_, refl}
+use mathlib.Core.Bool.{true}
 use borrow.Author.Tests.{not-true, not-false}
-use Rattle.command.proofs.Laws.{played-ends, played-sends}
 use Rattle.command.specs.Course.{onSent}
+use Rattle.command.proofs.Phases.{Begins, continued, went-on}
+use Rattle.course_steps.proofs.Laws.{ended}
 use Rattle.course_claim.specs.Claim.{claimSwitchBack, claimUndone}
 use borrow.Author.Needs.{needs}
 use Rattle.course_claim.proofs.switch_back.Statement.{statement}
@@ -12,7 +15,12 @@ settings-kept-requires c κs = search needs
 returns : tie.Need-returns
 unfolding claimUndone
 returns c =
-    λ old new ctx routes. rw (not-true (c .before .before .before .before .before .args .a .args .held) (c .before .if1 .taken), played-ends, c .before .before .before .before .before .pre .0, c .settings-kept .ensures)
+    let c5 = c .before .before .before .before .before in
+    λ old new ctx routes. rw (not-true (c5 .args .a .args .held) (c .before .if1 .taken), c5 .pre .0) (ended _ (c .settings-kept .ensures))
+
+-- it held a setting
+held : (c : tie.Else1) → c .before .before .before .before .args .a .args .held ≡ true
+held c = not-false (c .before .before .before .before .args .a .args .held) (c .if1 .left)
 
 send-requires : tie.Need-send-requires
 send-requires c κs = search needs
@@ -42,62 +50,32 @@ same-length : tie.Need-same-length
 same-length c = search needs
 
 returns-2 : tie.Need-returns-2
-unfolding claimUndone claimSwitchBack onSent
+unfolding claimUndone claimSwitchBack onSent Begins continued
 returns-2 c =
     let c5 = c .before .before .before .before .before in
     let c7 = c5 .before .before in
-    let c11 = c7 .before .before .before .before in
-    λ old new ctx routes. rw (
-      not-false (c11 .args .a .args .held) (c7 .if1 .left),
-      played-sends,
-      ← c5 .send .ensures .1,
-      ←
-          c5 .send .ensures .0,
-      c .before .enum-told .given .1,
-      played-ends,
-      c11 .pre .0,
-      c .settings-kept2 .ensures,
-    )
+    λ old new ctx routes. rw (held c7) (went-on _ _ _ _ _ refl (c5 .send .ensures) (c .before .enum-told .given .1)
+    (rw (c7 .before .before .before .before .pre .0) (ended _ (c .settings-kept2 .ensures))))
 
 same-length-2 : tie.Need-same-length-2
 same-length-2 c = search needs
 
 returns-3 : tie.Need-returns-3
-unfolding claimUndone claimSwitchBack onSent
+unfolding claimUndone claimSwitchBack onSent Begins continued
 returns-3 c =
     let c5 = c .before .before .before .before .before in
-    let c7 = c5 .before .before in
-    let c11 = c7 .before .before .before .before in
-    λ old new ctx routes. rw (
-      not-false (c11 .args .a .args .held) (c7 .if1 .left),
-      played-sends,
-      ← c5 .send .ensures .1,
-      ←
-          c5 .send .ensures .0,
-      c .before .enum-told2 .given .1,
-      played-ends,
-      c .settings-kept3 .ensures,
-    )
+    λ old new ctx routes. rw (held (c5 .before .before))
+    (went-on _ _ _ _ _ refl (c5 .send .ensures) (c .before .enum-told2 .given .1) (ended _ (c .settings-kept3 .ensures)))
 
 same-length-3 : tie.Need-same-length-3
 same-length-3 c = search needs
 
 returns-4 : tie.Need-returns-4
-unfolding claimUndone claimSwitchBack onSent
+unfolding claimUndone claimSwitchBack onSent Begins continued
 returns-4 c =
     let c5 = c .before .before .before .before .before in
-    let c7 = c5 .before .before in
-    let c11 = c7 .before .before .before .before in
-    λ old new ctx routes. rw (
-      not-false (c11 .args .a .args .held) (c7 .if1 .left),
-      played-sends,
-      ← c5 .send .ensures .1,
-      ←
-          c5 .send .ensures .0,
-      c .before .enum-told3 .given .1,
-      played-ends,
-      c .settings-kept4 .ensures,
-    )
+    λ old new ctx routes. rw (held (c5 .before .before))
+    (went-on _ _ _ _ _ refl (c5 .send .ensures) (c .before .enum-told3 .given .1) (ended _ (c .settings-kept4 .ensures)))
 
 pub switch-back-spec : {M : Type 1} → statement M
 switch-back-spec =

@@ -1,6 +1,9 @@
+use mathlib.Core.Path.{refl}
+use Rattle.command.specs.Course.{onSent}
+use Rattle.command.proofs.Phases.{Begins, continued, went-on}
+use Rattle.course_steps.proofs.Laws.{ended}
+use Rattle.course_disconnect.specs.Disconnect.{disable}
 use borrow.Author.Needs.{needs}
-use mathlib.Core.Path.{sym}
-use Rattle.course_disconnect.proofs.Steps.{disable-done, disable-failed, disable-cut}
 use Rattle.course_disconnect.proofs.disable.Statement.{statement}
 use Rattle.course_disconnect.proofs.disable.Tie as tie
 
@@ -38,19 +41,30 @@ same-length-2 : tie.Need-same-length-2
 same-length-2 c = search needs
 
 returns : tie.Need-returns
-returns c = λ ctx. rw (c .settings-moved .ensures, c .before .before .before .clear-slot .ensures) (sym (disable-done _ _ _ ctx _ _ _ _ (c .before .before .before .before .before .before .before .before .before .send .ensures .0) (c .before .before .before .before .before .before .before .before .before .send .ensures .1) (c .before .before .before .before .before .enum-told .given .1)))
+unfolding disable onSent Begins continued
+returns c =
+    let c3 = c .before .before .before in
+    let c5 = c3 .before .before in
+    let c9 = c5 .before .before .before .before in
+    λ ctx. went-on _ _ _ _ _ refl (c9 .send .ensures) (c5 .enum-told .given .1) (rw (c3 .clear-slot .ensures) (ended _ (c .settings-moved .ensures)))
 
 same-length-3 : tie.Need-same-length-3
 same-length-3 c = search needs
 
 returns-2 : tie.Need-returns-2
-returns-2 c = λ ctx. rw (c .settings-kept .ensures) (sym (disable-failed _ _ _ ctx _ _ _ _ (c .before .before .before .before .before .send .ensures .0) (c .before .before .before .before .before .send .ensures .1) _ (c .before .enum-told2 .given .1)))
+unfolding disable onSent Begins continued
+returns-2 c =
+    let c5 = c .before .before .before .before .before in
+    λ ctx. went-on _ _ _ _ _ refl (c5 .send .ensures) (c .before .enum-told2 .given .1) (ended _ (c .settings-kept .ensures))
 
 same-length-4 : tie.Need-same-length-4
 same-length-4 c = search needs
 
 returns-3 : tie.Need-returns-3
-returns-3 c = λ ctx. rw (c .settings-kept2 .ensures) (sym (disable-cut _ _ _ ctx _ _ _ _ (c .before .before .before .before .before .send .ensures .0) (c .before .before .before .before .before .send .ensures .1) (c .before .enum-told3 .given .1)))
+unfolding disable onSent Begins continued
+returns-3 c =
+    let c5 = c .before .before .before .before .before in
+    λ ctx. went-on _ _ _ _ _ refl (c5 .send .ensures) (c .before .enum-told3 .given .1) (ended _ (c .settings-kept2 .ensures))
 
 pub disable-spec : {M : Type 1} → statement M
 disable-spec =

@@ -1,8 +1,13 @@
-use borrow.Author.Needs.{needs}
-use mathlib.Core.Path.{sym, _∙_}
+use mathlib.Core.Path.{refl}
 use mathlib.Core.List.{[]}
 use native.Mathlib.Omega.{arith}
-use Rattle.course_disconnect.proofs.Steps.{control-cut, stops-count, stops-were-cut, then-disable}
+use Rattle.command.specs.Course.{onSent, then}
+use Rattle.command.specs.Sweep.{stopEach}
+use Rattle.command.proofs.Phases.{Begins, continued, went-on}
+use Rattle.course_steps.proofs.Laws.{ended}
+use Rattle.course_disconnect.specs.Disconnect.{disconnectCourse}
+use Rattle.course_disconnect.proofs.Steps.{stopped, stops-count}
+use borrow.Author.Needs.{needs}
 use Rattle.course_disconnect.proofs.disconnect.Statement.{statement}
 use Rattle.course_disconnect.proofs.disconnect.Tie as tie
 
@@ -25,16 +30,28 @@ same-length : tie.Need-same-length
 same-length c = search needs
 
 returns : tie.Need-returns
-returns c = λ ctx. rw (c .settings-kept2 .ensures) (sym (stops-were-cut _ _ _ ctx _ _ _ _ (c .before .before .before .before .before .before .before .before .before .send .ensures .0) (c .before .before .before .before .before .before .before .before .before .send .ensures .1) (c .before .before .before .before .before .before .match .keys2) _ (c .before .before .before .before .stop-each .ensures ctx) (c .before .if1 .taken)))
+returns c =
+    let c4 = c .before .before .before .before in
+    let c6 = c4 .before .before in
+    let c9 = c6 .before .before .before in
+    λ ctx. stopped _ _ _ ctx _ _ _ _ _ (c9 .send .ensures) (c6 .match .keys2) (c4 .stop-each .ensures ctx)
+    (rw (c .before .if1 .taken) (ended _ (c .settings-kept2 .ensures)))
 
 disable-requires : tie.Need-disable-requires
-disable-requires c κs = let k = stops-count (c .before .before .before .before .before .before .before .before .before .before .before .before .before .before .before .args .q) _ _ _ 1 _ (c .before .before .before .before .before .stop-each .ensures []) in (omega (arith, k, c .before .before .before .before .before .before .before .before .before .before .before .before .before .before .before .pre, c .before .before .before .before .before .stop-each .kept .0, c .before .before .before .before .before .before .before .before .before .before .send .kept .0))
+disable-requires c κs =
+    let c5 = c .before .before .before .before .before in
+    let c10 = c5 .before .before .before .before .before in
+    let s = c10 .before .before .before .before .before in
+    omega (arith, stops-count (s .args .q) _ _ _ 1 _ (c5 .stop-each .ensures []), s .pre, c5 .stop-each .kept .0, c10 .send .kept .0)
 
 same-length-2 : tie.Need-same-length-2
 same-length-2 c = search needs
 
 returns-2 : tie.Need-returns-2
-returns-2 c = λ ctx. rw (c .settings-kept .ensures) (sym (control-cut _ _ _ ctx _ _ _ _ (c .before .before .before .before .before .send .ensures .0) (c .before .before .before .before .before .send .ensures .1) (c .before .enum-told .given .1)))
+unfolding disconnectCourse stopEach then onSent Begins continued
+returns-2 c =
+    let c5 = c .before .before .before .before .before in
+    λ ctx. went-on _ _ _ _ _ refl (c5 .send .ensures) (c .before .enum-told .given .1) (ended _ (c .settings-kept .ensures))
 
 same-length-3 : tie.Need-same-length-3
 same-length-3 c = search needs
@@ -43,7 +60,13 @@ same-length-4 : tie.Need-same-length-4
 same-length-4 c = search needs
 
 returns-3 : tie.Need-returns-3
-returns-3 c = λ ctx. c .before .before .before .before .disable .ensures ctx ∙ sym (then-disable _ _ _ ctx _ _ _ _ (c .before .before .before .before .before .before .before .before .before .before .before .before .before .before .before .send .ensures .0) (c .before .before .before .before .before .before .before .before .before .before .before .before .before .before .before .send .ensures .1) (c .before .before .before .before .before .before .before .before .before .before .before .before .match .keys2) _ (c .before .before .before .before .before .before .before .before .before .before .stop-each .ensures ctx) (c .before .before .before .before .before .before .before .if1 .left))
+returns-3 c =
+    let c4 = c .before .before .before .before in
+    let c10 = c4 .before .before .before .before .before .before in
+    let c12 = c10 .before .before in
+    let c15 = c12 .before .before .before in
+    λ ctx. stopped _ _ _ ctx _ _ _ _ _ (c15 .send .ensures) (c12 .match .keys2) (c10 .stop-each .ensures ctx)
+    (rw (c4 .before .before .before .if1 .left) (c4 .disable .ensures ctx))
 
 pub disconnect-spec : {M : Type 1} → statement M
 disconnect-spec =

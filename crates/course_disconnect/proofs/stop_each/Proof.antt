@@ -39,7 +39,12 @@ same-length : tie.Need-same-length Inv-loop μ-loop
 same-length c = search needs
 
 returns : tie.Need-returns Inv-loop μ-loop
-returns c = λ ctx. sym (c .before .before .before .before .before .before .before .before .loop .inv .3 ctx ∙ stops-cut (c .before .before .before .before .before .before .before .before .before .before .before .args .t4) _ _ _ ctx _ _ _ (c .before .before .before .before .before .before .before .before .loop .inv .2) (c .before .before .before .before .before .before .before .before .before .before .before .pre .0) (c .before .before .before .before .before .before .before .loop-test .taken) (c .before .before .before .before .send .ensures .0) (c .before .before .before .before .send .ensures .1) (c .enum-told .given .1))
+returns c =
+    let c4 = c .before .before .before .before in
+    let c8 = c4 .before .before .before .before in
+    let s = c8 .before .before .before in
+    λ ctx. sym (c8 .loop .inv .3 ctx ∙ stops-cut (s .args .t4) _ _ _ ctx _ _ _ (c8 .loop .inv .2) (s .pre .0)
+    (c4 .before .before .before .loop-test .taken) (c4 .send .ensures) (c .enum-told .given .1))
 
 add-i : tie.Need-add-i Inv-loop μ-loop
 add-i c = search needs
@@ -48,7 +53,16 @@ loop-less : tie.Need-loop-less Inv-loop μ-loop
 loop-less c = search needs
 
 loop-again : tie.Need-loop-again Inv-loop μ-loop
-loop-again c = (search needs, search needs, search needs, λ ctx. c .before .before .before .before .before .before .before .loop .inv .3 ctx ∙ stops-next (c .before .before .before .before .before .before .before .before .before .before .args .t4) _ _ _ ctx _ _ _ (c .before .before .before .before .before .before .before .loop .inv .2) (c .before .before .before .before .before .before .before .before .before .before .pre .0) (c .before .before .before .before .before .before .loop-test .taken) (c .before .before .before .send .ensures .0) (c .before .before .before .send .ensures .1) (c .match .keys2))
+loop-again c =
+    let c3 = c .before .before .before in
+    let c7 = c3 .before .before .before .before in
+    let s = c7 .before .before .before in (
+      search needs,
+      search needs,
+      search needs,
+      λ ctx. c7 .loop .inv .3 ctx ∙ stops-next (s .args .t4) _ _ _ ctx _ _ _ (c7 .loop .inv .2) (s .pre .0)
+          (c3 .before .before .before .loop-test .taken) (c3 .send .ensures) (c .match .keys2),
+    )
 
 add-t19 : tie.Need-add-t19 Inv-loop μ-loop
 add-t19 c = search needs

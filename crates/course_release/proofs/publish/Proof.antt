@@ -7,8 +7,9 @@ use Rattle.answer.specs.declared.Answer.the-variants as answer
 use Rattle.transfer.specs.declared.Replaced.{Replaced}
 use Rattle.transfer.specs.declared.Replaced.the-variants as replace
 use Rattle.transfer.proofs.Replaced.{the-type}
-use Rattle.transfer.specs.Routes.{moved, withReplaced}
+use Rattle.transfer.specs.Routes.{moved, replaced, withReplaced}
 use Rattle.command.proofs.Laws.{played-ends}
+use Rattle.course_steps.specs.Arrays.{queuesIn}
 use Rattle.course_steps.specs.End.{settingsKept}
 use Rattle.course_release.specs.Release.{Release, releasePublished, releasePublish}
 use borrow.Author.Needs.{needs}
@@ -32,6 +33,14 @@ no-queues-requires c κs = search needs
 publish-endpoint-routes-requires : tie.Need-publish-endpoint-routes-requires
 publish-endpoint-routes-requires c κs = search needs
 
+-- The routes of the old endpoints are taken out, and none is put in.
+taken-out :
+    (c : tie.After-publish-endpoint-routes) →
+    let s = c .before .before .before .before in
+    (c .publish-endpoint-routes .result ≡ replaced (s .args .routes .now) (s .args .a .slot .0) (queuesIn (s .args .a .old)) [])
+    × (c .publish-endpoint-routes .last .0 ≡ withReplaced (s .args .routes .now) (s .args .a .slot .0) (queuesIn (s .args .a .old)) [])
+taken-out c = rw (c .before .before .no-queues .ensures .0) at (c .publish-endpoint-routes .ensures)
+
 enum-told : tie.Need-enum-told
 enum-told c = search needs
 
@@ -47,16 +56,8 @@ same-length c = search needs
 returns : tie.Need-returns
 unfolding releasePublish releasePublished
 returns c =
-    let c5 = c .before .before .before .before .before in
-    let c7 = c5 .before .before in
-    let e = c5 .publish-endpoint-routes .ensures in let r = rw (c7 .no-queues .ensures .0) at (e .0) in let t = rw
-    (c7 .no-queues .ensures .0) at (e .1) in λ words o ctx log. rw (
-      played-ends,
-      c .settings-moved .ensures,
-      t,
-      ← r,
-      c .before .enum-told .given .1,
-    )
+    let e = taken-out (c .before .before .before .before .before) in
+    λ words o ctx log. rw (played-ends, c .settings-moved .ensures, e .1, ← e .0, c .before .enum-told .given .1)
 
 same-length-2 : tie.Need-same-length-2
 same-length-2 c = search needs
@@ -64,17 +65,8 @@ same-length-2 c = search needs
 returns-2 : tie.Need-returns-2
 unfolding releasePublish withReplaced
 returns-2 c =
-    let c4 = c .before .before .before .before in
-    let c6 = c4 .before .before in
-    let e = c4 .publish-endpoint-routes .ensures in let r = rw (c6 .no-queues .ensures .0) at (e .0) in let t = rw
-    (c6 .no-queues .ensures .0) at (e .1) in λ words o ctx log. rw (
-      played-ends,
-      c .settings-kept .ensures,
-      t,
-      ← r,
-      kept _ _ _ _
-          (c .before .match .keys2),
-    )
+    let e = taken-out (c .before .before .before .before) in
+    λ words o ctx log. rw (played-ends, c .settings-kept .ensures, e .1, ← e .0, kept _ _ _ _ (c .before .match .keys2))
 
 pub publish-spec : {M : Type 1} → statement M
 publish-spec =

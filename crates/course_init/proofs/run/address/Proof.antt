@@ -1,10 +1,65 @@
-use Rattle.course_init.proofs.Steps.{spaced-same, accepted, not-addressed, not-read, none-to-set, first-set}
-use Rattle.course_init.specs.Reading.{bringUpOf, controlRing}
-use mathlib.Core.Path.{_∙_}
+use Prim.Native.Nat.{ℕ}
+use mathlib.Core.Path.{_≡_, _∙_}
+use mathlib.Core.List.{List}
 use native.Mathlib.Omega.{arith}
+use Rattle.command.specs.Course.{Played, played}
+use Rattle.record_ring.specs.Store.{least}
+use Rattle.course_init.specs.Reading.{BringUp, bringUpOf, controlRing, Brought}
+use Rattle.course_init.specs.Init.{bringUpPacket, bringUpAddress}
+use Rattle.course_init.specs.Parts.{orEnded, afterRead}
+use Rattle.course_init.proofs.Steps.{spaced-same, accepted, ends-here, header-read, descriptors-read, none-to-set, first-set}
 use borrow.Author.Needs.{needs}
 use Rattle.course_init.proofs.run.address.Statement.{statement}
 use Rattle.course_init.proofs.run.address.Tie as tie
+
+-- What is brought up, and what the whole course leaves.
+abbrev bringUp : tie.Start → List ℕ → BringUp
+bringUp s rings = bringUpOf (s .args .a) rings (s .args .hubs .now) (s .args .list .now)
+
+abbrev whole : tie.Start → List ℕ → Played Brought
+whole s rings =
+    played (s .args .outcomes .now) 0
+    (bringUpAddress (bringUp s rings) (s .args .spacing) (s .args .ctx .now) (s .args .routes .now)) (s .args .log .now)
+
+-- The header is read.
+header :
+    (c : tie.After-read-header) (rings : List ℕ) →
+    let ctx = c .before .before .before .before .address-context .last .0 in
+    let s = c .before .before .before .before .before .before .before .before .before .before .before .before .before .before in
+    s .args .ring ≡ least rings →
+    whole s rings
+    ≡ orEnded (c .read-header .result) (s .args .list .now) ctx (s .args .routes .now) (c .read-header .last .0)
+    (played (s .args .outcomes .now) 2 (bringUpPacket (bringUp s rings) (s .args .spacing) ctx (s .args .routes .now))
+    (c .read-header .last .0))
+unfolding controlRing
+header c rings low =
+    let c4 = c .before .before .before .before in
+    let s = c4 .before .before .before .before .before .before .before .before .before .before in
+    header-read (bringUp s rings) (s .args .spacing) (s .args .outcomes .now) (s .args .ctx .now) (s .args .routes .now)
+    (s .args .log .now) (c4 .address-context .last .0) (c .read-header .last .0) (c .read-header .result)
+    (c4 .address-context .ensures ∙ rw (c4 .before .before .before .route-string .ensures, c4 .before .before .transaction-translator .ensures, low))
+    (c .read-header .ensures .1 rings (s .args .hubs .now) (s .args .list .now) (c4 .address-context .last .0)
+    (s .args .routes .now) (s .args .spacing) (s .pre .1 .1))
+
+-- The descriptors are read.
+descriptors :
+    (c : tie.After-read-descriptors) (rings : List ℕ) →
+    let ctx = c .before .before .before .before .setup-max-packet .last .0 in
+    let s = c .before .before .before .before .before .before .before .before .before .before .before .before .before .before .before .before .before .before .before .before .before .before .before .before in
+    s .args .ring ≡ least rings →
+    whole s rings
+    ≡ orEnded (c .read-descriptors .result) (s .args .list .now) ctx (s .args .routes .now) (c .read-descriptors .last .0)
+    (afterRead (c .read-descriptors .result) (s .args .outcomes .now) (bringUp s rings) (s .args .spacing) ctx (s .args .routes .now)
+    (c .read-descriptors .last .0))
+descriptors c rings low =
+    let c4 = c .before .before .before .before in
+    let c10 = c4 .before .before .before .before .before .before in
+    let s = c10 .before .before .before .before .before .before .before .before .before .before .before .before .before .before in
+    descriptors-read (bringUp s rings) (s .args .spacing) (s .args .outcomes .now) (s .args .routes .now)
+    (c4 .setup-max-packet .last .0) (c .read-descriptors .last .0) (c .read-descriptors .result)
+    (c10 .before .before .before .before .address-context .last .0) (c10 .read-header .last .0) (c10 .read-header .result)
+    (header c10 rings low) (c4 .before .before .enum-told .given .1) (c4 .setup-max-packet .ensures)
+    (c .read-descriptors .ensures .1 rings (s .args .hubs .now) (c4 .setup-max-packet .last .0) (s .args .routes .now) (s .args .spacing))
 
 route-string-requires : tie.Need-route-string-requires
 route-string-requires c κs = search needs
@@ -28,19 +83,7 @@ same-length-2 : tie.Need-same-length-2
 same-length-2 c = search needs
 
 returns : tie.Need-returns
-unfolding controlRing
-returns c =
-    let c3 = c .before .before .before in
-    let c7 = c3 .before .before .before .before in
-    let c9 = c7 .before .before in
-    let c10 = c9 .before in
-    let c17 = c10 .before .before .before .before .before .before .before in
-    λ rings low. not-addressed (bringUpOf (c17 .args .a) rings (c17 .args .hubs .now) (c17 .args .list .now)) (c17 .args .spacing)
-    (c17 .args .outcomes .now) (c17 .args .ctx .now) (c17 .args .routes .now) (c17 .args .log .now)
-    (c7 .address-context .last .0) (c3 .read-header .last .0) (c3 .read-header .result) (c7 .address-context .ensures ∙ rw
-    (c10 .route-string .ensures, c9 .transaction-translator .ensures, low)) (c3 .read-header .ensures .1 rings (c17 .args .hubs .now)
-    (c17 .args .list .now) (c7 .address-context .last .0) (c17 .args .routes .now) (c17 .args .spacing) (c17 .pre .1 .1))
-    (c .match .keys2)
+returns c = λ rings low. ends-here _ _ _ _ _ _ (c .match .keys2) (header (c .before .before .before) rings low)
 
 setup-max-packet-requires : tie.Need-setup-max-packet-requires
 setup-max-packet-requires c κs =
@@ -66,24 +109,7 @@ same-length-4 : tie.Need-same-length-4
 same-length-4 c = search needs
 
 returns-2 : tie.Need-returns-2
-unfolding controlRing
-returns-2 c =
-    let c3 = c .before .before .before in
-    let c7 = c3 .before .before .before .before in
-    let c9 = c7 .before .before in
-    let c13 = c9 .before .before .before .before in
-    let c17 = c13 .before .before .before .before in
-    let c19 = c17 .before .before in
-    let c20 = c19 .before in
-    let c27 = c20 .before .before .before .before .before .before .before in
-    λ rings low. not-read (bringUpOf (c27 .args .a) rings (c27 .args .hubs .now) (c27 .args .list .now)) (c27 .args .spacing)
-    (c27 .args .outcomes .now) (c27 .args .ctx .now) (c27 .args .routes .now) (c27 .args .log .now)
-    (c17 .address-context .last .0) (c13 .read-header .last .0) (c13 .read-header .result) (c17 .address-context .ensures ∙
-    rw (c20 .route-string .ensures, c19 .transaction-translator .ensures, low)) (c13 .read-header .ensures .1 rings (c27 .args .hubs .now)
-    (c27 .args .list .now) (c17 .address-context .last .0) (c27 .args .routes .now) (c27 .args .spacing) (c27 .pre .1 .1))
-    (c9 .enum-told .given .1) (c7 .setup-max-packet .last .0) (c3 .read-descriptors .last .0) (c3 .read-descriptors .result)
-    (c7 .setup-max-packet .ensures) (c3 .read-descriptors .ensures .1 rings (c27 .args .hubs .now) (c7 .setup-max-packet .last .0)
-    (c27 .args .routes .now) (c27 .args .spacing)) (c .match2 .keys2)
+returns-2 c = λ rings low. ends-here _ _ _ _ _ _ (c .match2 .keys2) (descriptors (c .before .before .before) rings low)
 
 same-length-5 : tie.Need-same-length-5
 same-length-5 c = search needs
@@ -92,25 +118,10 @@ same-length-6 : tie.Need-same-length-6
 same-length-6 c = search needs
 
 returns-3 : tie.Need-returns-3
-unfolding controlRing
 returns-3 c =
     let c5 = c .before .before .before .before .before in
-    let c9 = c5 .before .before .before .before in
-    let c11 = c9 .before .before in
-    let c15 = c11 .before .before .before .before in
-    let c19 = c15 .before .before .before .before in
-    let c21 = c19 .before .before in
-    let c22 = c21 .before in
-    let c29 = c22 .before .before .before .before .before .before .before in
-    λ rings low. none-to-set (bringUpOf (c29 .args .a) rings (c29 .args .hubs .now) (c29 .args .list .now)) (c29 .args .spacing)
-    (c29 .args .outcomes .now) (c29 .args .ctx .now) (c29 .args .routes .now) (c29 .args .log .now)
-    (c19 .address-context .last .0) (c15 .read-header .last .0) (c15 .read-header .result) (c19 .address-context .ensures ∙
-    rw (c22 .route-string .ensures, c21 .transaction-translator .ensures, low)) (c15 .read-header .ensures .1 rings (c29 .args .hubs .now)
-    (c29 .args .list .now) (c19 .address-context .last .0) (c29 .args .routes .now) (c29 .args .spacing) (c29 .pre .1 .1))
-    (c11 .enum-told .given .1) (c9 .setup-max-packet .last .0) (c5 .read-descriptors .last .0)
-    (c5 .read-descriptors .result) (c9 .setup-max-packet .ensures) (c5 .read-descriptors .ensures .1 rings (c29 .args .hubs .now)
-    (c9 .setup-max-packet .last .0) (c29 .args .routes .now) (c29 .args .spacing)) (c .before .enum-told2 .given .1) (omega
-    (arith, c .if1 .taken))
+    let s = c5 .before .before .before .before .before .before .before .before .before .before .before .before .before .before .before .before .before .before .before .before .before .before .before .before in
+    λ rings low. none-to-set (bringUp s rings) _ _ _ _ _ _ (descriptors c5 rings low) (c .before .enum-told2 .given .1) (omega (arith, c .if1 .taken))
 
 set-first-requires : tie.Need-set-first-requires
 set-first-requires c κs =
@@ -148,28 +159,13 @@ same-length-9 c =
     c6 .set-first .kept .1 .1 .0 ∙ c15 .read-descriptors .kept .0 ∙ c25 .read-header .kept .0
 
 returns-4 : tie.Need-returns-4
-unfolding controlRing
 returns-4 c =
     let c6 = c .before .before .before .before .before .before in
-    let c10 = c6 .before .before .before .before in
-    let c11 = c10 .before in
+    let c11 = c6 .before .before .before .before .before in
     let c15 = c11 .before .before .before .before in
-    let c19 = c15 .before .before .before .before in
-    let c21 = c19 .before .before in
-    let c25 = c21 .before .before .before .before in
-    let c29 = c25 .before .before .before .before in
-    let c31 = c29 .before .before in
-    let c32 = c31 .before in
-    let c39 = c32 .before .before .before .before .before .before .before in
-    λ rings low. first-set (bringUpOf (c39 .args .a) rings (c39 .args .hubs .now) (c39 .args .list .now)) (c39 .args .spacing)
-    (c39 .args .outcomes .now) (c39 .args .ctx .now) (c39 .args .routes .now) (c39 .args .log .now)
-    (c29 .address-context .last .0) (c25 .read-header .last .0) (c25 .read-header .result) (c29 .address-context .ensures ∙
-    rw (c32 .route-string .ensures, c31 .transaction-translator .ensures, low)) (c25 .read-header .ensures .1 rings (c39 .args .hubs .now)
-    (c39 .args .list .now) (c29 .address-context .last .0) (c39 .args .routes .now) (c39 .args .spacing) (c39 .pre .1 .1))
-    (c21 .enum-told .given .1) (c19 .setup-max-packet .last .0) (c15 .read-descriptors .last .0)
-    (c15 .read-descriptors .result) (c19 .setup-max-packet .ensures) (c15 .read-descriptors .ensures .1 rings
-    (c39 .args .hubs .now) (c19 .setup-max-packet .last .0) (c39 .args .routes .now) (c39 .args .spacing))
-    (c11 .enum-told2 .given .1) (omega (arith, c10 .if1 .left)) (c6 .set-first .ensures rings (c39 .args .hubs .now))
+    let s = c15 .before .before .before .before .before .before .before .before .before .before .before .before .before .before .before .before .before .before .before .before .before .before .before .before in
+    λ rings low. first-set (bringUp s rings) _ _ _ _ _ _ (descriptors c15 rings low) (c11 .enum-told2 .given .1)
+    (omega (arith, c6 .before .before .before .before .if1 .left)) (c6 .set-first .ensures rings (s .args .hubs .now))
 
 pub address-spec : {M : Type 1} → statement M
 address-spec =

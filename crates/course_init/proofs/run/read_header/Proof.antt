@@ -1,12 +1,19 @@
-use Rattle.course_init.proofs.Steps.{done, stopped-before, none-accepted, header-refused, none-refused, leads-on}
-use Rattle.course_init.specs.Init.{bringUpHeader}
-use Rattle.course_init.specs.declared.run.InitEnd.{InitEnd}
-use Rattle.answer.specs.Answer.{number}
-use Rattle.answer.specs.declared.Answer.the-variants as answer
-use Rattle.course_steps.specs.End.{answerOf}
-use mathlib.Core.Path.{refl, sym, ap, _∙_}
+use Prim.Native.Nat.{ℕ}
+use mathlib.Core.Path.{_≡_, refl, sym, ap, _∙_}
+use mathlib.Core.List.{List}
 use native.Mathlib.Omega.{arith}
 use borrow.Author.Tests.{eq-eqb, ne-eqb, not-true, not-false}
+use Rattle.answer.specs.Answer.{number}
+use Rattle.answer.specs.declared.Answer.the-variants as answer
+use Rattle.command.specs.declared.Command.the-variants as command
+use Rattle.command.specs.declared.Sent.the-variants as sent
+use Rattle.command.specs.Course.{onSent, played}
+use Rattle.command.proofs.Phases.{continued}
+use Rattle.course_steps.specs.End.{answerOf}
+use Rattle.course_init.specs.Reading.{bringUpOf, nothingRead}
+use Rattle.course_init.specs.Init.{step, bringUpHeader}
+use Rattle.course_init.specs.declared.run.InitEnd.{InitEnd}
+use Rattle.course_init.proofs.Steps.{done, stopped-before, none-accepted, header-refused, none-refused, leads-on}
 use borrow.Author.Needs.{needs}
 use Rattle.course_init.proofs.run.read_header.Statement.{statement}
 use Rattle.course_init.proofs.run.read_header.Tie as tie
@@ -53,6 +60,20 @@ returns-2 c =
           (c .before-reading2 .ensures),
     )
 
+-- The header is read: what is left goes by what it says.
+header-read :
+    (c : tie.After-enum-told2) (rings hubs list ctx routes : List ℕ) (spacing : ℕ) →
+    let s = c .before .before .before .before .before .before .before .before .before .before .before .before .before .before in
+    let course = bringUpHeader (bringUpOf (s .args .a) rings hubs list) spacing ctx routes in
+    played (s .args .outcomes .now) 0 (step command.Address nothingRead ctx routes course) (s .args .log .now)
+    ≡ played (s .args .outcomes .now) 2 (continued course sent.Done) (c .before .before .before .before .send2 .last .0)
+unfolding bringUpHeader step onSent continued
+header-read c rings hubs list ctx routes spacing =
+    let c4 = c .before .before .before .before in
+    let c10 = c4 .before .before .before .before .before .before in
+    done _ _ _ _ _ _ (c10 .send .ensures) _ ctx routes _ (c4 .before .before .enum-told .given .1)
+    ∙ done _ _ _ _ _ _ (c4 .send2 .ensures) _ ctx routes _ (c .enum-told2 .given .1)
+
 header-refused-requires : tie.Need-header-refused-requires
 header-refused-requires c κs = search needs
 
@@ -61,17 +82,14 @@ same-length-3 c = search needs
 
 -- 16
 returns-3 : tie.Need-returns-3
-unfolding bringUpHeader number
+unfolding bringUpHeader step onSent continued number
 returns-3 c =
-    let c7 = c .before .before .before .before .before .before .before in
-    let c9 = c7 .before .before in
-    let c13 = c9 .before .before .before .before in
-    let c17 = c13 .before .before .before .before in (
+    let c3 = c .before .before .before in
+    let s = c3 .before .before .before .before .before .before .before .before .before .before .before .before .before .before in (
       none-refused answer.ShortHeader _ refl (c .header-refused .ensures),
-      λ rings hubs list ctx routes spacing v. done _ _ _ _ _ _ (c13 .send .ensures) _ ctx routes _ (c9 .enum-told .given .1) ∙ done
-          _ _ _ _ _ _ (c7 .send2 .ensures) _ ctx routes _ (c .before .before .before .enum-told2 .given .1) ∙ header-refused _ list ctx
-          routes _ answer.ShortHeader _ _ _ v refl (c .header-refused .ensures)
-          (rw (ne-eqb (c17 .args .a .header) 8 (λ e. omega (arith, e, c .before .if1 .taken)))),
+      λ rings hubs list ctx routes spacing v. header-read c3 rings hubs list ctx routes spacing ∙ header-refused _ list ctx routes _
+          answer.ShortHeader _ _ _ v refl (c .header-refused .ensures)
+          (rw (ne-eqb (s .args .a .header) 8 (λ e. omega (arith, e, c .before .if1 .taken)))),
     )
 
 exponent-ok-requires : tie.Need-exponent-ok-requires
@@ -85,18 +103,15 @@ same-length-4 c = search needs
 
 -- 19
 returns-4 : tie.Need-returns-4
-unfolding bringUpHeader number
+unfolding bringUpHeader step onSent continued number
 returns-4 c =
     let c3 = c .before .before .before in
-    let c9 = c3 .before .before .before .before .before .before in
-    let c11 = c9 .before .before in
-    let c15 = c11 .before .before .before .before in
-    let c19 = c15 .before .before .before .before in (
+    let c5 = c3 .before .before in
+    let s = c5 .before .before .before .before .before .before .before .before .before .before .before .before .before .before in (
       none-refused answer.PacketExponent _ refl (c .header-refused2 .ensures),
-      λ rings hubs list ctx routes spacing v. done _ _ _ _ _ _ (c15 .send .ensures) _ ctx routes _ (c11 .enum-told .given .1) ∙ done
-          _ _ _ _ _ _ (c9 .send2 .ensures) _ ctx routes _ (c3 .before .before .enum-told2 .given .1) ∙ header-refused _ list ctx
-          routes _ answer.PacketExponent _ _ _ v refl (c .header-refused2 .ensures)
-          (rw (eq-eqb (c19 .args .a .header) 8 (omega (arith, c3 .if1 .left)), ← c .before .before .exponent-ok .ensures, not-true (c .before .before .exponent-ok .result) (c .before .if2 .taken))),
+      λ rings hubs list ctx routes spacing v. header-read c5 rings hubs list ctx routes spacing ∙ header-refused _ list ctx routes _
+          answer.PacketExponent _ _ _ v refl (c .header-refused2 .ensures)
+          (rw (eq-eqb (s .args .a .header) 8 (omega (arith, c3 .if1 .left)), ← c .before .before .exponent-ok .ensures, not-true (c .before .before .exponent-ok .result) (c .before .if2 .taken))),
     )
 
 before-reading-requires-3 : tie.Need-before-reading-requires-3
@@ -106,20 +121,16 @@ same-length-5 : tie.Need-same-length-5
 same-length-5 c = search needs
 
 returns-5 : tie.Need-returns-5
-unfolding bringUpHeader answerOf
+unfolding bringUpHeader step onSent continued answerOf
 returns-5 c =
     let c3 = c .before .before .before in
     let c5 = c3 .before .before in
-    let c9 = c5 .before .before .before .before in
-    let c11 = c9 .before .before in
-    let c15 = c11 .before .before .before .before in
-    let c19 = c15 .before .before .before .before in
+    let s = c5 .before .before .before .before .before .before .before .before .before .before .before .before .before .before in
     let ok = not-false (c .before .before .exponent-ok .result) (c .before .if2 .left) in (
       λ t. sym (c .before .before .exponent-ok .ensures) ∙ ok,
-      λ rings hubs list ctx routes spacing v. done _ _ _ _ _ _ (c15 .send .ensures) _ ctx routes _ (c11 .enum-told .given .1) ∙ done
-          _ _ _ _ _ _ (c9 .send2 .ensures) _ ctx routes _ (c5 .enum-told2 .given .1) ∙ leads-on _ list ctx routes _ _ (ap (λ (e :
-          InitEnd). e .answer) (c .before-reading3 .ensures) ∙ rw (c5 .enum-told2 .given .1))
-          (rw (eq-eqb (c19 .args .a .header) 8 (omega (arith, c3 .if1 .left)), ← c .before .before .exponent-ok .ensures, ok)),
+      λ rings hubs list ctx routes spacing v. header-read c5 rings hubs list ctx routes spacing ∙ leads-on _ list ctx routes _ _
+          (ap (λ (e : InitEnd). e .answer) (c .before-reading3 .ensures) ∙ rw (c5 .enum-told2 .given .1))
+          (rw (eq-eqb (s .args .a .header) 8 (omega (arith, c3 .if1 .left)), ← c .before .before .exponent-ok .ensures, ok)),
     )
 
 pub read-header-spec : {M : Type 1} → statement M

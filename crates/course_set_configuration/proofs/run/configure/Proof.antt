@@ -1,8 +1,13 @@
-use Rattle.course_set_configuration.specs.SetConfiguration.{settingsOf}
-use Rattle.course_set_configuration.proofs.Exits.{resumed-failed, configured, not-configured, configure-cut, switched, not-switched, switch-cut}
+use Prim.Native.Nat.{_+_}
+use mathlib.Core.Path.{_≡_, refl}
 use native.Mathlib.Omega.{arith}
+use Rattle.command.specs.Course.{onSent, Played, played}
+use Rattle.command.proofs.Phases.{Begins, continued, went-on}
+use Rattle.course_steps.specs.End.{End}
+use Rattle.course_steps.proofs.Laws.{room-same, ended}
+use Rattle.course_set_configuration.specs.SetConfiguration.{settingsOf, setSwitch, setConfigure}
+use Rattle.course_set_configuration.proofs.Exits.{resumed-failed}
 use borrow.Author.Needs.{needs}
-use Rattle.course_steps.proofs.Laws.{room-same}
 use Rattle.course_set_configuration.proofs.run.configure.Statement.{statement}
 use Rattle.course_set_configuration.proofs.run.configure.Tie as tie
 
@@ -31,16 +36,13 @@ same-length-2 : tie.Need-same-length-2
 same-length-2 c = search needs
 
 returns : tie.Need-returns
+unfolding setConfigure onSent Begins continued
 returns c =
     let c5 = c .before .before .before .before .before in
     let c9 = c5 .before .before .before .before in
     let c13 = c9 .before .before .before .before in
-    let c20 = c13 .before .before .before .before .before .before .before in
-    not-configured (settingsOf (c20 .args .a) (c20 .args .list .now)) (c20 .args .outcomes .now) (c20 .args .ctx .now)
-    (c20 .args .routes .now) (c20 .args .log .now) (c20 .args .n) (c13 .prepare-drop .last .0) (c9 .send .last .0)
-    (c9 .send .result) (c13 .prepare-drop .ensures) (c9 .send .ensures) _ (c5 .dropped .given .1) (resumed-failed
-    (c20 .args .a) (c20 .args .list .now) (c13 .prepare-drop .last .0) (c20 .args .routes .now) (c20 .args .outcomes .now)
-    (c9 .send .last .0) _ _ (c .before .before .resume .ensures (c13 .prepare-drop .last .0) (c20 .args .routes .now)))
+    went-on _ _ _ _ _ refl (c9 .send .ensures) (c5 .dropped .given .1)
+    (rw (← c13 .prepare-drop .ensures) (resumed-failed _ _ _ _ _ _ _ _ (c .before .before .resume .ensures _ _)))
 
 enum-told-2 : tie.Need-enum-told-2
 enum-told-2 c = search needs
@@ -55,14 +57,28 @@ same-length-4 : tie.Need-same-length-4
 same-length-4 c = search needs
 
 returns-2 : tie.Need-returns-2
+unfolding setConfigure onSent Begins continued
 returns-2 c =
     let c5 = c .before .before .before .before .before in
     let c9 = c5 .before .before .before .before in
-    let c16 = c9 .before .before .before .before .before .before .before in
-    configure-cut (settingsOf (c16 .args .a) (c16 .args .list .now)) (c16 .args .outcomes .now) (c16 .args .ctx .now)
-    (c16 .args .routes .now) (c16 .args .log .now) (c16 .args .n) (c9 .prepare-drop .last .0) (c5 .send .last .0)
-    (c5 .send .result) (c9 .prepare-drop .ensures) (c5 .send .ensures) (c .settings-kept .result) (c .before .enum-told2 .given .1)
-    (c .settings-kept .ensures)
+    went-on _ _ _ _ _ refl (c5 .send .ensures) (c .before .enum-told2 .given .1)
+    (rw (← c9 .prepare-drop .ensures) (ended _ (c .settings-kept .ensures)))
+
+-- The endpoints are dropped: what is left is the switch.
+switched :
+    (c : tie.After-enum-told) {p : Played End} →
+    let sent = c .before .before .before .before in
+    let made = sent .before .before .before .before in
+    let s = made .before .before .before .before .before .before .before in
+    p ≡ played (s .args .outcomes .now) (s .args .n + 1)
+    (setSwitch (settingsOf (s .args .a) (s .args .list .now)) (made .prepare-drop .last .0) (s .args .routes .now)) (sent .send .last .0) →
+    p ≡ played (s .args .outcomes .now) (s .args .n)
+    (setConfigure (settingsOf (s .args .a) (s .args .list .now)) (s .args .ctx .now) (s .args .routes .now)) (s .args .log .now)
+unfolding setConfigure onSent Begins continued
+switched c e =
+    let sent = c .before .before .before .before in
+    went-on _ _ _ _ _ refl (sent .send .ensures) (c .enum-told .given .1)
+    (rw (← sent .before .before .before .before .prepare-drop .ensures) e)
 
 send-requires-2 : tie.Need-send-requires-2
 send-requires-2 c κs = search needs
@@ -93,20 +109,12 @@ same-length-6 : tie.Need-same-length-6
 same-length-6 c = search needs
 
 returns-3 : tie.Need-returns-3
+unfolding setSwitch onSent Begins continued
 returns-3 c =
     let c4 = c .before .before .before .before in
     let c8 = c4 .before .before .before .before in
     let c12 = c8 .before .before .before .before in
-    let c14 = c12 .before .before in
-    let c18 = c14 .before .before .before .before in
-    let c22 = c18 .before .before .before .before in
-    let c29 = c22 .before .before .before .before .before .before .before in
-    configured (settingsOf (c29 .args .a) (c29 .args .list .now)) (c29 .args .outcomes .now) (c29 .args .ctx .now)
-    (c29 .args .routes .now) (c29 .args .log .now) (c29 .args .n) (c22 .prepare-drop .last .0) (c18 .send .last .0)
-    (c18 .send .result) (c22 .prepare-drop .ensures) (c18 .send .ensures) (c14 .enum-told .given .1) (not-switched
-    (settingsOf (c29 .args .a) (c29 .args .list .now)) (c29 .args .outcomes .now) (c22 .prepare-drop .last .0)
-    (c29 .args .routes .now) (c18 .send .last .0) _ (c12 .send2 .last .0) (c12 .send2 .result) (c12 .send2 .ensures) _
-    (c8 .switched .given .1) (c4 .restore .ensures (c29 .args .routes .now)))
+    switched (c12 .before .before) (went-on _ _ _ _ _ refl (c12 .send2 .ensures) (c8 .switched .given .1) (c4 .restore .ensures _))
 
 enum-told-4 : tie.Need-enum-told-4
 enum-told-4 c = search needs
@@ -121,18 +129,11 @@ same-length-8 : tie.Need-same-length-8
 same-length-8 c = search needs
 
 returns-4 : tie.Need-returns-4
+unfolding setSwitch onSent Begins continued
 returns-4 c =
     let c5 = c .before .before .before .before .before in
-    let c7 = c5 .before .before in
-    let c11 = c7 .before .before .before .before in
-    let c15 = c11 .before .before .before .before in
-    let c22 = c15 .before .before .before .before .before .before .before in
-    configured (settingsOf (c22 .args .a) (c22 .args .list .now)) (c22 .args .outcomes .now) (c22 .args .ctx .now)
-    (c22 .args .routes .now) (c22 .args .log .now) (c22 .args .n) (c15 .prepare-drop .last .0) (c11 .send .last .0)
-    (c11 .send .result) (c15 .prepare-drop .ensures) (c11 .send .ensures) (c7 .enum-told .given .1) (switch-cut (settingsOf
-    (c22 .args .a) (c22 .args .list .now)) (c22 .args .outcomes .now) (c15 .prepare-drop .last .0) (c22 .args .routes .now)
-    (c11 .send .last .0) _ (c5 .send2 .last .0) (c5 .send2 .result) (c5 .send2 .ensures) (c .settings-kept2 .result)
-    (c .before .enum-told4 .given .1) (c .settings-kept2 .ensures))
+    switched (c5 .before .before) (went-on _ _ _ _ _ refl (c5 .send2 .ensures) (c .before .enum-told4 .given .1)
+    (ended _ (c .settings-kept2 .ensures)))
 
 publish-requires : tie.Need-publish-requires
 publish-requires c κs =
@@ -154,20 +155,12 @@ same-length-11 : tie.Need-same-length-11
 same-length-11 c = search needs
 
 returns-5 : tie.Need-returns-5
+unfolding setSwitch onSent Begins continued
 returns-5 c =
     let c6 = c .before .before .before .before .before .before in
     let c10 = c6 .before .before .before .before in
     let c14 = c10 .before .before .before .before in
-    let c16 = c14 .before .before in
-    let c20 = c16 .before .before .before .before in
-    let c24 = c20 .before .before .before .before in
-    let c31 = c24 .before .before .before .before .before .before .before in
-    configured (settingsOf (c31 .args .a) (c31 .args .list .now)) (c31 .args .outcomes .now) (c31 .args .ctx .now)
-    (c31 .args .routes .now) (c31 .args .log .now) (c31 .args .n) (c24 .prepare-drop .last .0) (c20 .send .last .0)
-    (c20 .send .result) (c24 .prepare-drop .ensures) (c20 .send .ensures) (c16 .enum-told .given .1) (switched (settingsOf
-    (c31 .args .a) (c31 .args .list .now)) (c31 .args .outcomes .now) (c24 .prepare-drop .last .0) (c31 .args .routes .now)
-    (c20 .send .last .0) _ (c14 .send2 .last .0) (c14 .send2 .result) (c14 .send2 .ensures) (c10 .enum-told3 .given .1)
-    (c6 .publish .ensures (c31 .args .list .now)))
+    switched (c14 .before .before) (went-on _ _ _ _ _ refl (c14 .send2 .ensures) (c10 .enum-told3 .given .1) (c6 .publish .ensures _))
 
 pub configure-spec : {M : Type 1} → statement M
 configure-spec =

@@ -1,5 +1,9 @@
-use Rattle.course_set_configuration.specs.SetConfiguration.{settingsOf}
-use Rattle.course_set_configuration.proofs.Exits.{restored, not-restored, restore-cut, resumed-restored}
+use mathlib.Core.Path.{refl}
+use Rattle.command.specs.Course.{onSent}
+use Rattle.command.proofs.Phases.{Begins, continued, went-on}
+use Rattle.course_steps.proofs.Laws.{ended}
+use Rattle.course_set_configuration.specs.SetConfiguration.{setRestore}
+use Rattle.course_set_configuration.proofs.Exits.{resumed-restored}
 use borrow.Author.Needs.{needs}
 use Rattle.course_set_configuration.proofs.run.restore.Statement.{statement}
 use Rattle.course_set_configuration.proofs.run.restore.Tie as tie
@@ -29,14 +33,12 @@ same-length-2 : tie.Need-same-length-2
 same-length-2 c = search needs
 
 returns : tie.Need-returns
+unfolding setRestore onSent Begins continued
 returns c =
     let c5 = c .before .before .before .before .before in
     let c9 = c5 .before .before .before .before in
-    let c15 = c9 .before .before .before .before .before .before in
-    λ routes. not-restored (settingsOf (c15 .args .a) (c15 .args .list .now)) (c15 .args .outcomes .now)
-    (c15 .args .ctx .now) routes (c15 .args .log .now) (c15 .args .n) (c15 .args .code) (c9 .prepare-restore .last .0)
-    (c5 .send .last .0) (c5 .send .result) (c9 .prepare-restore .ensures) (c5 .send .ensures) (c .settings-kept .result) _
-    (c .before .enum-told2 .given .1) (c .settings-kept .ensures)
+    λ routes. went-on _ _ _ _ _ refl (c5 .send .ensures) (c .before .enum-told2 .given .1)
+    (rw (← c9 .prepare-restore .ensures) (ended _ (c .settings-kept .ensures)))
 
 enum-told-3 : tie.Need-enum-told-3
 enum-told-3 c = search needs
@@ -51,14 +53,12 @@ same-length-4 : tie.Need-same-length-4
 same-length-4 c = search needs
 
 returns-2 : tie.Need-returns-2
+unfolding setRestore onSent Begins continued
 returns-2 c =
     let c5 = c .before .before .before .before .before in
     let c9 = c5 .before .before .before .before in
-    let c15 = c9 .before .before .before .before .before .before in
-    λ routes. restore-cut (settingsOf (c15 .args .a) (c15 .args .list .now)) (c15 .args .outcomes .now)
-    (c15 .args .ctx .now) routes (c15 .args .log .now) (c15 .args .n) (c15 .args .code) (c9 .prepare-restore .last .0)
-    (c5 .send .last .0) (c5 .send .result) (c9 .prepare-restore .ensures) (c5 .send .ensures) (c .settings-kept2 .result)
-    (c .before .enum-told3 .given .1) (c .settings-kept2 .ensures)
+    λ routes. went-on _ _ _ _ _ refl (c5 .send .ensures) (c .before .enum-told3 .given .1)
+    (rw (← c9 .prepare-restore .ensures) (ended _ (c .settings-kept2 .ensures)))
 
 resume-requires : tie.Need-resume-requires
 resume-requires c κs = search needs
@@ -70,16 +70,13 @@ same-length-6 : tie.Need-same-length-6
 same-length-6 c = search needs
 
 returns-3 : tie.Need-returns-3
+unfolding setRestore onSent Begins continued
 returns-3 c =
     let c4 = c .before .before .before .before in
     let c8 = c4 .before .before .before .before in
     let c12 = c8 .before .before .before .before in
-    let c18 = c12 .before .before .before .before .before .before in
-    λ routes. restored (settingsOf (c18 .args .a) (c18 .args .list .now)) (c18 .args .outcomes .now) (c18 .args .ctx .now)
-    routes (c18 .args .log .now) (c18 .args .n) (c18 .args .code) (c12 .prepare-restore .last .0) (c8 .send .last .0)
-    (c8 .send .result) (c12 .prepare-restore .ensures) (c8 .send .ensures) (c4 .enum-told .given .1) (resumed-restored
-    (c18 .args .a) (c18 .args .list .now) (c12 .prepare-restore .last .0) routes (c18 .args .outcomes .now)
-    (c8 .send .last .0) _ (c18 .args .code) (c .before .before .resume .ensures (c12 .prepare-restore .last .0) routes))
+    λ routes. went-on _ _ _ _ _ refl (c8 .send .ensures) (c4 .enum-told .given .1)
+    (rw (← c12 .prepare-restore .ensures) (resumed-restored _ _ _ _ _ _ _ _ (c .before .before .resume .ensures _ _)))
 
 pub restore-spec : {M : Type 1} → statement M
 restore-spec =

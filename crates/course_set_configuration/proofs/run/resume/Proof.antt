@@ -1,4 +1,6 @@
-use Rattle.command.proofs.Laws.{played-ends, played-then}
+use mathlib.Core.Path.{refl, _∙_}
+use Rattle.command.proofs.Phases.{swept-on}
+use Rattle.course_steps.proofs.Laws.{ended}
 use Rattle.course_set_configuration.specs.Parts.{resumed}
 use borrow.Author.Needs.{needs}
 use Rattle.course_set_configuration.proofs.run.resume.Statement.{statement}
@@ -18,7 +20,9 @@ same-length c = search needs
 
 returns : tie.Need-returns
 unfolding resumed
-returns c = λ ctx routes. let a = c .before .before .before .before .resume-stopped-endpoints .ensures ctx in rw (played-then, ← a .sent, ← a .active, ← a .count, ← a .log, played-ends, c .settings-kept .ensures, c .before .answer-after .ensures)
+returns c =
+    λ ctx routes. swept-on _ _ _ _ _ (c .before .before .before .before .resume-stopped-endpoints .ensures ctx) refl
+    (ended _ (c .settings-kept .ensures ∙ rw (c .before .answer-after .ensures)))
 
 pub resume-spec : {M : Type 1} → statement M
 resume-spec =

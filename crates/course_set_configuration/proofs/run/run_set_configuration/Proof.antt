@@ -1,8 +1,8 @@
-use native.Mathlib.Omega.{arith}
 use mathlib.Core.List.{[]}
-use Rattle.course_steps.proofs.Laws.{dcis-in, stopped-count}
-use Rattle.command.proofs.Laws.{played-ends, played-then}
+use native.Mathlib.Omega.{arith}
 use Rattle.command.specs.Course.{onSent}
+use Rattle.command.proofs.Phases.{swept-on}
+use Rattle.course_steps.proofs.Laws.{dcis-in, stopped-count, ended}
 use Rattle.course_set_configuration.specs.SetConfiguration.{setCourse}
 use borrow.Author.Needs.{needs}
 use Rattle.course_set_configuration.proofs.run.run_set_configuration.Statement.{statement}
@@ -48,9 +48,7 @@ returns c =
     let c6 = c .before .before .before .before .before .before in
     let c10 = c6 .before .before .before .before in
     let c14 = c10 .before .before .before .before in
-    let c21 = c14 .before .before .before .before .before .before .before in
-    let a = c14 .stop-endpoints .ensures (c21 .args .ctx .now) in rw
-    (dcis-in, played-then, ← a .sent, ← a .count, ← a .log, c10 .enum-told .given .1) (c6 .configure .ensures)
+    rw dcis-in (swept-on _ _ _ _ _ (c14 .stop-endpoints .ensures _) (c10 .enum-told .given .1) (c6 .configure .ensures))
 
 same-length-4 : tie.Need-same-length-4
 same-length-4 c = search needs
@@ -59,9 +57,7 @@ returns-2 : tie.Need-returns-2
 unfolding setCourse onSent
 returns-2 c =
     let c5 = c .before .before .before .before .before in
-    let c12 = c5 .before .before .before .before .before .before .before in
-    let a = c5 .stop-endpoints .ensures (c12 .args .ctx .now) in rw
-    (dcis-in, played-then, ← a .sent, ← a .active, ← a .count, ← a .log, c .before .enum-told2 .given .1, played-ends, c .settings-kept .ensures)
+    rw dcis-in (swept-on _ _ _ _ _ (c5 .stop-endpoints .ensures _) (c .before .enum-told2 .given .1) (ended _ (c .settings-kept .ensures)))
 
 same-length-5 : tie.Need-same-length-5
 same-length-5 c = search needs
@@ -70,9 +66,7 @@ returns-3 : tie.Need-returns-3
 unfolding setCourse onSent
 returns-3 c =
     let c5 = c .before .before .before .before .before in
-    let c12 = c5 .before .before .before .before .before .before .before in
-    let a = c5 .stop-endpoints .ensures (c12 .args .ctx .now) in rw
-    (dcis-in, played-then, ← a .sent, ← a .active, ← a .count, ← a .log, c .before .enum-told3 .given .1, played-ends, c .settings-kept2 .ensures)
+    rw dcis-in (swept-on _ _ _ _ _ (c5 .stop-endpoints .ensures _) (c .before .enum-told3 .given .1) (ended _ (c .settings-kept2 .ensures)))
 
 pub run-set-configuration-spec : {M : Type 1} → statement M
 run-set-configuration-spec =
