@@ -13,7 +13,7 @@ ghost use mathlib.Core.List.{map};
 ghost use lib.ListN.{length};
 ghost use lib.Seq.{sets};
 ghost use Rattle.device_image.specs.Layout.{EP-REVOKED, EP-ADDRESSES, EP-INTERFACES, INTERFACES, ALTERNATES, EP-RINGS, QUARANTINED, GIVEN, WORDS};
-ghost use Rattle.device_image.specs.Image.{handleWord, addressWord, ringWord, stored};
+ghost use Rattle.device_image.specs.Image.{handleWord, addressWord, ringWord, FixedIn, stored};
 ghost use Rattle.device_image.specs.Fits.{Fits};
 
 fn put_endpoints(image: &mut [u64], eps: [Endpoint; PLACES], owners: [u8; PLACES])
@@ -71,28 +71,22 @@ fn put_given(image: &mut [u64], rings: [u64; GIVEN_ROOM])
     }
 }
 
-// A buffer of another length is left as it is. The image holds the record whole, since its numbers are of their types.
-pub fn encode(d: Device, image: &mut [u64])
-    ensures { λ r. ⌜ (now (image .exit) ≡ stored d (now (image .entry))) × (length (now (image .entry)) ≡ WORDS → Fits d) ⌝ }
+// All but the list and the given rings, which no call on a record changes. A buffer of another length is left as it is.
+pub fn update(d: Device, image: &mut [u64])
+    ensures { λ r. ⌜ (FixedIn d (now (image .entry)) → now (image .exit) ≡ stored d (now (image .entry)))
+        × (length (now (image .entry)) ≡ WORDS → Fits d) ⌝ }
 {
     if image.len() != layout::WORDS {
         return;
-    }
-    let mut i = 0;
-    while i < LIST_ROOM {
-        image[layout::LIST + i] = d.list[i] as u64;
-        i += 1;
     }
     let eps = d.eps;
     let owners = d.ep_interfaces;
     let interfaces = d.interfaces;
     let alternates = d.alternates;
     let quarantined = d.quarantined;
-    let given = d.given;
     put_endpoints(image, eps, owners);
     put_settings(image, interfaces, alternates);
     put_quarantined(image, quarantined);
-    put_given(image, given);
     let handle = d.control_handle;
     let revoked: u64 = match handle {
         Handle::Active => 0,
@@ -113,4 +107,21 @@ pub fn encode(d: Device, image: &mut [u64])
     image[layout::CONTROL] = d.control;
     image[layout::UP] = d.up as u64;
     image[layout::GIVEN_COUNT] = d.given_count as u64;
+}
+
+// A buffer of another length is left as it is. The image holds the record whole, since its numbers are of their types.
+pub fn encode(d: Device, image: &mut [u64])
+    ensures { λ r. ⌜ (now (image .exit) ≡ stored d (now (image .entry))) × (length (now (image .entry)) ≡ WORDS → Fits d) ⌝ }
+{
+    if image.len() != layout::WORDS {
+        return;
+    }
+    let mut i = 0;
+    while i < LIST_ROOM {
+        image[layout::LIST + i] = d.list[i] as u64;
+        i += 1;
+    }
+    let given = d.given;
+    put_given(image, given);
+    update(d, image);
 }
