@@ -5,14 +5,13 @@ use device::Device;
 use record_endpoint::Endpoint;
 use record_endpoint::Handle;
 use record_endpoint::PLACES;
-use record_ring::GIVEN_ROOM;
-use record_ring::RING_ROOM;
 use record_settings::HELD_ROOM;
 ghost use mathlib.Core.Path.{_≡_};
 ghost use mathlib.Core.List.{map};
+ghost use Prim.Native.Nat.{_+_, _≤_};
 ghost use lib.ListN.{length};
 ghost use lib.Seq.{sets};
-ghost use Rattle.device_image.specs.Layout.{EP-REVOKED, EP-ADDRESSES, EP-INTERFACES, INTERFACES, ALTERNATES, EP-RINGS, QUARANTINED, GIVEN, WORDS};
+ghost use Rattle.device_image.specs.Layout.{EP-REVOKED, EP-ADDRESSES, EP-INTERFACES, INTERFACES, ALTERNATES, EP-RINGS, WORDS};
 ghost use Rattle.device_image.specs.Image.{handleWord, addressWord, ringWord, FixedIn, stored};
 ghost use Rattle.device_image.specs.Fits.{Fits};
 
@@ -49,24 +48,14 @@ fn put_settings(image: &mut [u64], interfaces: [u8; HELD_ROOM], alternates: [u8;
     }
 }
 
-fn put_quarantined(image: &mut [u64], rings: [u64; RING_ROOM])
-    requires { ⌜ length (now image) ≡ WORDS ⌝ }
-    ensures { λ r. ⌜ now (image .exit) ≡ sets (now (image .entry)) QUARANTINED rings ⌝ }
+// Rings put over the words from one on.
+fn put_rings(image: &mut [u64], from: usize, rings: &[u64])
+    requires { ⌜ (length (now image) ≡ WORDS) × (from + length (now rings) ≤ WORDS) ⌝ }
+    ensures { λ r. ⌜ now (image .exit) ≡ sets (now (image .entry)) from (now (rings .entry)) ⌝ }
 {
     let mut i = 0;
-    while i < RING_ROOM {
-        image[layout::QUARANTINED + i] = rings[i];
-        i += 1;
-    }
-}
-
-fn put_given(image: &mut [u64], rings: [u64; GIVEN_ROOM])
-    requires { ⌜ length (now image) ≡ WORDS ⌝ }
-    ensures { λ r. ⌜ now (image .exit) ≡ sets (now (image .entry)) GIVEN rings ⌝ }
-{
-    let mut i = 0;
-    while i < GIVEN_ROOM {
-        image[layout::GIVEN + i] = rings[i];
+    while i < rings.len() {
+        image[from + i] = rings[i];
         i += 1;
     }
 }
@@ -86,7 +75,7 @@ pub fn update(d: Device, image: &mut [u64])
     let quarantined = d.quarantined;
     put_endpoints(image, eps, owners);
     put_settings(image, interfaces, alternates);
-    put_quarantined(image, quarantined);
+    put_rings(image, layout::QUARANTINED, &quarantined);
     let handle = d.control_handle;
     let revoked: u64 = match handle {
         Handle::Active => 0,
@@ -122,6 +111,6 @@ pub fn encode(d: Device, image: &mut [u64])
         i += 1;
     }
     let given = d.given;
-    put_given(image, given);
+    put_rings(image, layout::GIVEN, &given);
     update(d, image);
 }

@@ -6,6 +6,7 @@ use lib.ListN.{length}
 use borrow.Author.Needs.{needs}
 use borrow.Author.Tests.{ne-eqb}
 use Rattle.descriptor_list.specs.Valid.{LIST-ROOM}
+use Rattle.record_ring.specs.Store.{GIVEN-ROOM}
 use Rattle.device_image.specs.Layout.{LIST, WORDS}
 use Rattle.device_image.specs.Image.{stored}
 use Rattle.device_image.proofs.Laws.{encoded}
@@ -65,8 +66,14 @@ loop-again c =
       turn .4 ∙ rest-next _ _ _ _ (omega (arith, turn .2, c .before .loop-test .taken)),
     )
 
-put-given-requires : tie.Need-put-given-requires Inv-loop μ-loop
-put-given-requires c κs = search needs
+full : (c : tie.Start Inv-loop μ-loop) → length (c .args .t1 .given) ≡ GIVEN-ROOM
+full c = let known = c .good .0 .1 .1 .1 .1 .1 .1 .1 .1 .1 .1 .1 .1 .1 .1 .1 .1 .1 .1 .1 .1 .1 .1 .0 .1 .0 .1 in search needs
+
+slice-aggregate-put-rings : tie.Need-slice-aggregate-put-rings Inv-loop μ-loop
+slice-aggregate-put-rings c = sym (full (c .before .before .before .before .before .before .before))
+
+put-rings-requires : tie.Need-put-rings-requires Inv-loop μ-loop
+put-rings-requires c κs = (search needs, omega (arith, full (c .before .before .before .before .before .before .before)))
 
 update-requires : tie.Need-update-requires Inv-loop μ-loop
 update-requires c κs = search needs
@@ -78,13 +85,13 @@ returns-2 : tie.Need-returns-2 Inv-loop μ-loop
 returns-2 c =
     let updated = c .before .before in
     let given = updated .before .before .before .before in
-    let left = given .before .before .before in
+    let left = given .before .before .before .before in
     let turn = left .before .loop .inv in
     let start = left .before .before .before .before in
-    let size : length (given .put-given .last .0) ≡ WORDS = omega (arith, given .put-given .kept .0, turn .1) in
+    let size : length (given .put-rings .last .0) ≡ WORDS = omega (arith, given .put-rings .kept .0, turn .1) in
     let f = updated .update .ensures .1 size in (
       encoded (start .args .t1) f (start .args .image .now) (turn .0) (sym (turn .4 ∙ rest-all _ _ _ _ (omega (arith, turn .2, left .loop-test .left))))
-          (given .put-given .ensures) size (updated .update .ensures .0),
+          (given .put-rings .ensures) size (updated .update .ensures .0),
       λ e. f,
     )
 
@@ -105,7 +112,8 @@ encode-spec =
     add-i
     loop-less
     loop-again
-    put-given-requires
+    slice-aggregate-put-rings
+    put-rings-requires
     update-requires
     same-length
     returns-2)

@@ -1,5 +1,5 @@
 use Prim.Native.Nat.{ℕ, _^_}
-use mathlib.Core.Path.{_≡_, refl}
+use mathlib.Core.Path.{_≡_, refl, sym}
 use mathlib.Core.List.{List}
 use mathlib.Core.Logic.{⊎-elim}
 use native.Mathlib.Omega.{arith}
@@ -47,14 +47,14 @@ fits c =
     }
 
 -- The length after the last call.
-room : (c : tie.After-slice-known4) → length (c .before .before .put-quarantined .last .0) ≡ WORDS
+room : (c : tie.After-slice-known4) → length (c .before .before .put-rings .last .0) ≡ WORDS
 room c =
     let rings = c .before .before in
-    let settings = rings .before .before .before .before in
+    let settings = rings .before .before .before .before .before in
     let endpoints = settings .before .before .before .before in
     omega (
       arith,
-      rings .put-quarantined .kept .0,
+      rings .put-rings .kept .0,
       settings .put-settings .kept .0,
       endpoints .put-endpoints .kept .0,
       endpoints .before .before .before .before .before .before .before .if1 .left,
@@ -70,8 +70,11 @@ put-endpoints-requires c κs = search needs
 put-settings-requires : tie.Need-put-settings-requires
 put-settings-requires c κs = search needs
 
-put-quarantined-requires : tie.Need-put-quarantined-requires
-put-quarantined-requires c κs = search needs
+slice-aggregate-put-rings : tie.Need-slice-aggregate-put-rings
+slice-aggregate-put-rings c = sym (fits (c .before .before .before .before .before .before .before .before .before .before .before .before .before .before .before .before .before) .quarantined)
+
+put-rings-requires : tie.Need-put-rings-requires
+put-rings-requires c κs = (search needs, omega (arith, fits (c .before .before .before .before .before .before .before .before .before .before .before .before .before .before .before .before .before) .quarantined))
 
 enum-told : tie.Need-enum-told
 enum-told c = search needs
@@ -146,9 +149,9 @@ slice-write-image-15 : tie.Need-slice-write-image-15
 slice-write-image-15 c = simp length-set (omega (arith, room (c .before .before .before .before .before .before .before .before)))
 
 same-length : tie.Need-same-length
-same-length c = simp length-set (omega (arith, room (c .before .before .before .before .before .before .before .before), c .before .before .before .before .before .before .before .before .before .before .before .before .before .before .before .before .before .before .before .before .before .before .before .before .before .if1 .left))
+same-length c = simp length-set (omega (arith, room (c .before .before .before .before .before .before .before .before), c .before .before .before .before .before .before .before .before .before .before .before .before .before .before .before .before .before .before .before .before .before .before .before .before .before .before .if1 .left))
 
-revoked-made : (c : tie.At-match-came) → c .match .revoked ≡ revoked (c .before .before .before .before .before .before .before .before .before .before .before .before .before .before .before .before .before .before .before .before .args .d .«control_handle»)
+revoked-made : (c : tie.At-match-came) → c .match .revoked ≡ revoked (c .before .before .before .before .before .before .before .before .before .before .before .before .before .before .before .before .before .before .before .before .before .args .d .«control_handle»)
 unfolding revoked
 revoked-made c = ⊎-elim (λ w. rw (w .1 .given .1) (w .2)) (λ w. rw (w .1 .given .1) (w .2)) (c .match .came)
 
@@ -156,13 +159,13 @@ returns-2 : tie.Need-returns-2
 returns-2 c =
     let match = c .before .before .before .before .before .before .before in
     let rings = match .before .before .before in
-    let settings = rings .before .before .before .before in
+    let settings = rings .before .before .before .before .before in
     let endpoints = settings .before .before .before .before in
     let test = endpoints .before .before .before .before .before .before .before in
     let start = test .before .before in
     let f : Fits (start .args .d) = fits start in (
       λ s. updated (start .args .d) f (start .args .image .now) (test .if1 .left) s (endpoints .put-endpoints .ensures) (settings .put-settings .ensures)
-          (rings .put-quarantined .ensures) (revoked-made match),
+          (rings .put-rings .ensures) (revoked-made match),
       λ e. f,
     )
 
@@ -173,7 +176,8 @@ update-spec =
     returns
     put-endpoints-requires
     put-settings-requires
-    put-quarantined-requires
+    slice-aggregate-put-rings
+    put-rings-requires
     enum-told
     enum-told-2
     cast-image
