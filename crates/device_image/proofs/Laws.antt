@@ -22,11 +22,11 @@ use Rattle.record_ring.specs.Store.{GIVEN-ROOM}
 use Rattle.record_endpoint.specs.Order.{PLACES}
 use Rattle.record_settings.specs.Held.{HELD-ROOM}
 use Rattle.device_image.specs.Layout.{USABLE, CONFIGURED, CONTROL-REVOKED, EP-REVOKED, SLOT, MAX-SLOTS, PORT-SPEED, CURRENT-CONFIG-VALUE, EP-ADDRESSES, EP-INTERFACES, INTERFACES, ALTERNATES, LIST, SPACING, LIST-LEN, EP-COUNT, HELD-COUNT, QUARANTINED-COUNT, CONTROL, EP-RINGS, QUARANTINED, UP, GIVEN-COUNT, GIVEN, WORDS}
-use Rattle.device_image.specs.Image.{flag, revoked, handleWord, addressWord, ringWord, parts, encode, isSet, handleIn, numberAt, endpointIn, read, decode, stored, below, isImage}
+use Rattle.device_image.specs.Image.{flag, revoked, handleWord, addressWord, ringWord, parts, encode, isSet, handleIn, numberAt, endpointIn, read, FixedIn, decode, stored, below, isImage}
 use Rattle.device_image.specs.Fits.{Fits}
 use Rattle.device_image.proofs.Steps.{mapped, length-mapped, image-flag, image-byte, image-word, image-up}
 use Rattle.device_image.proofs.Steps as steps
-use Rattle.device_image.proofs.Parts.{sum, map-size, laid-cuts, lay, length-joined, at-part, tabulated-list, tabulated-same, tabulated-map, tabulated-length, tabulated-at, cuts, cuts-joined, number-list, below-run, below-add}
+use Rattle.device_image.proofs.Parts.{sum, Laid, laid-cuts, laid-word, laid-part, lay, length-joined, tabulated-list, tabulated-same, tabulated-map, tabulated-length, tabulated-at, cuts, cuts-joined, number-list, below-run, below-add}
 
 abbrev SIZES : List ℕ
 SIZES = 3 ∷ PLACES ∷ 4 ∷ PLACES ∷ PLACES ∷ HELD-ROOM ∷ HELD-ROOM ∷ LIST-ROOM ∷ 6 ∷ PLACES ∷ RING-ROOM ∷ 2 ∷ GIVEN-ROOM ∷ []
@@ -98,53 +98,60 @@ module _ (d : Device) (fits : Fits d) where
   sizes =
       rw (length-mapped handleWord (d .eps) (fits .eps .0), length-mapped addressWord (d .eps) (fits .eps .0), length-mapped ringWord (d .eps) (fits .eps .0), fits .owners .0, fits .interfaces .0, fits .alternates .0, fits .list .0, fits .quarantined, fits .given)
 
-  -- Word i of part j of an image.
-  at :
-      (j i : ℕ) → i < getD SIZES j 0 → getD (encode d) (sum (take j SIZES) + i) 0 ≡ getD (getD (parts d) j []) i 0
+  -- An image lies in the parts of its record.
+  laid : Laid SIZES (parts d) (encode d)
   unfolding encode
-  at j i h =
-      let size : length (getD (parts d) j []) ≡ getD SIZES j 0 = map-size (parts d) j ∙ ap (λ (l : List ℕ). getD l j 0) sizes in
-      subst (λ (s : List ℕ). getD (flatten (parts d)) (sum (take j s) + i) 0 ≡ getD (getD (parts d) j []) i 0) sizes
-      (at-part (parts d) j i (rw size h))
+  laid = record { joined = refl; sized = sizes }
 
   length-encode : length (encode d) ≡ WORDS
   unfolding encode sum
   length-encode = length-joined (parts d) ∙ ap sum sizes
 
-  -- What is left where each part is written over a buffer.
-  pub encoded :
-      (l : List ℕ) → length l ≡ WORDS → {l1 l2 l3 l4 l5 : List ℕ} {w : ℕ} → l1 ≡ sets l LIST (d .list) →
-      l2
-      ≡ sets (sets (sets (sets l1 EP-REVOKED (map handleWord (d .eps))) EP-ADDRESSES (map addressWord (d .eps))) EP-INTERFACES (d .«ep_interfaces»)) EP-RINGS
+  -- What is left where all but the list and the given rings is written over a buffer that says these.
+  pub updated :
+      (l : List ℕ) → length l ≡ WORDS → FixedIn d l → {l1 l2 l3 : List ℕ} {w : ℕ} →
+      l1
+      ≡ sets (sets (sets (sets l EP-REVOKED (map handleWord (d .eps))) EP-ADDRESSES (map addressWord (d .eps))) EP-INTERFACES (d .«ep_interfaces»)) EP-RINGS
       (map ringWord (d .eps)) →
-      l3 ≡ sets (sets l2 INTERFACES (d .interfaces)) ALTERNATES (d .alternates) → l4 ≡ sets l3 QUARANTINED (d .quarantined) →
-      l5 ≡ sets l4 GIVEN (d .given) →
+      l2 ≡ sets (sets l1 INTERFACES (d .interfaces)) ALTERNATES (d .alternates) → l3 ≡ sets l2 QUARANTINED (d .quarantined) →
       w ≡ revoked (d .«control_handle») →
-      sets (sets (sets (sets l5 USABLE (boolByte (d .usable) ∷ boolByte (d .configured) ∷ w ∷ [])) SLOT (bytesOf d)) SPACING (countsOf d)) UP
+      sets (sets (sets (sets l3 USABLE (boolByte (d .usable) ∷ boolByte (d .configured) ∷ w ∷ [])) SLOT (bytesOf d)) SPACING (countsOf d)) UP
       (boolByte (d .up) ∷ d .«given_count» ∷ [])
       ≡ stored d l
-  unfolding encode parts stored sum cuts
-  encoded l e a b c f h g =
-      rw (eq-eqb (length l) WORDS e, g, flag-byte (d .usable), flag-byte (d .configured), flag-byte (d .up), h, f, c, b, a)
+  unfolding encode parts read stored sum cuts
+  updated l e s a b c g =
+      rw (eq-eqb (length l) WORDS e, g, flag-byte (d .usable), flag-byte (d .configured), flag-byte (d .up), c, b, a, s .list, s .given)
       (lay 11 (upOf d) refl
       (lay 8 (countsOf d) refl
       (lay 2 (bytesOf d) refl
       (lay 0 (flagsOf d) refl
-      (lay 12 (d .given) (fits .given)
       (lay 10 (d .quarantined) (fits .quarantined)
       (lay 6 (d .alternates) (fits .alternates .0)
       (lay 5 (d .interfaces) (fits .interfaces .0)
       (lay 9 (map ringWord (d .eps)) (length-mapped ringWord (d .eps) (fits .eps .0))
       (lay 4 (d .«ep_interfaces») (fits .owners .0)
       (lay 3 (map addressWord (d .eps)) (length-mapped addressWord (d .eps) (fits .eps .0))
-      (lay 1 (map handleWord (d .eps)) (length-mapped handleWord (d .eps) (fits .eps .0))
-      (lay 7 (d .list) (fits .list .0) (laid-cuts SIZES l e))))))))))))) .joined)
+      (lay 1 (map handleWord (d .eps)) (length-mapped handleWord (d .eps) (fits .eps .0)) (laid-cuts SIZES l e))))))))))) .joined)
+
+  -- A buffer over which these are written says them, so all that is written then is the image.
+  placed : (l : List ℕ) → length l ≡ WORDS → FixedIn d (sets (sets l LIST (d .list)) GIVEN (d .given))
+  unfolding read sum cuts
+  placed l e =
+      let w = lay 12 (d .given) (fits .given) (lay 7 (d .list) (fits .list .0) (laid-cuts SIZES l e)) in
+      record { list = sym (laid-part w 7); given = sym (laid-part w 12) }
+
+  pub encoded :
+      (l : List ℕ) → length l ≡ WORDS → {l1 l2 l3 : List ℕ} → l1 ≡ sets l LIST (d .list) → l2 ≡ sets l1 GIVEN (d .given) → length l2 ≡ WORDS →
+      (FixedIn d l2 → l3 ≡ stored d l2) → l3 ≡ stored d l
+  unfolding stored
+  encoded l e {l1} {l2} a b size u =
+      u (rw (b, a) (placed l e)) ∙ rw (eq-eqb (length l2) WORDS size, eq-eqb (length l) WORDS e)
 
   module _ (j k a : ℕ) (p : List ℕ) (ek : getD SIZES j 0 ≡ k) (ea : sum (take j SIZES) ≡ a) (ep : getD (parts d) j [] ≡ p) where
     word : (i : ℕ) → i < k → getD (encode d) (a + i) 0 ≡ getD p i 0
     word i h =
         subst (λ (m : ℕ). getD (encode d) (m + i) 0 ≡ getD p i 0) ea
-        (at j i (rw ek h) ∙ ap (λ (q : List ℕ). getD q i 0) ep)
+        (laid-word laid j i (rw ek h) ∙ ap (λ (q : List ℕ). getD q i 0) ep)
 
     back : length p ≡ k → tabulated (numberAt (encode d)) k a ≡ p
     unfolding numberAt

@@ -24,7 +24,7 @@ length-joined [] = refl
 length-joined (p ∷ ps) = length-append p (flatten ps) ∙ ap (λ (k : ℕ). length p + k) (length-joined ps)
 
 -- Word i of part j.
-pub at-part :
+at-part :
     (ps : List (List ℕ)) (j i : ℕ) → i < length (getD ps j []) →
     getD (flatten ps) (sum (take j (map length ps)) + i) 0 ≡ getD (getD ps j []) i 0
 unfolding flatten sum
@@ -145,7 +145,7 @@ below-in bound (suc k) a l e i g h =
         (ltb-true (getD l a 0) bound (and-left (ltb (getD l a 0) bound) (below bound k (a + 1) l) e))
 
 -- A list in pieces of some sizes, and a piece of it written over.
-pub map-size : (ps : List (List ℕ)) (j : ℕ) → length (getD ps j []) ≡ getD (map length ps) j 0
+map-size : (ps : List (List ℕ)) (j : ℕ) → length (getD ps j []) ≡ getD (map length ps) j 0
 map-size [] j = refl
 map-size (p ∷ ps) zero = refl
 map-size (p ∷ ps) (suc j) = map-size ps j
@@ -186,12 +186,30 @@ pub laid-cuts : (ks l : List ℕ) → length l ≡ sum ks → Laid ks (cuts ks 0
 laid-cuts ks l e =
     record { joined = sym (cuts-joined ks 0 l ∙ number-list l (sum ks) e); sized = cuts-sizes ks 0 l }
 
+laid-size : {ks : List ℕ} {ps : List (List ℕ)} {l : List ℕ} → Laid ks ps l → (j : ℕ) → length (getD ps j []) ≡ getD ks j 0
+laid-size {ps = ps} w j = map-size ps j ∙ ap (λ (m : List ℕ). getD m j 0) (w .sized)
+
+-- Word i of piece j, and the piece.
+pub laid-word :
+    {ks : List ℕ} {ps : List (List ℕ)} {l : List ℕ} → Laid ks ps l → (j i : ℕ) → i < getD ks j 0 →
+    getD l (sum (take j ks) + i) 0 ≡ getD (getD ps j []) i 0
+laid-word {ks} {ps} {l} w j i h =
+    ap (λ (m : List ℕ). getD m (sum (take j ks) + i) 0) (w .joined)
+    ∙ subst (λ (m : List ℕ). getD (flatten ps) (sum (take j m) + i) 0 ≡ getD (getD ps j []) i 0) (w .sized)
+    (at-part ps j i (rw (laid-size w j) h))
+
+pub laid-part :
+    {ks : List ℕ} {ps : List (List ℕ)} {l : List ℕ} → Laid ks ps l → (j : ℕ) →
+    tabulated (numberAt l) (getD ks j 0) (sum (take j ks)) ≡ getD ps j []
+unfolding numberAt
+laid-part {ks} {ps} {l} w j =
+    tabulated-list (numberAt l) (getD ps j []) (getD ks j 0) (sum (take j ks)) 0 (laid-size w j) (laid-word w j)
+
 pub lay :
     {ks : List ℕ} {ps : List (List ℕ)} {l : List ℕ} (j : ℕ) (p : List ℕ) → length p ≡ getD ks j 0 → Laid ks ps l →
     Laid ks (set ps j p) (sets l (sum (take j ks)) p)
 lay {ks} {ps} {l} j p h w =
-    let size : length p ≡ length (getD ps j []) =
-    h ∙ sym (map-size ps j ∙ ap (λ (m : List ℕ). getD m j 0) (w .sized)) in
+    let size : length p ≡ length (getD ps j []) = h ∙ sym (laid-size w j) in
     record {
       joined =
           ap (λ (m : List ℕ). sets m (sum (take j ks)) p) (w .joined)

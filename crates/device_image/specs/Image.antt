@@ -2,6 +2,7 @@
 -- They stand by width (flags, bytes, words of 32 bits, words of 64, and what was appended), so that four runs tell what is an image and what is
 -- not.
 use Prim.Native.Nat.{ℕ, zero, suc, _+_, _-_}
+use mathlib.Core.Path.{_≡_}
 use mathlib.Core.Bool.{Bool, true, false, not, cond, _&&_}
 use mathlib.Core.List.{List, [], _∷_, map, flatten}
 use lib.Dec.{eqb, ltb}
@@ -120,6 +121,11 @@ read l =
     numbered l (tabulated (numberAt l) LIST-ROOM LIST) (endpointsIn l) (tabulated (numberAt l) HELD-ROOM INTERFACES)
     (tabulated (numberAt l) HELD-ROOM ALTERNATES) (handleIn (getD l CONTROL-REVOKED 0)) (tabulated (numberAt l) RING-ROOM QUARANTINED)
     (tabulated (numberAt l) GIVEN-ROOM GIVEN)
+
+-- The list and the given rings of a record, which no call on it changes, are those that words say.
+pub record FixedIn (d : Device) (l : List ℕ) : Type 0 where
+  pub list : d .list ≡ read l .list
+  pub given : d .given ≡ read l .given
 
 -- A record over a buffer: its words, or what was there where the length is another.
 unfoldable pub stored : Device → List ℕ → List ℕ

@@ -8,3 +8,4 @@ pub use layout::WORDS;
 pub use reading::decode;
 pub use test::is_image;
 pub use writing::encode;
+pub use writing::update;

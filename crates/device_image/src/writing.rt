@@ -5,15 +5,14 @@ use device::Device;
 use record_endpoint::Endpoint;
 use record_endpoint::Handle;
 use record_endpoint::PLACES;
-use record_ring::GIVEN_ROOM;
-use record_ring::RING_ROOM;
 use record_settings::HELD_ROOM;
 ghost use mathlib.Core.Path.{_≡_};
 ghost use mathlib.Core.List.{map};
+ghost use Prim.Native.Nat.{_+_, _≤_};
 ghost use lib.ListN.{length};
 ghost use lib.Seq.{sets};
-ghost use Rattle.device_image.specs.Layout.{EP-REVOKED, EP-ADDRESSES, EP-INTERFACES, INTERFACES, ALTERNATES, EP-RINGS, QUARANTINED, GIVEN, WORDS};
-ghost use Rattle.device_image.specs.Image.{handleWord, addressWord, ringWord, stored};
+ghost use Rattle.device_image.specs.Layout.{EP-REVOKED, EP-ADDRESSES, EP-INTERFACES, INTERFACES, ALTERNATES, EP-RINGS, WORDS};
+ghost use Rattle.device_image.specs.Image.{handleWord, addressWord, ringWord, FixedIn, stored};
 ghost use Rattle.device_image.specs.Fits.{Fits};
 
 fn put_endpoints(image: &mut [u64], eps: [Endpoint; PLACES], owners: [u8; PLACES])
@@ -49,50 +48,34 @@ fn put_settings(image: &mut [u64], interfaces: [u8; HELD_ROOM], alternates: [u8;
     }
 }
 
-fn put_quarantined(image: &mut [u64], rings: [u64; RING_ROOM])
-    requires { ⌜ length (now image) ≡ WORDS ⌝ }
-    ensures { λ r. ⌜ now (image .exit) ≡ sets (now (image .entry)) QUARANTINED rings ⌝ }
+// Rings put over the words from one on.
+fn put_rings(image: &mut [u64], from: usize, rings: &[u64])
+    requires { ⌜ (length (now image) ≡ WORDS) × (from + length (now rings) ≤ WORDS) ⌝ }
+    ensures { λ r. ⌜ now (image .exit) ≡ sets (now (image .entry)) from (now (rings .entry)) ⌝ }
 {
     let mut i = 0;
-    while i < RING_ROOM {
-        image[layout::QUARANTINED + i] = rings[i];
+    while i < rings.len() {
+        image[from + i] = rings[i];
         i += 1;
     }
 }
 
-fn put_given(image: &mut [u64], rings: [u64; GIVEN_ROOM])
-    requires { ⌜ length (now image) ≡ WORDS ⌝ }
-    ensures { λ r. ⌜ now (image .exit) ≡ sets (now (image .entry)) GIVEN rings ⌝ }
-{
-    let mut i = 0;
-    while i < GIVEN_ROOM {
-        image[layout::GIVEN + i] = rings[i];
-        i += 1;
-    }
-}
-
-// A buffer of another length is left as it is. The image holds the record whole, since its numbers are of their types.
-pub fn encode(d: Device, image: &mut [u64])
-    ensures { λ r. ⌜ (now (image .exit) ≡ stored d (now (image .entry))) × (length (now (image .entry)) ≡ WORDS → Fits d) ⌝ }
+// All but the list and the given rings, which no call on a record changes. A buffer of another length is left as it is.
+pub fn update(d: Device, image: &mut [u64])
+    ensures { λ r. ⌜ (FixedIn d (now (image .entry)) → now (image .exit) ≡ stored d (now (image .entry)))
+        × (length (now (image .entry)) ≡ WORDS → Fits d) ⌝ }
 {
     if image.len() != layout::WORDS {
         return;
-    }
-    let mut i = 0;
-    while i < LIST_ROOM {
-        image[layout::LIST + i] = d.list[i] as u64;
-        i += 1;
     }
     let eps = d.eps;
     let owners = d.ep_interfaces;
     let interfaces = d.interfaces;
     let alternates = d.alternates;
     let quarantined = d.quarantined;
-    let given = d.given;
     put_endpoints(image, eps, owners);
     put_settings(image, interfaces, alternates);
-    put_quarantined(image, quarantined);
-    put_given(image, given);
+    put_rings(image, layout::QUARANTINED, &quarantined);
     let handle = d.control_handle;
     let revoked: u64 = match handle {
         Handle::Active => 0,
@@ -113,4 +96,21 @@ pub fn encode(d: Device, image: &mut [u64])
     image[layout::CONTROL] = d.control;
     image[layout::UP] = d.up as u64;
     image[layout::GIVEN_COUNT] = d.given_count as u64;
+}
+
+// A buffer of another length is left as it is. The image holds the record whole, since its numbers are of their types.
+pub fn encode(d: Device, image: &mut [u64])
+    ensures { λ r. ⌜ (now (image .exit) ≡ stored d (now (image .entry))) × (length (now (image .entry)) ≡ WORDS → Fits d) ⌝ }
+{
+    if image.len() != layout::WORDS {
+        return;
+    }
+    let mut i = 0;
+    while i < LIST_ROOM {
+        image[layout::LIST + i] = d.list[i] as u64;
+        i += 1;
+    }
+    let given = d.given;
+    put_rings(image, layout::GIVEN, &given);
+    update(d, image);
 }

@@ -6,7 +6,7 @@ ghost use mathlib.Core.Bool.{false, cond};
 ghost use lib.Dec.{eqb};
 ghost use lib.ListN.{length};
 ghost use Rattle.device_image.specs.Layout.{WORDS};
-ghost use Rattle.device_image.specs.Image.{stored};
+ghost use Rattle.device_image.specs.Image.{FixedIn, stored};
 ghost use Rattle.device_image.specs.Fits.{Fits};
 ghost use Rattle.xhci_device.specs.Crossed.{answeredOf};
 
@@ -30,10 +30,12 @@ pub fn answer_of(a: Answer, count: usize) -> Answered
     }
 }
 
-// The end of a call on a record, which goes back. A buffer that holds none was read as a record of slot 0, and stays as it is.
+// The end of a call on a record, which goes back but for what no call changes. A buffer that holds none was read as a record of slot 0, and stays
+// as it is.
 pub fn finish(called: Called, image: &mut [u64]) -> Answered
     ensures { λ r. ⌜ (r ≡ answeredOf (called .answer) (called .count))
-        × (now (image .exit) ≡ cond (eqb (called .device .slot .0) 0) (now (image .entry)) (stored (called .device) (now (image .entry))))
+        × ((eqb (called .device .slot .0) 0 ≡ false → FixedIn (called .device) (now (image .entry))) →
+        now (image .exit) ≡ cond (eqb (called .device .slot .0) 0) (now (image .entry)) (stored (called .device) (now (image .entry))))
         × (eqb (called .device .slot .0) 0 ≡ false → length (now (image .entry)) ≡ WORDS → Fits (called .device)) ⌝ }
 {
     let d = called.device;
@@ -42,6 +44,6 @@ pub fn finish(called: Called, image: &mut [u64]) -> Answered
     if d.slot.0 == 0 {
         return r;
     }
-    device_image::encode(d, image);
+    device_image::update(d, image);
     r
 }

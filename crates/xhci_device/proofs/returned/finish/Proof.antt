@@ -11,10 +11,10 @@ answer-of-requires c κs = search needs
 returns : tie.Need-returns
 returns c =
     let none = eq-eqb _ _ (c .if1 .taken) in
-    (c .before .before .answer-of .ensures, rw none refl, λ e. not-both _ none e)
+    (c .before .before .answer-of .ensures, λ h. rw none refl, λ e. not-both _ none e)
 
-encode-requires : tie.Need-encode-requires
-encode-requires c κs = search needs
+update-requires : tie.Need-update-requires
+update-requires c κs = search needs
 
 same-length : tie.Need-same-length
 same-length c = search needs
@@ -23,7 +23,8 @@ returns-2 : tie.Need-returns-2
 returns-2 c =
     let written = c .before .before in
     let test = written .before .before in
-    (test .before .before .answer-of .ensures, written .encode .ensures .0 ∙ rw (ne-eqb _ _ (test .if1 .left)) refl, λ e. written .encode .ensures .1)
+    let some = ne-eqb _ _ (test .if1 .left) in
+    (test .before .before .answer-of .ensures, λ h. written .update .ensures .0 (h some) ∙ rw some refl, λ e. written .update .ensures .1)
 
 pub finish-spec : {M : Type 1} → statement M
-finish-spec = tie.close (tie.spec answer-of-requires returns encode-requires same-length returns-2)
+finish-spec = tie.close (tie.spec answer-of-requires returns update-requires same-length returns-2)

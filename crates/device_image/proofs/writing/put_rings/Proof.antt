@@ -1,21 +1,20 @@
 use borrow.Author.Needs.{needs}
-use Prim.Native.Nat.{_≤_, _-_}
+use Prim.Native.Nat.{_+_, _-_, _≤_}
 use mathlib.Core.Path.{_≡_, sym, _∙_}
 use lib.ListN.{length}
 use lib.Seq.{sets}
 use native.Mathlib.Omega.{arith}
-use Rattle.record_ring.specs.Store.{GIVEN-ROOM}
-use Rattle.device_image.specs.Layout.{GIVEN, WORDS}
+use Rattle.device_image.specs.Layout.{WORDS}
 use Rattle.device_image.proofs.Steps.{rest, rest-none, rest-next, rest-all}
-use Rattle.device_image.proofs.writing.put_given.Statement.{statement}
-use Rattle.device_image.proofs.writing.put_given.Tie as tie
+use Rattle.device_image.proofs.writing.put_rings.Statement.{statement}
+use Rattle.device_image.proofs.writing.put_rings.Tie as tie
 
 abbrev Inv-loop : tie.InvT-loop
-Inv-loop image₀ rings i₀ image i =
-    (length image₀ ≡ WORDS) × (length image ≡ WORDS) × (length rings ≡ GIVEN-ROOM) × (i ≤ GIVEN-ROOM) × (sets image₀ GIVEN rings ≡ rest GIVEN rings i image)
+Inv-loop image₀ from rings i₀ image i =
+    (length image₀ ≡ WORDS) × (length image ≡ WORDS) × (from + length rings ≤ WORDS) × (i ≤ length rings) × (sets image₀ from rings ≡ rest from rings i image)
 
 abbrev μ-loop : tie.MeasureT-loop
-μ-loop image₀ rings i₀ image i = GIVEN-ROOM - i
+μ-loop image₀ from rings i₀ image i = length rings - i
 
 loop-holds : tie.Need-loop-holds Inv-loop μ-loop
 loop-holds c = (search needs, search needs, search needs, search needs, rest-none _ _ _)
@@ -23,8 +22,8 @@ loop-holds c = (search needs, search needs, search needs, search needs, rest-non
 mul-image : tie.Need-mul-image Inv-loop μ-loop
 mul-image c = search needs
 
-array-read-image : tie.Need-array-read-image Inv-loop μ-loop
-array-read-image c = search needs
+shared-slice-read-image : tie.Need-shared-slice-read-image Inv-loop μ-loop
+shared-slice-read-image c = search needs
 
 add-image : tie.Need-add-image Inv-loop μ-loop
 add-image c = search needs
@@ -43,12 +42,12 @@ loop-less c = search needs
 
 loop-again : tie.Need-loop-again Inv-loop μ-loop
 loop-again c =
-    let turn = c .before .loop .inv in (
+    let turn = c .before .before .loop .inv in (
       search needs,
       search needs,
       search needs,
       search needs,
-      turn .4 ∙ rest-next _ _ _ _ (omega (arith, turn .2, c .loop-test .taken)),
+      turn .4 ∙ rest-next _ _ _ _ (omega (arith, c .before .loop-test .taken)),
     )
 
 same-length : tie.Need-same-length Inv-loop μ-loop
@@ -56,17 +55,17 @@ same-length c = omega (arith, c .before .loop .inv .0, c .before .loop .inv .1)
 
 returns : tie.Need-returns Inv-loop μ-loop
 returns c =
-    let turn = c .before .loop .inv in sym (turn .4 ∙ rest-all _ _ _ _ (omega (arith, turn .2, c .loop-test .left)))
+    let turn = c .before .loop .inv in sym (turn .4 ∙ rest-all _ _ _ _ (omega (arith, c .loop-test .left)))
 
-pub put-given-spec : {M : Type 1} → statement M
-put-given-spec =
+pub put-rings-spec : {M : Type 1} → statement M
+put-rings-spec =
     tie.close
     (tie.spec
     Inv-loop
     μ-loop
     loop-holds
     mul-image
-    array-read-image
+    shared-slice-read-image
     add-image
     mul-image-2
     slice-write-image
