@@ -12,7 +12,6 @@ use Rattle.laws.specs.Distinct.{elem}
 use Rattle.laws.proofs.Tests.{and-left, and-true, not-both}
 use Rattle.laws.proofs.Distinct.{elem-none, elem-here, elem-cases}
 use Rattle.answer.specs.declared.Answer.{Answer}
-use Rattle.answer.specs.declared.Answer.the-variants as answer
 use Rattle.answer.specs.Answer.{isBroken, isCut, isLost}
 use Rattle.descriptor_list.specs.Valid.{validList}
 use Rattle.record_ring.specs.Rings.{ringOk, entered}

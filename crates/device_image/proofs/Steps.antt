@@ -1,7 +1,7 @@
 -- One turn of each loop, and what is known before and after.
 use Prim.Native.Nat.{ℕ, zero, suc, _+_, _-_, _≤_, _<_}
 use mathlib.Core.Path.{_≡_, refl, sym, ap, _∙_}
-use mathlib.Core.Bool.{true, false, _&&_}
+use mathlib.Core.Bool.{true, _&&_}
 use lib.Dec.{eqb, ltb}
 use mir.Val.{Val}
 use denote.Shadow.{shadow}
@@ -11,7 +11,7 @@ use mathlib.Core.List.{List, [], _∷_, _++_, map}
 use native.Mathlib.Numerals.{add-one}
 use native.Mathlib.Nat.{add-zero}
 use native.Mathlib.Omega.{arith}
-use borrow.Author.Tests.{lt-ltb, le-ltb, eqb-true, ltb-true}
+use borrow.Author.Tests.{eqb-true, ltb-true}
 use lib.ListN.{length, getD, set, take, drop, length-set, length-drop, drop-of-length-le}
 use lib.Seq.{take-suc-set, take-all, drop-cons, set-comm, sets}
 use Rattle.laws.specs.Bounds.{Below}
@@ -22,7 +22,6 @@ use Rattle.record_endpoint.specs.declared.entry.Endpoint.{Endpoint}
 use Rattle.record_endpoint.specs.declared.entry.Endpoints.{Endpoints}
 use Rattle.record_endpoint.proofs.entry.Endpoint.{the-field}
 use Rattle.record_endpoint.specs.Endpoint.{blank}
-use Rattle.device.specs.declared.record.Device.{Device}
 use Rattle.descriptor_list.specs.Valid.{LIST-ROOM}
 use Rattle.record_ring.specs.Rings.{RING-ROOM}
 use Rattle.record_ring.specs.Store.{GIVEN-ROOM}

@@ -20,10 +20,9 @@ use Rattle.device.specs.declared.record.Device.{Device}
 use Rattle.device.specs.declared.ask.Preview.{Preview}
 use Rattle.device.specs.Check.{recordCheck}
 use Rattle.device.specs.Claim.{claimCheck}
-use Rattle.device.specs.Ask.{Ask, asking, noAsk, askOf, askCheck, returned, ask, PreviewAs}
+use Rattle.device.specs.Ask.{Ask, noAsk, askOf, askCheck, returned, ask, PreviewAs}
 use Rattle.device.proofs.Laws.{passed}
 use Rattle.device_image.specs.Image.{isImage, decode}
-use Rattle.xhci_device.specs.declared.ask.Shown.{Shown}
 use Rattle.xhci_device.specs.Ask.{logRoom, askedIn, shownOf, inFront}
 use Rattle.xhci_device.proofs.Steps.{zeros-slot, none-passed}
 

@@ -21,7 +21,7 @@ use Rattle.device.specs.Check.{recordCheck, disconnectCheck}
 use Rattle.device.specs.Left.{Left, leaves, refused, marked, ended}
 use Rattle.device.specs.Calls.{onCheck, hubLeft, hubUpdate}
 use Rattle.device.specs.Claim.{drawn, quarantines, claimRecord, claim}
-use Rattle.device.specs.Ask.{Ask, asking, noAsk, askCheck, returned, ask, commit, PreviewAs}
+use Rattle.device.specs.Ask.{Ask, askCheck, commit}
 use Rattle.device.specs.Release.{releaseRecord, release}
 use Rattle.device.specs.SetConfiguration.{bare, setRecord, setConfiguration}
 use Rattle.device.specs.Disconnect.{allRevoked, unplugged, disconnectRecord, disconnect}

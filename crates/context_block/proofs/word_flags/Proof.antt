@@ -7,9 +7,6 @@ use Rattle.context_block.specs.Flags.{flagsOf}
 use Rattle.context_block.proofs.Flags.{flags-end, flags-all, flags-back, flag-set, flag-kept, flag-room, flag-some}
 use Rattle.context_block.proofs.word_flags.Statement.{statement}
 use Rattle.context_block.proofs.word_flags.Tie as tie
-use Rattle.context_block.proofs.word_flags.Reads as reads
-use Rattle.context_block.proofs.word_flags.Lts as lts
-use Rattle.context_block.proofs.word_dci.Reads as word-dci-reads
 
 abbrev Inv-loop : tie.InvT-loop
 Inv-loop words flags₀ i₀ flags i =

@@ -3,8 +3,6 @@ use native.Mathlib.Omega.{arith}
 use Rattle.device.specs.Ask.{noAsk}
 use Rattle.device.proofs.ask.no_preview.Statement.{statement}
 use Rattle.device.proofs.ask.no_preview.Tie as tie
-use Rattle.device.proofs.ask.no_preview.Reads as reads
-use Rattle.device.proofs.ask.no_preview.Lts as lts
 
 -- src/ask.rt:128:1
 returns : tie.Need-returns

@@ -1,5 +1,5 @@
 use Prim.Native.Nat.{ℕ, _≤_, _-_, _^_}
-use mathlib.Core.Path.{_≡_, refl, _∙_, sym}
+use mathlib.Core.Path.{_≡_, _∙_, sym}
 use mathlib.Core.Bool.{_&&_}
 use lib.Dec.{ltb}
 use lib.ListN.{length}

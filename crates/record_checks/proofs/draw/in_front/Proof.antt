@@ -6,8 +6,6 @@ use Rattle.record_endpoint.specs.Endpoint.{padded}
 use Rattle.record_checks.proofs.Drawn.{InFront, front-next, front-all}
 use Rattle.record_checks.proofs.draw.in_front.Statement.{statement}
 use Rattle.record_checks.proofs.draw.in_front.Tie as tie
-use Rattle.record_checks.proofs.draw.in_front.Reads as reads
-use Rattle.record_checks.proofs.draw.in_front.Lts as lts
 
 abbrev Inv-loop : tie.InvT-loop
 Inv-loop rings front₀ i₀ front i =

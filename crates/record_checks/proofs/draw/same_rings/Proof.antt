@@ -6,8 +6,6 @@ use lib.ListN.{length}
 use Rattle.record_checks.proofs.Drawn.{SameUpTo, same-length, same-next, same-not, same-all}
 use Rattle.record_checks.proofs.draw.same_rings.Statement.{statement}
 use Rattle.record_checks.proofs.draw.same_rings.Tie as tie
-use Rattle.record_checks.proofs.draw.same_rings.Reads as reads
-use Rattle.record_checks.proofs.draw.same_rings.Lts as lts
 
 abbrev Inv-loop : tie.InvT-loop
 Inv-loop rings others i₀ i =

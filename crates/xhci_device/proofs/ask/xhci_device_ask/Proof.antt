@@ -1,11 +1,10 @@
 use mathlib.Core.Path.{_≡_, refl, sym, _∙_}
 use mathlib.Core.Logic.{⊎-elim}
-use native.Mathlib.Omega.{arith}
 use borrow.Author.Tests.{lt-ltb, le-ltb}
 use borrow.Author.Needs.{needs}
 use lib.ListN.{length}
 use Rattle.device.specs.Ask.{ask, PreviewAs}
-use Rattle.xhci_device.specs.Ask.{logRoom, askedIn}
+use Rattle.xhci_device.specs.Ask.{logRoom}
 use Rattle.xhci_device.proofs.Asked.{asked-as, shown-as, front-as, rings-room}
 use Rattle.xhci_device.proofs.ask.xhci_device_ask.Statement.{statement}
 use Rattle.xhci_device.proofs.ask.xhci_device_ask.Tie as tie
