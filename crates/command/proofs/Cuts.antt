@@ -79,6 +79,11 @@ on-sent P Done done failed cut d f c = d refl
 on-sent P (Failed code) done failed cut d f c = f code refl
 on-sent P Cut done failed cut d f c = c refl
 
+-- whichever it is
+pub each-outcome : {A : Type 0} (P : A → Type 0) (done : A) (failed : ℕ → A) (cut : A) → P done → ((code : ℕ) → P (failed code)) → P cut →
+    (s : Sent) → P (onSent s done failed cut)
+each-outcome P done failed cut d f c s = on-sent P s done failed cut (λ e. d) (λ code e. f code) (λ e. c)
+
 -- a course that has ended and then another
 pub ended-then : {A B : Type 0} (P : A → Type 0) (Q : B → Type 0) (c : Course A) (f : A → Course B) →
     EndsWith P c → ((a : A) → P a → EndsWith Q (f a)) → EndsWith Q (then c f)

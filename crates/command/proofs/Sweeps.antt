@@ -15,7 +15,7 @@ use Rattle.command.specs.Course.{Course, ends, onSent, then, words, resu
 use Rattle.command.specs.Sweep.{Sweep, swept, resumeFrom, resumeStoppedEndpoints, orCode, undoStops, stopFrom, stopEndpoints, stopEach, SweptAs}
 use Rattle.laws.proofs.Tests.{not-both}
 use Rattle.command.proofs.Laws.{words-then, result-then}
-use Rattle.command.proofs.Cuts.{done-cut, failed-cut, failed-done, on-sent, cuts-then, uncut-then, uncut-result, cut-last}
+use Rattle.command.proofs.Cuts.{done-cut, failed-cut, failed-done, on-sent, each-outcome, cuts-then, uncut-then, uncut-result, cut-last}
 use Rattle.command.proofs.Operations.{EachCommand, each-then}
 
 -- Resuming m endpoints where a are active already.
@@ -173,7 +173,7 @@ unfolding CutsTo EndsWith resumeFrom onSent
 resume-cuts-from ctx [] a = tt
 resume-cuts-from ctx (d ∷ ds) a = (
   (refl, refl),
-  λ s. on-sent (CutsTo (CutSweep ctx)) s _ _ _ (λ e. resume-cuts-from ctx ds (a + 1)) (λ code e. tt) (λ e. tt),
+  each-outcome (CutsTo (CutSweep ctx)) _ _ _ (resume-cuts-from ctx ds (a + 1)) (λ code. tt) tt,
 )
 
 resume-uncut-from : (ctx ds : List ℕ) (a : ℕ) → Uncut UncutSweep (resumeFrom ctx a ds)
@@ -207,10 +207,7 @@ unfolding CutsTo EndsWith stopFrom onSent
 stop-cuts-from ctx stopped [] = tt
 stop-cuts-from ctx stopped (d ∷ ds) = (
   (refl, refl),
-  λ s.
-      on-sent (CutsTo (CutSweep ctx)) s _ _ _ (λ e. stop-cuts-from ctx (stopped ++ (d ∷ [])) ds)
-      (λ code e. undo-cuts ctx stopped code)
-      (λ e. tt),
+  each-outcome (CutsTo (CutSweep ctx)) _ _ _ (stop-cuts-from ctx (stopped ++ (d ∷ [])) ds) (undo-cuts ctx stopped) tt,
 )
 
 stop-uncut-from : (ctx stopped ds : List ℕ) → Uncut UncutSweep (stopFrom ctx stopped ds)

@@ -12,7 +12,7 @@ use Rattle.command.specs.declared.Sent.the-variants as sent
 use Rattle.command.specs.Command.{stopCommand, resumeCommand}
 use Rattle.command.specs.Course.{ends, result}
 use Rattle.command.specs.Sweep.{stopEndpoints, resumeStoppedEndpoints, orCode}
-use Rattle.command.proofs.Cuts.{on-sent}
+use Rattle.command.proofs.Cuts.{on-sent, each-outcome}
 use Rattle.command.proofs.Operations.{ByteOperands, operation, EachCommand, each-then}
 use Rattle.command.proofs.Sweeps.{stop-each, resume-each}
 use Rattle.context_block.specs.Blocks.{someDci}
@@ -43,22 +43,15 @@ module _ (P : Command → Type 0) (a : Claim) where
       go : (held : Bool) →
           EachCommand P
           (cond held (claimSwitchBack a code ctx routes) (ends (settingsKept (answer.Failed code) (length (a .old)) ctx routes)))
-      go true = (p .back, λ s. on-sent (EachCommand P) s _ _ _ (λ e. tt) (λ later e. tt) (λ e. tt))
+      go true = (p .back, each-outcome (EachCommand P) _ _ _ tt (λ later. tt) tt)
       go false = tt
 
   switch-sends : OfEach → (ctx routes : List ℕ) → EachCommand P (claimSwitch a ctx routes)
   unfolding claimSwitch claimPublish claimUndo EachCommand
-  switch-sends p ctx routes = (
-    p .switch,
-    λ s. on-sent (EachCommand P) s _ _ _ (λ e. tt) (λ code e. undo code) (λ e. tt),
-  )
+  switch-sends p ctx routes = (p .switch, each-outcome (EachCommand P) _ _ _ tt undo tt)
     where
       undo : (code : ℕ) → EachCommand P (claimUndo a code ctx routes)
-      undo code = (
-        p .configure,
-        λ s.
-            on-sent (EachCommand P) s _ _ _ (λ e. undone-sends p code (undoContext a ctx) routes) (λ later e. tt) (λ e. tt),
-      )
+      undo code = (p .configure, each-outcome (EachCommand P) _ _ _ (undone-sends p code (undoContext a ctx) routes) (λ later. tt) tt)
 
   resume-sends : OfEach → (code : ℕ) (ctx routes : List ℕ) → EachCommand P (claimResume a code ctx routes)
   unfolding claimResume EachCommand
@@ -70,18 +63,14 @@ module _ (P : Command → Type 0) (a : Claim) where
   unfolding claimCourse claimConfigure EachCommand
   claim-sends p ctx routes =
       each-then P (stopEndpoints ctx (queueDcis (a .old))) _ (stop-each P ctx _ (λ k. (p .stop k, p .resume k)))
-      (λ r. on-sent (EachCommand P) (r .sent) _ _ _ (λ e. configure) (λ code e. tt) (λ e. tt))
+      (λ r. each-outcome (EachCommand P) _ _ _ configure (λ code. tt) tt (r .sent))
     where
       next : List ℕ
       next = claimContext a ctx
 
       configure : EachCommand P (claimConfigure a ctx routes)
-      configure = (
-        p .configure,
-        λ s.
-            on-sent (EachCommand P) s _ _ _ (λ e. switch-sends p next routes) (λ code e. resume-sends p code next routes)
-            (λ e. tt),
-      )
+      configure =
+          (p .configure, each-outcome (EachCommand P) _ _ _ (switch-sends p next routes) (λ code. resume-sends p code next routes) tt)
 
 -- the operands of its commands are bytes
 pub claim-operands : (a : Claim) (ctx routes : List ℕ) → a .args .interface < 256 → a .args .alternate < 256 → a .args .«old_alternate» < 256 →

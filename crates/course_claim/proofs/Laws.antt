@@ -17,7 +17,7 @@ use Rattle.command.specs.declared.Sent.the-variants as sent
 use Rattle.command.specs.Command.{commandWord, outcomeAt}
 use Rattle.command.specs.Course.{Course, ends, sends, onSent, then, words, result, EndsWith, CutsTo, CutEnds}
 use Rattle.command.specs.Sweep.{Sweep, stopEndpoints, resumeStoppedEndpoints, orCode}
-use Rattle.command.proofs.Cuts.{cut-past, on-sent, cuts-then, cut-last}
+use Rattle.command.proofs.Cuts.{cut-past, on-sent, each-outcome, cuts-then, cut-last}
 use Rattle.command.proofs.Done.{result-sends, AllDone, stop-all-done}
 use Rattle.command.proofs.Laws.{words-then, result-then}
 use Rattle.command.proofs.Sweeps.{words-length-resume, words-length-stop, active-stop, active-resume, stop-done, CutSweep, stop-cuts, resume-cuts, stop-uncut, resume-uncut, sweep-uncut}
@@ -344,7 +344,7 @@ module _ (a : Claim) (routes : List ℕ) (P : List ℕ → End → Type 0) (p : 
       CutsTo P (sends c at (λ s. onSent s done failed (ends (settingsKept answer.Cut 0 at routes))))
   unfolding CutsTo EndsWith onSent
   cuts-sends c at done failed d f =
-      (p at 0, λ s. on-sent (CutsTo P) s done failed _ (λ e. d) (λ code e. f code) (λ e. tt))
+      (p at 0, each-outcome (CutsTo P) done failed _ d f tt)
 
   cuts-ends : (e : End) → CutsTo P (ends e)
   unfolding CutsTo

@@ -12,7 +12,7 @@ use Rattle.command.specs.declared.Sent.the-variants as sent
 use Rattle.command.specs.Command.{stopCommand, resumeCommand}
 use Rattle.command.specs.Course.{result}
 use Rattle.command.specs.Sweep.{stopEndpoints, resumeStoppedEndpoints}
-use Rattle.command.proofs.Cuts.{on-sent}
+use Rattle.command.proofs.Cuts.{on-sent, each-outcome}
 use Rattle.command.proofs.Operations.{ByteOperands, EachCommand, each-then}
 use Rattle.command.proofs.Sweeps.{stop-each, resume-each}
 use Rattle.context_block.specs.Blocks.{someDci}
@@ -44,14 +44,11 @@ module _ (P : Command → Type 0) (a : Release) where
   unfolding releaseCourse releaseConfigure releasePublish EachCommand
   release-sends p ctx routes =
       each-then P (stopEndpoints ctx (queueDcis (a .old))) _ (stop-each P ctx _ (λ k. (p .stop k, p .resume k)))
-      (λ r. on-sent (EachCommand P) (r .sent) _ _ _ (λ e. configure) (λ code e. tt) (λ e. tt))
+      (λ r. each-outcome (EachCommand P) _ _ _ configure (λ code. tt) tt (r .sent))
     where
       configure : EachCommand P (releaseConfigure a ctx routes)
-      configure = (
-        p .configure,
-        λ s.
-            on-sent (EachCommand P) s _ _ _ (λ e. tt) (λ code e. resume-sends p code (releaseContext a ctx) routes) (λ e. tt),
-      )
+      configure =
+          (p .configure, each-outcome (EachCommand P) _ _ _ tt (λ code. resume-sends p code (releaseContext a ctx) routes) tt)
 
 -- the operands of its commands are bytes
 pub release-operands : (a : Release) (ctx routes : List ℕ) → ((k : ℕ) → getD (queueDcis (a .old)) k 0 < 256) →

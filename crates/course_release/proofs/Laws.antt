@@ -14,7 +14,7 @@ use Rattle.command.specs.declared.Sent.the-variants as sent
 use Rattle.command.specs.Command.{outcomeAt}
 use Rattle.command.specs.Course.{Course, ends, onSent, words, result, EndsWith, CutsTo, CutEnds}
 use Rattle.command.specs.Sweep.{stopEndpoints, resumeStoppedEndpoints}
-use Rattle.command.proofs.Cuts.{on-sent}
+use Rattle.command.proofs.Cuts.{on-sent, each-outcome}
 use Rattle.command.proofs.Laws.{words-then, result-then}
 use Rattle.command.proofs.Sweeps.{words-length-resume, words-length-stop, stop-done, stop-cuts, resume-cuts, sweep-cut-ends}
 use Rattle.record_endpoint.specs.EndpointMap.{queueDcis}
@@ -67,17 +67,15 @@ resume-ends a code ctx routes =
 
 configure-ends : (a : Release) (ctx routes : List ℕ) → CutEnds (λ e. e .ctx) (releaseConfigure a ctx routes)
 unfolding releaseConfigure releasePublish CutsTo EndsWith onSent
-configure-ends a ctx routes = (
-  refl,
-  λ s. on-sent (CutEnds (λ e. e .ctx)) s _ _ _ (λ e. tt) (λ code e. resume-ends a code (releaseContext a ctx) routes) (λ e. tt),
-)
+configure-ends a ctx routes =
+    (refl, each-outcome (CutEnds (λ e. e .ctx)) _ _ _ tt (λ code. resume-ends a code (releaseContext a ctx) routes) tt)
 
 -- where a command is cut, it ends with that command's context
 pub release-cuts : (a : Release) (ctx routes : List ℕ) → CutEnds (λ e. e .ctx) (releaseCourse a ctx routes)
 unfolding releaseCourse CutsTo EndsWith onSent
 release-cuts a ctx routes =
     sweep-cut-ends (λ e. e .ctx) ctx (stopEndpoints ctx (queueDcis (a .old))) _ (stop-cuts ctx (queueDcis (a .old))) (λ r e. rw e refl)
-    (λ r. on-sent (CutEnds (λ e. e .ctx)) (r .sent) _ _ _ (λ e. configure-ends a ctx routes) (λ code e. tt) (λ e. tt))
+    (λ r. each-outcome (CutEnds (λ e. e .ctx)) _ _ _ (configure-ends a ctx routes) (λ code. tt) tt (r .sent))
 
 -- Accepted: the old routes were all there, and are out.
 pub record Gone (a : Release) (routes : List ℕ) (e : End) : Type 0 where

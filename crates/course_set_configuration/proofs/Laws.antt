@@ -17,7 +17,7 @@ use Rattle.command.specs.declared.Sent.the-variants as sent
 use Rattle.command.specs.Command.{outcomeAt, stopCommand, resumeCommand}
 use Rattle.command.specs.Course.{Course, ends, sends, onSent, words, result, EndsWith, CutsTo, CutEnds}
 use Rattle.command.specs.Sweep.{stopEndpoints, resumeStoppedEndpoints}
-use Rattle.command.proofs.Cuts.{on-sent}
+use Rattle.command.proofs.Cuts.{on-sent, each-outcome}
 use Rattle.command.proofs.Done.{result-sends, AllDone, stop-all-done}
 use Rattle.command.proofs.Laws.{words-then, result-then}
 use Rattle.command.proofs.Operations.{ByteOperands, operation, EachCommand, each-then}
@@ -117,7 +117,7 @@ module _ (a : Settings) where
   evaluate-cuts : (ctx routes : List ℕ) → CutEnds (λ e. e .ctx) (setEvaluate a ctx routes)
   unfolding setEvaluate CutsTo EndsWith onSent
   evaluate-cuts ctx routes =
-      (refl, λ s. on-sent (CutEnds (λ e. e .ctx)) s _ _ _ (λ e. tt) (λ code e. tt) (λ e. tt))
+      (refl, each-outcome (CutEnds (λ e. e .ctx)) _ _ _ tt (λ code. tt) tt)
 
   published-cuts : (r : Replaced) (ctx routes : List ℕ) → CutEnds (λ e. e .ctx) (setPublished r a ctx routes)
   unfolding setPublished CutsTo
@@ -136,41 +136,30 @@ module _ (a : Settings) where
   restored-ends code ctx routes =
       sweep-cut-ends (λ e. e .ctx) ctx (resumeStoppedEndpoints ctx (queueDcis (a .old))) _ (resume-cuts ctx (queueDcis (a .old)))
       (λ r e. rw e refl)
-      (λ r. on-sent (CutEnds (λ e. e .ctx)) (r .sent) _ _ _ (λ e. tt) (λ later e. tt) (λ e. tt))
+      (λ r. each-outcome (CutEnds (λ e. e .ctx)) _ _ _ tt (λ later. tt) tt (r .sent))
 
   restore-ends : (code : ℕ) (ctx routes : List ℕ) → CutEnds (λ e. e .ctx) (setRestore a code ctx routes)
   unfolding setRestore CutsTo EndsWith onSent
-  restore-ends code ctx routes = (
-    refl,
-    λ s.
-        on-sent (CutEnds (λ e. e .ctx)) s _ _ _ (λ e. restored-ends code (restoreContext a ctx) routes) (λ later e. tt) (λ e. tt),
-  )
+  restore-ends code ctx routes =
+      (refl, each-outcome (CutEnds (λ e. e .ctx)) _ _ _ (restored-ends code (restoreContext a ctx) routes) (λ later. tt) tt)
 
   switch-ends : (ctx routes : List ℕ) → CutEnds (λ e. e .ctx) (setSwitch a ctx routes)
   unfolding setSwitch setPublish CutsTo EndsWith onSent
-  switch-ends ctx routes = (
-    refl,
-    λ s.
-        on-sent (CutEnds (λ e. e .ctx)) s _ _ _ (λ e. published-cuts _ ctx routes) (λ code e. restore-ends code ctx routes)
-        (λ e. tt),
-  )
+  switch-ends ctx routes =
+      (refl, each-outcome (CutEnds (λ e. e .ctx)) _ _ _ (published-cuts _ ctx routes) (λ code. restore-ends code ctx routes) tt)
 
   configure-ends : (ctx routes : List ℕ) → CutEnds (λ e. e .ctx) (setConfigure a ctx routes)
   unfolding setConfigure CutsTo EndsWith onSent
-  configure-ends ctx routes = (
-    refl,
-    λ s.
-        on-sent (CutEnds (λ e. e .ctx)) s _ _ _ (λ e. switch-ends (dropContext a ctx) routes)
-        (λ code e. resume-ends code (dropContext a ctx) routes)
-        (λ e. tt),
-  )
+  configure-ends ctx routes =
+      let next : List ℕ = dropContext a ctx in
+      (refl, each-outcome (CutEnds (λ e. e .ctx)) _ _ _ (switch-ends next routes) (λ code. resume-ends code next routes) tt)
 
   -- where a command is cut, it ends with that command's context
   pub set-cuts : (ctx routes : List ℕ) → CutEnds (λ e. e .ctx) (setCourse a ctx routes)
   unfolding setCourse CutsTo EndsWith onSent
   set-cuts ctx routes =
       sweep-cut-ends (λ e. e .ctx) ctx (stopEndpoints ctx (queueDcis (a .old))) _ (stop-cuts ctx (queueDcis (a .old))) (λ r e. rw e refl)
-      (λ r. on-sent (CutEnds (λ e. e .ctx)) (r .sent) _ _ _ (λ e. configure-ends ctx routes) (λ code e. tt) (λ e. tt))
+      (λ r. each-outcome (CutEnds (λ e. e .ctx)) _ _ _ (configure-ends ctx routes) (λ code. tt) tt (r .sent))
 
 -- Which commands it sends.
 
@@ -183,19 +172,17 @@ module _ (P : Command → Type 0) (a : Settings) (back : (k : ℕ) → P (resume
   unfolding setRestored EachCommand
   restored-sends code ctx routes =
       each-then P (resumeStoppedEndpoints ctx (queueDcis (a .old))) _ (resume-each P ctx _ back)
-      (λ r. on-sent (EachCommand P) (r .sent) _ _ _ (λ e. tt) (λ later e. tt) (λ e. tt))
+      (λ r. each-outcome (EachCommand P) _ _ _ tt (λ later. tt) tt (r .sent))
 
   restore-sends : P command.Configure → (code : ℕ) (ctx routes : List ℕ) → EachCommand P (setRestore a code ctx routes)
   unfolding setRestore EachCommand
-  restore-sends c code ctx routes = (
-    c,
-    λ s. on-sent (EachCommand P) s _ _ _ (λ e. restored-sends code (restoreContext a ctx) routes) (λ later e. tt) (λ e. tt),
-  )
+  restore-sends c code ctx routes =
+      (c, each-outcome (EachCommand P) _ _ _ (restored-sends code (restoreContext a ctx) routes) (λ later. tt) tt)
 
 module _ (P : Command → Type 0) (a : Settings) where
   evaluate-sends : P command.Evaluate → (ctx routes : List ℕ) → EachCommand P (setEvaluate a ctx routes)
   unfolding setEvaluate EachCommand
-  evaluate-sends p ctx routes = (p, λ s. on-sent (EachCommand P) s _ _ _ (λ e. tt) (λ code e. tt) (λ e. tt))
+  evaluate-sends p ctx routes = (p, each-outcome (EachCommand P) _ _ _ tt (λ code. tt) tt)
 
   published-sends : P command.Evaluate → (r : Replaced) (ctx routes : List ℕ) → EachCommand P (setPublished r a ctx routes)
   unfolding setPublished EachCommand
@@ -216,7 +203,7 @@ module _ (P : Command → Type 0) (a : Settings) where
   unfolding setCourse setConfigure setSwitch setPublish EachCommand
   set-sends p ctx routes =
       each-then P (stopEndpoints ctx (queueDcis (a .old))) _ (stop-each P ctx _ (λ k. (p .stop k, p .resume k)))
-      (λ r. on-sent (EachCommand P) (r .sent) _ _ _ (λ e. configured) (λ code e. tt) (λ e. tt))
+      (λ r. each-outcome (EachCommand P) _ _ _ configured (λ code. tt) tt (r .sent))
     where
       next : List ℕ
       next = dropContext a ctx
@@ -224,18 +211,13 @@ module _ (P : Command → Type 0) (a : Settings) where
       switched : EachCommand P (setSwitch a next routes)
       switched = (
         p .switch,
-        λ s.
-            on-sent (EachCommand P) s _ _ _ (λ e. published-sends (p .evaluate) _ next routes)
-            (λ code e. restore-sends P a (p .resume) (p .configure) code next routes)
-            (λ e. tt),
+        each-outcome (EachCommand P) _ _ _ (published-sends (p .evaluate) _ next routes)
+            (λ code. restore-sends P a (p .resume) (p .configure) code next routes) tt,
       )
 
       configured : EachCommand P (setConfigure a ctx routes)
-      configured = (
-        p .configure,
-        λ s.
-            on-sent (EachCommand P) s _ _ _ (λ e. switched) (λ code e. resume-sends P a (p .resume) code next routes) (λ e. tt),
-      )
+      configured =
+          (p .configure, each-outcome (EachCommand P) _ _ _ switched (λ code. resume-sends P a (p .resume) code next routes) tt)
 
 -- How it ends.
 
