@@ -15,7 +15,7 @@ use Rattle.command.specs.declared.Command.the-variants as command
 use Rattle.command.specs.declared.Sent.{Sent}
 use Rattle.command.specs.declared.Sent.the-variants as sent
 use Rattle.command.specs.Command.{outcomeAt, stopCommand, resumeCommand}
-use Rattle.command.specs.Course.{Course, ends, sends, onSent, words, result, EndsWith, CutsTo, CutEnds}
+use Rattle.command.specs.Course.{Course, ends, onSent, words, result, EndsWith, CutsTo, CutEnds}
 use Rattle.command.specs.Sweep.{stopEndpoints, resumeStoppedEndpoints}
 use Rattle.command.proofs.Cuts.{on-sent, each-outcome}
 use Rattle.command.proofs.Done.{result-sends, AllDone, stop-all-done}

@@ -19,7 +19,7 @@ ghost use Rattle.command.specs.Sweep.{stopEndpoints, resumeStoppedEndpoints, Sw
 ghost use Rattle.context.specs.Place.{written, Spaced};
 ghost use Rattle.context.specs.Steps.{configureWrites};
 ghost use Rattle.context.specs.Promises.{EndpointDcis};
-ghost use Rattle.transfer.specs.Routes.{queues, replaced, withReplaced};
+ghost use Rattle.transfer.specs.Routes.{replaced, withReplaced};
 ghost use Rattle.course_steps.specs.End.{answerOf, configureFailed};
 ghost use Rattle.course_steps.specs.Arrays.{dcisIn, queuesIn};
 
