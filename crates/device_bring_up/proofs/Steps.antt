@@ -68,7 +68,7 @@ module _ (a : BringUp) (routes : List ℕ) where
   queue-refuse x e = refuse-test (eqb (routeOf routes (a .slot) 1) 0) (withRoute routes (a .slot) 1 (controlRing a)) routes x e
 
 -- What the checks answer, and the table that they leave.
-abbrev Entered : BringUp → ℕ → List ℕ → ℕ → Check → List ℕ → Type 0
+abbrev pub Entered : BringUp → ℕ → List ℕ → ℕ → Check → List ℕ → Type 0
 Entered a ctx routes log r left =
     (r ≡ bringUpCheck a ctx routes log)
     × (r ≡ Pass → left ≡ withRoute routes (a .slot) 1 (controlRing a))

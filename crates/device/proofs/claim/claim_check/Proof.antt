@@ -1,13 +1,10 @@
-use Prim.Native.Nat.{_+_, _-_}
+use Prim.Native.Nat.{_+_, _≤_}
 use mathlib.Core.Path.{_≡_, sym}
 use native.Mathlib.Omega.{arith}
 use lib.ListN.{length}
 use lib.Seq.{length-take-le}
 use Rattle.device.specs.Device.{listOf, freeOf}
-use Rattle.device.specs.Check.{recordCheck}
-use Rattle.answer.specs.declared.Check.{Check}
-use Rattle.answer.specs.declared.Check.the-variants.{Pass}
-use Rattle.device.proofs.Laws.{record-passed}
+use Rattle.device.proofs.Laws.{Passed, record-passed}
 use Rattle.device.proofs.ClaimLaws.{claim-refused, claim-checked, endpoints-room, free-many}
 use borrow.Author.Needs.{needs}
 use Rattle.device.proofs.claim.claim_check.Statement.{statement}
@@ -24,18 +21,21 @@ placed c = endpoints-room (c .args .d .eps) _ (c .good .0 .1 .1 .1 .1 .1 .1 .1 .
 stored : (c : tie.Start) → length (c .args .d .given) ≡ 64
 stored c = let known = c .good .0 .1 .1 .1 .1 .1 .1 .1 .1 .1 .1 .1 .1 .1 .1 .1 .1 .1 .1 .1 .1 .1 .1 .0 .1 .0 .1 in search needs
 
--- How many rings are free.
-free-sum :
-    (c : tie.Start) (x : Check) → x ≡ recordCheck (c .args .d) (c .args .ctx) (c .args .routes) (c .args .log) Pass → x ≡ Pass →
-    length (freeOf (c .args .d)) + (c .args .d .«ep_count» + 1) ≡ c .args .d .«given_count»
-free-sum c x k p =
-    let q = record-passed _ _ _ _ x k p in
-    free-many (c .args .d) (q .usable) (q .is-sound) (placed c) (stored c)
+-- Where the function starts, from where the record's checks have passed.
+abbrev start : tie.After-enum-told → tie.Start
+start c = c .before .before .before
 
-free-left :
-    (c : tie.Start) (x : Check) → x ≡ recordCheck (c .args .d) (c .args .ctx) (c .args .routes) (c .args .log) Pass → x ≡ Pass →
-    c .args .d .«given_count» - c .args .d .«ep_count» - 1 ≡ length (freeOf (c .args .d))
-free-left c x k p = omega (arith, free-sum c x k p)
+ready : (c : tie.After-enum-told) → let s = start c in Passed (s .args .d) (s .args .ctx) (s .args .routes) (s .args .log)
+ready c = record-passed _ _ _ _ _ (c .before .before .record-check .ensures) (c .enum-told .given .1)
+
+-- The list is no longer than its array.
+few : (c : tie.After-enum-told) → start c .args .d .«list_len» ≤ length (start c .args .d .list)
+few c = omega (arith, listed (start c), ready c .facts .counts .list)
+
+-- How many rings are free.
+free-sum : (c : tie.After-enum-told) →
+    let d = start c .args .d in length (freeOf d) + (d .«ep_count» + 1) ≡ d .«given_count»
+free-sum c = let s = start c in free-many (s .args .d) (ready c .usable) (ready c .is-sound) (placed s) (stored s)
 
 record-check-requires : tie.Need-record-check-requires
 record-check-requires c κs = search needs
@@ -54,34 +54,21 @@ enum-told : tie.Need-enum-told
 enum-told c = search needs
 
 endpoint-map-in-requires : tie.Need-endpoint-map-in-requires
-endpoint-map-in-requires c κs =
-    record-passed _ _ _ _ _ (c .before .before .before .record-check .ensures) (c .before .enum-told .given .1) .facts .counts .endpoints
+endpoint-map-in-requires c κs = ready (c .before) .facts .counts .endpoints
 
 sub-free : tie.Need-sub-free
-sub-free c =
-    let c5 = c .before .before .before .before .before in
-    omega (arith, free-sum (c5 .before) (c5 .record-check .result) (c5 .record-check .ensures) (c .before .before .before .enum-told .given .1))
+sub-free c = omega (arith, free-sum (c .before .before .before))
 
 sub-free-2 : tie.Need-sub-free-2
-sub-free-2 c =
-    let c5 = c .before .before .before .before .before in
-    omega (arith, free-sum (c5 .before) (c5 .record-check .result) (c5 .record-check .ensures) (c .before .before .before .enum-told .given .1))
+sub-free-2 c = omega (arith, free-sum (c .before .before .before))
 
 array-share-prefix-list : tie.Need-array-share-prefix-list
-array-share-prefix-list c =
-    let c5 = c .before .before .before .before .before in
-    omega (
-      arith,
-      listed (c5 .before),
-      record-passed _ _ _ _ _ (c5 .record-check .ensures) (c .before .before .before .enum-told .given .1) .facts .counts .list,
-    )
+array-share-prefix-list c = few (c .before .before .before)
 
 slice-aggregate-draw-check : tie.Need-slice-aggregate-draw-check
 slice-aggregate-draw-check c =
-    let c6 = c .before .before .before .before .before .before in
-    let s = c6 .before in
-    let few = record-passed _ _ _ _ _ (c6 .record-check .ensures) (c .before .before .before .before .enum-told .given .1) .facts .counts .list in
-    sym (length-take-le (s .args .d .«list_len») (s .args .d .list) (omega (arith, listed s, few)))
+    let c4 = c .before .before .before .before in
+    let s = start c4 in sym (length-take-le (s .args .d .«list_len») (s .args .d .list) (few c4))
 
 draw-check-requires : tie.Need-draw-check-requires
 draw-check-requires c κs = search needs
@@ -95,7 +82,7 @@ returns-2 c =
     let s = c7 .before in
     claim-checked (s .args .d) (s .args .interface) (s .args .alternate) _ _ _ (c7 .record-check .result)
     (c7 .record-check .ensures) (c3 .endpoint-map-in .result) _ (c .draw-check .result) (c5 .enum-told .given .1) (c3 .endpoint-map-in .ensures)
-    (free-left s (c7 .record-check .result) (c7 .record-check .ensures) (c5 .enum-told .given .1)) (c .draw-check .ensures)
+    (omega (arith, free-sum c5)) (c .draw-check .ensures)
 
 pub claim-check-spec : {M : Type 1} → statement M
 claim-check-spec =

@@ -1,10 +1,10 @@
-use Prim.Native.Nat.{_+_, _≤_}
+use Prim.Native.Nat.{_+_, _-_, _≤_}
 use mathlib.Core.Path.{_≡_, refl, sym, ap}
 use mathlib.Core.Bool.{true, cond, _&&_}
 use mathlib.Core.List.{[]}
 use mathlib.Core.Logic.{inl, inr, ⊎-elim}
 use native.Mathlib.Omega.{arith}
-use lib.ListN.{length, take}
+use lib.ListN.{length, take, drop}
 use lib.Seq.{length-take-le}
 use Rattle.laws.specs.Distinct.{distinct}
 use Rattle.descriptor_list.proofs.Laws.{found-inside}
@@ -41,13 +41,24 @@ unfolding listOf
 inside c = rw (long c) at (found-inside _ _ _ _ _ (c .pre .1))
 
 -- The words of the setting that is held, none where none is.
-held : (c : tie.Joined1) → c .if1 .old-words .now ≡ cond (isHeld (c .before .before .before .before .before .before .before .before .args .interface) (heldOf (c .before .before .before .before .before .before .before .before .args .d))) (settingWords (listOf (c .before .before .before .before .before .before .before .before .args .d)) (c .before .before .before .before .before .before .before .before .args .interface) (alternateOf (c .before .before .before .before .before .before .before .before .args .interface) (heldOf (c .before .before .before .before .before .before .before .before .args .d)))) []
+held :
+    (c : tie.Joined1) →
+    let s = c .before .before .before .before .before .before .before .before in
+    c .if1 .old-words .now
+    ≡ cond (isHeld (s .args .interface) (heldOf (s .args .d))) (settingWords (listOf (s .args .d)) (s .args .interface) (alternateOf (s .args .interface) (heldOf (s .args .d)))) []
 unfolding listOf
 held c =
     old-words _ _ _ _ (c .before .before .claim-args .ensures) _
     (⊎-elim (λ w. inl (w .0 .taken, rw (w .2) (w .1 .ensures))) (λ w. inr (w .0 .left, rw (w .2) refl)) (c .if1 .came))
 
--- The arrays of the endpoints and the given rings have their lengths.
+-- The words of the new one.
+new :
+    (c : tie.Start) →
+    take (c .args .start + c .args .count - c .args .start) (drop (c .args .start) (listOf (c .args .d)))
+    ≡ settingWords (listOf (c .args .d)) (c .args .interface) (c .args .alternate)
+new c = new-words (c .args .d) (c .args .interface) (c .args .alternate) (c .args .start) (c .args .count) (c .pre .1)
+
+-- The given rings fit, and none is in quarantine.
 rings-fit : (c : tie.Start) → (ringsOk (givenOf (c .args .d)) && distinct (givenOf (c .args .d))) ≡ true
 rings-fit c = given-fits (givenOf (c .args .d)) (ready c .facts .store .fit)
 
@@ -68,7 +79,7 @@ unfolding listOf givenOf
 pending-made c =
     let s = c .before .before .before .before .before .before .before .before .before .before .before .before in
     pending-drawn (s .args .d) (s .args .interface) (s .args .alternate) _ _ (none s)
-    (new-words (s .args .d) (s .args .interface) (s .args .alternate) (s .args .start) (s .args .count) (s .pre .1)) (c .drawn-rings .ensures)
+    (new s) (c .drawn-rings .ensures)
 
 claim-args-requires : tie.Need-claim-args-requires
 claim-args-requires c κs =
@@ -118,7 +129,7 @@ drawn-rings-requires c κs =
     let s = c .before .before .before .before .before .before .before .before .before .before .before in
     let f = ready s .facts .counts in (
       (f .given, (f .endpoints, rings-fit s)),
-      drawn-enough (s .args .d) (s .args .interface) (s .args .alternate) _ (none s) (new-words (s .args .d) (s .args .interface) (s .args .alternate) (s .args .start) (s .args .count) (s .pre .1)) (enough s),
+      drawn-enough (s .args .d) (s .args .interface) (s .args .alternate) _ (none s) (new s) (enough s),
     )
 
 endpoint-map-in-requires : tie.Need-endpoint-map-in-requires
@@ -189,11 +200,10 @@ returns c =
     let d = s .args .d in
     let i = s .args .interface in
     let alt = s .args .alternate in
-    let n = new-words d i alt (s .args .start) (s .args .count) (s .pre .1) in
     let by = pending-made c17 in
     claim-left d i alt (drawn d i alt) _ (c16 .endpoint-map-in .result) (c17 .drawn-rings .result) _ _ (s .args .outcomes .now)
     (s .args .ctx .now) (s .args .routes .now) (s .args .log .now) _ _ _ (c7 .claim-interface .result) (c .claim-end .result)
-    (c16 .endpoint-map-in .ensures) by (held c21) n (c23 .claim-args .ensures) (rw (← c14 .owned-rings .ensures) (c13 .queues-of .ensures))
+    (c16 .endpoint-map-in .ensures) by (held c21) (new s) (c23 .claim-args .ensures) (rw (← c14 .owned-rings .ensures) (c13 .queues-of .ensures))
     (c12 .queues-of2 .ensures) (c11 .queues-of3 .ensures) (c7 .claim-interface .ensures) (c .claim-end .ensures _ _ _ _ by)
 
 pub run-claim-spec : {M : Type 1} → statement M

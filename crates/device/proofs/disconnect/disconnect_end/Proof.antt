@@ -1,3 +1,4 @@
+use Prim.Native.Nat.{_≤_}
 use mathlib.Core.Path.{_≡_, refl, sym, _∙_}
 use mathlib.Core.Logic.{⊎-elim}
 use mathlib.Core.Bool.{cond}
@@ -17,9 +18,12 @@ use borrow.Author.Needs.{needs}
 use Rattle.device.proofs.disconnect.disconnect_end.Statement.{statement}
 use Rattle.device.proofs.disconnect.disconnect_end.Tie as tie
 
--- The arrays have their lengths.
+-- The arrays have their lengths, and the quarantined rings fit.
 kept-room : (c : tie.Start) → length (c .args .d .quarantined) ≡ 61
 kept-room c = let known = c .good .0 .1 .1 .1 .1 .1 .1 .1 .1 .1 .1 .1 .1 .1 .1 .1 .1 .1 .1 .1 .1 .0 .1 .0 .1 in search needs
+
+few-kept : (c : tie.Start) → c .args .d .«quarantined_count» ≤ 61
+few-kept c = sound-facts (c .args .d) (c .pre .0) .counts .quarantined
 
 rings-length : (c : tie.Start) → length (c .args .q .rings) ≡ 30
 rings-length c = search needs
@@ -42,19 +46,25 @@ enum-told : tie.Need-enum-told
 enum-told c = search needs
 
 array-share-prefix-quarantined : tie.Need-array-share-prefix-quarantined
-array-share-prefix-quarantined c = omega (arith, kept-room (c .before .before .before .before .before), sound-facts (c .before .before .before .before .before .args .d) (c .before .before .before .before .before .pre .0) .counts .quarantined)
+array-share-prefix-quarantined c = let s = c .before .before .before .before .before in omega (arith, kept-room s, few-kept s)
 
 slice-aggregate-enter-rings : tie.Need-slice-aggregate-enter-rings
-slice-aggregate-enter-rings c = sym (length-take-le _ _ (omega (arith, kept-room (c .before .before .before .before .before .before), sound-facts (c .before .before .before .before .before .before .args .d) (c .before .before .before .before .before .before .pre .0) .counts .quarantined)))
+slice-aggregate-enter-rings c =
+    let s = c .before .before .before .before .before .before in sym (length-take-le _ _ (omega (arith, kept-room s, few-kept s)))
 
 array-share-prefix-rings : tie.Need-array-share-prefix-rings
-array-share-prefix-rings c = omega (arith, rings-length (c .before .before .before .before .before .before), c .before .before .before .before .before .before .pre .2 .room)
+array-share-prefix-rings c = let s = c .before .before .before .before .before .before in omega (arith, rings-length s, s .pre .2 .room)
 
 slice-aggregate-enter-rings-2 : tie.Need-slice-aggregate-enter-rings-2
-slice-aggregate-enter-rings-2 c = sym (length-take-le _ _ (omega (arith, rings-length (c .before .before .before .before .before .before .before), c .before .before .before .before .before .before .before .pre .2 .room)))
+slice-aggregate-enter-rings-2 c =
+    let s = c .before .before .before .before .before .before .before in sym (length-take-le _ _ (omega (arith, rings-length s, s .pre .2 .room)))
 
 enter-rings-requires : tie.Need-enter-rings-requires
-enter-rings-requires c κs = ((simp length-take (omega (arith, sound-facts (c .before .before .before .before .before .before .before .args .d) (c .before .before .before .before .before .before .before .pre .0) .counts .quarantined)), simp length-take (omega (arith, c .before .before .before .before .before .before .before .pre .2 .room))), rings-room (c .before .before .before .before .before .before .before .args .d) (c .before .before .before .before .before .before .before .pre .0) (c .before .before .before .before .before .before .before .args .q) (c .before .before .before .before .before .before .before .args .c) (c .before .before .before .before .before .before .before .pre .1) (c .before .before .before .before .before .before .before .pre .2))
+enter-rings-requires c κs =
+    let s = c .before .before .before .before .before .before .before in (
+      (simp length-take (omega (arith, few-kept s)), simp length-take (omega (arith, s .pre .2 .room))),
+      rings-room (s .args .d) (s .pre .0) (s .args .q) (s .args .c) (s .pre .1) (s .pre .2),
+    )
 
 control-revoked-requires : tie.Need-control-revoked-requires
 control-revoked-requires c κs = search needs

@@ -1,12 +1,25 @@
-use mathlib.Core.Path.{sym, _∙_}
+use Prim.Native.Nat.{_+_, _≤_}
+use mathlib.Core.Path.{_≡_, sym, _∙_}
 use native.Mathlib.Omega.{arith}
 use native.Mathlib.Nat.{add-sub-cancel-left}
 use borrow.Author.Tests.{not-true, not-false}
+use lib.ListN.{length}
+use Rattle.descriptor_list.specs.declared.Found.the-variants.{Endpoints}
+use Rattle.descriptor_list.specs.Lookup.{findEndpoints}
 use Rattle.descriptor_list.proofs.Laws.{found-inside}
 use Rattle.record_checks.proofs.Steps.{not-found, not-free, too-few, passes}
 use borrow.Author.Needs.{needs}
 use Rattle.record_checks.proofs.draw.draw_check.Statement.{statement}
 use Rattle.record_checks.proofs.draw.draw_check.Tie as tie
+
+-- The setting is found, and its words lie in the list.
+found : (c : tie.After-found) →
+    let s = c .before .before .before .before in
+    findEndpoints (s .args .list .now) (s .args .interface) (s .args .alternate) ≡ Endpoints (c .found .given .0 .0) (c .found .given .0 .1 .0)
+found c = sym (c .before .before .find-interface-endpoints .ensures) ∙ c .found .given .1
+
+inside : (c : tie.After-found) → c .found .given .0 .0 + c .found .given .0 .1 .0 ≤ length (c .before .before .before .before .args .list .now)
+inside c = found-inside _ _ _ _ _ (found c)
 
 find-interface-endpoints-requires : tie.Need-find-interface-endpoints-requires
 find-interface-endpoints-requires c κs = search needs
@@ -15,14 +28,10 @@ enum-known-found : tie.Need-enum-known-found
 enum-known-found c = search needs
 
 add-words : tie.Need-add-words
-add-words c =
-    let h = found-inside _ _ _ _ _ (sym (c .before .before .before .find-interface-endpoints .ensures) ∙ c .before .found .given .1) in
-    omega (arith, h)
+add-words c = omega (arith, inside (c .before))
 
 mul-words : tie.Need-mul-words
-mul-words c =
-    let h = found-inside _ _ _ _ _ (sym (c .before .before .before .find-interface-endpoints .ensures) ∙ c .before .found .given .1) in
-    omega (arith, h)
+mul-words c = omega (arith, inside (c .before))
 
 sub-words : tie.Need-sub-words
 sub-words c = search needs
@@ -31,28 +40,31 @@ part-words-start : tie.Need-part-words-start
 part-words-start c = search needs
 
 part-words-end : tie.Need-part-words-end
-part-words-end c =
-    let h = found-inside _ _ _ _ _ (sym (c .before .before .before .find-interface-endpoints .ensures) ∙ c .before .found .given .1) in
-    omega (arith, h)
+part-words-end c = omega (arith, inside (c .before))
 
 validate-endpoint-addresses-requires : tie.Need-validate-endpoint-addresses-requires
 validate-endpoint-addresses-requires c κs = search needs
 
 returns : tie.Need-returns
 returns c =
-    let c4 = c .before .before .before .before in
-    let c6 = c4 .before .before in
-    not-free _ _ _ _ _ _ _ (sym (c6 .find-interface-endpoints .ensures) ∙ c4 .found .given .1)
-    (sym (rw add-sub-cancel-left at (c .before .validate-endpoint-addresses .ensures)) ∙ not-true (c .before .validate-endpoint-addresses .result) (c .if1 .taken))
+    let c1 = c .before in
+    not-free _ _ _ _ _ _ _ (found (c1 .before .before .before))
+    (sym (rw add-sub-cancel-left at (c1 .validate-endpoint-addresses .ensures)) ∙ not-true _ (c .if1 .taken))
 
 returns-2 : tie.Need-returns-2
-returns-2 c = too-few _ _ _ _ _ _ _ (sym (c .before .before .before .before .before .before .before .find-interface-endpoints .ensures) ∙ c .before .before .before .before .before .found .given .1) (sym (rw add-sub-cancel-left at (c .before .before .validate-endpoint-addresses .ensures)) ∙ not-false (c .before .before .validate-endpoint-addresses .result) (c .before .if1 .left)) (c .if2 .taken)
+returns-2 c =
+    let c2 = c .before .before in
+    too-few _ _ _ _ _ _ _ (found (c2 .before .before .before))
+    (sym (rw add-sub-cancel-left at (c2 .validate-endpoint-addresses .ensures)) ∙ not-false _ (c .before .if1 .left)) (c .if2 .taken)
 
 enum-told : tie.Need-enum-told
 enum-told c = search needs
 
 returns-3 : tie.Need-returns-3
-returns-3 c = passes _ _ _ _ _ _ _ (sym (c .before .before .before .before .before .before .before .find-interface-endpoints .ensures) ∙ c .before .before .before .before .before .found .given .1) (sym (rw add-sub-cancel-left at (c .before .before .validate-endpoint-addresses .ensures)) ∙ not-false (c .before .before .validate-endpoint-addresses .result) (c .before .if1 .left)) (c .if2 .left)
+returns-3 c =
+    let c2 = c .before .before in
+    passes _ _ _ _ _ _ _ (found (c2 .before .before .before))
+    (sym (rw add-sub-cancel-left at (c2 .validate-endpoint-addresses .ensures)) ∙ not-false _ (c .before .if1 .left)) (c .if2 .left)
 
 returns-4 : tie.Need-returns-4
 returns-4 c =

@@ -1,3 +1,4 @@
+use Prim.Native.Nat.{_≤_}
 use mathlib.Core.Path.{_≡_, sym}
 use native.Mathlib.Omega.{arith}
 use lib.ListN.{length}
@@ -6,7 +7,7 @@ use Rattle.record_settings.specs.Held.{withoutSetting}
 use Rattle.course_steps.proofs.Laws.{room-as}
 use Rattle.device.specs.Device.{listOf, endpointMapIn, heldOf}
 use Rattle.device.specs.Release.{releaseCheck, release}
-use Rattle.device.proofs.Laws.{record-passed, refused-first, own-check}
+use Rattle.device.proofs.Laws.{Passed, record-passed, refused-first, own-check}
 use Rattle.device.proofs.Exits.{refused-left}
 use Rattle.device.proofs.ReleaseLaws.{release-left}
 use borrow.Author.Needs.{needs}
@@ -16,6 +17,19 @@ use Rattle.device.proofs.record.Device.release.Tie as tie
 -- The array of the descriptor list has its length.
 listed : (c : tie.Start) → length (c .args .self .list) ≡ 256
 listed c = search needs
+
+-- Where the function starts, from where the record's checks have passed.
+abbrev start : tie.After-enum-told → tie.Start
+start c = c .before .before .before .before .before .before .before
+
+ready : (c : tie.After-enum-told) →
+    let s = start c in
+    Passed (s .args .self) (length (s .args .ctx .now)) (length (s .args .routes .now)) (length (s .args .log .now))
+ready c = record-passed _ _ _ _ _ (c .before .before .record-check .ensures) (c .enum-told .given .1)
+
+-- The list is no longer than its array.
+few : (c : tie.After-enum-told) → start c .args .self .«list_len» ≤ length (start c .args .self .list)
+few c = omega (arith, listed (start c), ready c .facts .counts .list)
 
 record-check-requires : tie.Need-record-check-requires
 record-check-requires c κs = search needs
@@ -39,25 +53,15 @@ enum-told : tie.Need-enum-told
 enum-told c = search needs
 
 array-share-prefix-list : tie.Need-array-share-prefix-list
-array-share-prefix-list c =
-    let c4 = c .before .before .before .before in
-    let c6 = c4 .before .before in
-    let c11 = c6 .before .before .before .before .before in
-    omega (arith, listed c11, record-passed _ _ _ _ _ (c6 .record-check .ensures) (c4 .enum-told .given .1) .facts .counts .list)
+array-share-prefix-list c = few (c .before .before .before .before)
 
 slice-aggregate-words : tie.Need-slice-aggregate-words
 slice-aggregate-words c =
     let c5 = c .before .before .before .before .before in
-    let c7 = c5 .before .before in
-    let c12 = c7 .before .before .before .before .before in
-    let few = record-passed _ _ _ _ _ (c7 .record-check .ensures) (c5 .enum-told .given .1) .facts .counts .list in
-    sym (length-take-le (c12 .args .self .«list_len») (c12 .args .self .list) (omega (arith, listed c12, few)))
+    let s = start c5 in sym (length-take-le (s .args .self .«list_len») (s .args .self .list) (few c5))
 
 held-check-requires : tie.Need-held-check-requires
-held-check-requires c κs =
-    let c5 = c .before .before .before .before .before in
-    let c7 = c5 .before .before in
-    record-passed _ _ _ _ _ (c7 .record-check .ensures) (c5 .enum-told .given .1) .facts .counts .held
+held-check-requires c κs = ready (c .before .before .before .before .before) .facts .counts .held
 
 enum-known-known : tie.Need-enum-known-known
 enum-known-known c = search needs
@@ -81,19 +85,13 @@ enum-told-2 : tie.Need-enum-told-2
 enum-told-2 c = search needs
 
 endpoint-map-in-requires : tie.Need-endpoint-map-in-requires
-endpoint-map-in-requires c κs =
-    let c8 = c .before .before .before .before .before .before .before .before in
-    let c10 = c8 .before .before in
-    record-passed _ _ _ _ _ (c10 .record-check .ensures) (c8 .enum-told .given .1) .facts .counts .endpoints
+endpoint-map-in-requires c κs = ready (c .before .before .before .before .before .before .before .before) .facts .counts .endpoints
 
 owned-rings-requires : tie.Need-owned-rings-requires
 owned-rings-requires c κs = search needs
 
 alternate-of-requires : tie.Need-alternate-of-requires
-alternate-of-requires c κs =
-    let c11 = c .before .before .before .before .before .before .before .before .before .before .before in
-    let c13 = c11 .before .before in
-    record-passed _ _ _ _ _ (c13 .record-check .ensures) (c11 .enum-told .given .1) .facts .counts .held
+alternate-of-requires c κs = ready (c .before .before .before .before .before .before .before .before .before .before .before) .facts .counts .held
 
 queues-of-requires : tie.Need-queues-of-requires
 queues-of-requires c κs = search needs
@@ -108,20 +106,14 @@ release-interface-requires : tie.Need-release-interface-requires
 release-interface-requires c κs =
     let c4 = c .before .before .before .before in
     let c5 = c4 .before in
-    let c18 = c5 .before .before .before .before .before .before .before .before .before .before .before .before .before in
-    let c20 = c18 .before .before in
-    let c25 = c20 .before .before .before .before .before in
-    let f = record-passed _ _ _ _ _ (c20 .record-check .ensures) (c18 .enum-told .given .1) in (
-      room-as (c25 .args .self .spacing) _ (c5 .queues-of .result) (c4 .queues-of2 .result) _ _ (f .spaced) (c5 .queues-of .ensures)
+    let c18 = c5 .before .before .before .before .before .before .before .before .before .before .before .before .before in (
+      room-as (start c18 .args .self .spacing) _ (c5 .queues-of .result) (c4 .queues-of2 .result) _ _ (ready c18 .spaced) (c5 .queues-of .ensures)
           (c4 .queues-of2 .ensures),
-      f .room,
+      ready c18 .room,
     )
 
 without-setting-requires : tie.Need-without-setting-requires
-without-setting-requires c κs =
-    let c25 = c .before .before .before .before .before .before .before .before .before .before .before .before .before .before .before .before .before .before .before .before .before .before .before .before .before in
-    let c27 = c25 .before .before in
-    record-passed _ _ _ _ _ (c27 .record-check .ensures) (c25 .enum-told .given .1) .facts .counts .held
+without-setting-requires c κs = ready (c .before .before .before .before .before .before .before .before .before .before .before .before .before .before .before .before .before .before .before .before .before .before .before .before .before) .facts .counts .held
 
 claimed-endpoints-requires : tie.Need-claimed-endpoints-requires
 claimed-endpoints-requires c κs = search needs

@@ -1,3 +1,4 @@
+use Prim.Native.Nat.{_≤_}
 use native.Mathlib.Omega.{arith}
 use mathlib.Core.List.{[]}
 use mathlib.Core.Path.{_≡_, refl, sym}
@@ -8,7 +9,7 @@ use Rattle.record_settings.specs.Held.{interfacesOf, alternatesOf}
 use Rattle.course_steps.proofs.Laws.{room-as}
 use Rattle.device.specs.Device.{endpointMapIn}
 use Rattle.device.specs.SetConfiguration.{setConfiguration}
-use Rattle.device.proofs.Laws.{record-passed}
+use Rattle.device.proofs.Laws.{Passed, record-passed}
 use Rattle.device.proofs.Exits.{refused-left}
 use Rattle.device.proofs.SetConfigurationLaws.{set-left}
 use borrow.Author.Needs.{needs}
@@ -18,6 +19,19 @@ use Rattle.device.proofs.record.Device.set_configuration.Tie as tie
 -- The array of the descriptor list has its length.
 listed : (c : tie.Start) → length (c .args .self .list) ≡ 256
 listed c = search needs
+
+-- Where the function starts, from where the record's checks have passed.
+abbrev start : tie.After-enum-told → tie.Start
+start c = c .before .before .before .before .before .before .before
+
+ready : (c : tie.After-enum-told) →
+    let s = start c in
+    Passed (s .args .self) (length (s .args .ctx .now)) (length (s .args .routes .now)) (length (s .args .log .now))
+ready c = record-passed _ _ _ _ _ (c .before .before .record-check .ensures) (c .enum-told .given .1)
+
+-- The list is no longer than its array.
+few : (c : tie.After-enum-told) → start c .args .self .«list_len» ≤ length (start c .args .self .list)
+few c = omega (arith, listed (start c), ready c .facts .counts .list)
 
 record-check-requires : tie.Need-record-check-requires
 record-check-requires c κs = search needs
@@ -40,45 +54,26 @@ enum-told : tie.Need-enum-told
 enum-told c = search needs
 
 endpoint-map-in-requires : tie.Need-endpoint-map-in-requires
-endpoint-map-in-requires c κs = record-passed _ _ _ _ _ (c .before .before .before .before .before .record-check .ensures) (c .before .before .before .enum-told .given .1) .facts .counts .endpoints
+endpoint-map-in-requires c κs = ready (c .before .before .before) .facts .counts .endpoints
 
 queues-of-requires : tie.Need-queues-of-requires
 queues-of-requires c κs = search needs
 
 array-share-prefix-list : tie.Need-array-share-prefix-list
-array-share-prefix-list c =
-    let c10 = c .before .before .before .before .before .before .before .before .before .before in
-    let c12 = c10 .before .before in
-    let c17 = c12 .before .before .before .before .before in
-    omega (
-      arith,
-      listed (c17),
-      record-passed _ _ _ _ _ (c12 .record-check .ensures)
-          (c10 .enum-told .given .1) .facts .counts .list,
-    )
+array-share-prefix-list c = few (c .before .before .before .before .before .before .before .before .before .before)
 
 slice-aggregate-run-set-configuration : tie.Need-slice-aggregate-run-set-configuration
 slice-aggregate-run-set-configuration c =
     let c11 = c .before .before .before .before .before .before .before .before .before .before .before in
-    let c13 = c11 .before .before in
-    let c18 = c13 .before .before .before .before .before in
-    let s = c18 in sym (length-take-le (s .args .self .«list_len») (s .args .self .list) (omega (
-      arith,
-      listed s,
-      record-passed _ _ _ _ _ (c13 .record-check .ensures) (c11 .enum-told .given .1) .facts .counts .list,
-    )))
+    let s = start c11 in sym (length-take-le (s .args .self .«list_len») (s .args .self .list) (few c11))
 
 run-set-configuration-requires : tie.Need-run-set-configuration-requires
 run-set-configuration-requires c κs =
     let c4 = c .before .before .before .before in
     let c11 = c4 .before .before .before .before .before .before .before in
-    let c13 = c11 .before .before in
-    let c18 = c13 .before .before .before .before .before in
-    let f = record-passed _ _ _ _ _ (c13 .record-check .ensures) (c11 .enum-told .given .1) in let q =
-    c4 .queues-of .ensures in (
-      room-as (c18 .args .self .spacing) _ (c4 .queues-of .result) (c4 .queues-of .result) _ _
-          (f .spaced) q q,
-      (f .facts .counts .held, omega (arith, q .room, f .room)),
+    let q = c4 .queues-of .ensures in (
+      room-as (start c11 .args .self .spacing) _ (c4 .queues-of .result) (c4 .queues-of .result) _ _ (ready c11 .spaced) q q,
+      (ready c11 .facts .counts .held, omega (arith, q .room, ready c11 .room)),
     )
 
 configured-requires : tie.Need-configured-requires
