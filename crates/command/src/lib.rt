@@ -8,7 +8,7 @@ use def::Dci;
 // How many words the log of a call has at least.
 pub const LOG_ROOM: usize = 64;
 
-#[derive(Drop)]
+#[derive(Clone, Copy)]
 pub enum Command {
     Address,
     Evaluate,
@@ -25,7 +25,7 @@ pub enum Command {
 }
 
 // How a command ended.
-#[derive(Drop)]
+#[derive(Clone, Copy)]
 pub enum Sent {
     Done,
     Failed(u8),
@@ -33,7 +33,7 @@ pub enum Sent {
 }
 
 // How a sweep over endpoints ended, how many words the log has, and how many endpoints, from the first on, it made active again.
-#[derive(Drop)]
+#[derive(Clone, Copy)]
 pub struct Swept {
     pub sent: Sent,
     pub count: usize,

@@ -4,7 +4,7 @@ ghost use Rattle.command_reader.specs.Read.{command_of};
 
 // An operation and its operands; those that it has not are 0. All 0 is no command.
 #[repr(C)]
-#[derive(Drop)]
+#[derive(Clone, Copy)]
 pub struct Logged {
     pub operation: u8,
     pub first: u8,

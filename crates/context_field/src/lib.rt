@@ -2,7 +2,7 @@
 ghost use Rattle.std.specs.Prelude.{◌≡◌, ◌+◌, ◌*◌, ◌<◌, ◌≤◌, ◌^◌, length};
 ghost use Rattle.context_field.specs.Field.{word_at, read_field, write_field, InBlock};
 
-#[derive(Drop)]
+#[derive(Clone, Copy)]
 pub struct Field {
     pub word: usize,
     pub low: usize,

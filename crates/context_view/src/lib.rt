@@ -9,7 +9,7 @@ ghost use Rattle.context_view.specs.View.{is_context, is_field, field_in, endpoi
 use context_field::Field;
 use def::Dci;
 
-#[derive(Drop)]
+#[derive(Clone, Copy)]
 pub enum Reading {
     Value(u64),
     // The bytes are no context of this spacing.
@@ -18,7 +18,7 @@ pub enum Reading {
     NoField,
 }
 
-#[derive(Drop)]
+#[derive(Clone, Copy)]
 pub struct InputHandler<'a> {
     pub ctx: &'a [u8],
     pub spacing: usize,

@@ -14,7 +14,7 @@ use record_endpoint::Queues;
 use transfer::Replaced;
 
 // What is claimed: the interface, the alternate to be held, and the one that it holds, 0 where it holds none.
-#[derive(Drop)]
+#[derive(Clone, Copy)]
 pub struct ClaimArgs {
     pub slot: SlotId,
     pub spacing: usize,
@@ -26,7 +26,7 @@ pub struct ClaimArgs {
 }
 
 // The same with the endpoints of the old setting, those of the one to be held, and all of the record.
-#[derive(Drop)]
+#[derive(Clone, Copy)]
 pub struct ClaimPlan {
     pub args: ClaimArgs,
     pub old: Queues,

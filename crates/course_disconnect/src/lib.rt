@@ -14,7 +14,7 @@ use def::{Dci, SlotId};
 use record_endpoint::Queues;
 
 // Whether stopping was cut, and how many words the log has.
-#[derive(Drop)]
+#[derive(Clone, Copy)]
 pub struct Stops {
     pub cut: bool,
     pub count: usize,

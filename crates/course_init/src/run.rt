@@ -21,7 +21,7 @@ use def::SlotId;
 use record_settings::HELD_ROOM;
 
 // The device's place, and what is read from it: `header` bytes with the packet size, and the configuration value.
-#[derive(Drop)]
+#[derive(Clone, Copy)]
 pub struct BringUpArgs {
     pub slot: SlotId,
     pub max_slots: usize,
@@ -36,7 +36,7 @@ pub struct BringUpArgs {
 }
 
 // How a bring-up ended: the configuration value, if it was read, and how many configurations were.
-#[derive(Drop)]
+#[derive(Clone, Copy)]
 pub struct InitEnd {
     pub answer: Answer,
     pub count: usize,

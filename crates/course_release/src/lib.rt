@@ -14,7 +14,7 @@ use record_endpoint::Queues;
 use transfer::Replaced;
 
 // The interface's setting (alternate 0 where it holds none), its endpoints, and all endpoints of the record.
-#[derive(Drop)]
+#[derive(Clone, Copy)]
 pub struct ReleaseArgs {
     pub slot: SlotId,
     pub spacing: usize,

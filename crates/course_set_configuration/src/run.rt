@@ -18,7 +18,7 @@ use record_settings::HELD_ROOM;
 use transfer::Replaced;
 
 // The value asked for, the held settings, and their endpoints, which are all that the record has.
-#[derive(Drop)]
+#[derive(Clone, Copy)]
 pub struct SettingsArgs {
     pub slot: SlotId,
     pub spacing: usize,

@@ -17,7 +17,7 @@ use record_endpoint::{PLACES, Queues};
 use transfer::Replaced;
 
 // How a course ended: of the old endpoints, by rising address, how many are active, and whether they are gone.
-#[derive(Drop)]
+#[derive(Clone, Copy)]
 pub struct CourseEnd {
     pub answer: Answer,
     pub count: usize,

@@ -3,11 +3,11 @@ ghost use Rattle.std.specs.Prelude.{◌≡◌, true};
 ghost use Rattle.def.specs.Speed.{speed_known, first_packet_size, exponent_ok, header_packet_size};
 
 // A device slot of the controller: 1 to N.
-#[derive(Drop)]
+#[derive(Clone, Copy)]
 pub struct SlotId(pub u8);
 
 // The device context index of an endpoint: 1 is control, 2 * number + IN the others.
-#[derive(Drop)]
+#[derive(Clone, Copy)]
 pub struct Dci(pub u8);
 
 impl Dci {

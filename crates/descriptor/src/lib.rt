@@ -5,7 +5,7 @@ ghost use Rattle.descriptor.specs.Endpoint.{dci_of};
 
 use def::Dci;
 
-#[derive(Drop)]
+#[derive(Clone, Copy)]
 pub enum TransferType {
     Control,
     Isochronous,
@@ -13,7 +13,7 @@ pub enum TransferType {
     Interrupt,
 }
 
-#[derive(Drop)]
+#[derive(Clone, Copy)]
 pub struct EndpointDescriptor {
     pub address: u8,
     pub transfer_type: TransferType,

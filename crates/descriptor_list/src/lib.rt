@@ -7,7 +7,7 @@ ghost use Rattle.descriptor_list.specs.Valid.{words_ok, runs_fit, configurations
 pub const LIST_ROOM: usize = 256;
 
 // Where the endpoint words of an alternate setting stand.
-#[derive(Drop)]
+#[derive(Clone, Copy)]
 pub enum Found {
     Endpoints { start: usize, count: usize },
     NotFound,

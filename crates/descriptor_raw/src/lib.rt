@@ -15,7 +15,7 @@ pub const READ_WORDS: usize = 256;
 pub const WRITE_BYTES: usize = 2304;
 
 // What the reader and the writer answer; accepted, how many words or bytes they wrote.
-#[derive(Drop)]
+#[derive(Clone, Copy)]
 pub enum RawAnswer {
     Accepted(usize),
     TooShort,

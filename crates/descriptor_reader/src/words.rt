@@ -15,7 +15,7 @@ use descriptor_raw::{READ_WORDS, RawAnswer, place};
 const TOO_MANY: usize = READ_WORDS + 1;
 
 // What a descriptor yields.
-#[derive(Drop)]
+#[derive(Clone, Copy)]
 pub enum Made {
     Word(u32),
     Nothing,

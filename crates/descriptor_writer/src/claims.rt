@@ -4,7 +4,7 @@ ghost use Rattle.descriptor_writer.specs.Written.{ClaimedAs};
 
 use descriptor_raw::size;
 
-#[derive(Drop)]
+#[derive(Clone, Copy)]
 pub struct Claims {
     pub bytes: usize,
     pub interfaces: usize,

@@ -18,7 +18,7 @@ use record_endpoint::PLACES;
 
 // What an ask hands back: its answer and, of an accepted one, the flags of the endpoints that a claim would drop and add, and the rings
 // that it would draw, the first `count` of an array. Of a refused one all else is 0.
-#[derive(Drop)]
+#[derive(Clone, Copy)]
 pub struct Preview {
     pub answer: Answer,
     pub interface: u8,

@@ -9,7 +9,7 @@ use record_endpoint::{Endpoint, Handle, PLACES};
 use record_ring::{GIVEN_ROOM, RING_ROOM};
 use record_settings::HELD_ROOM;
 
-#[derive(Drop)]
+#[derive(Clone, Copy)]
 pub struct Device {
     // 01's mark: false after 14, 15 and every refused bring-up.
     pub usable: bool,
@@ -41,7 +41,7 @@ pub struct Device {
 }
 
 // What a call hands back: the record, the answer, and how many words it logged.
-#[derive(Drop)]
+#[derive(Clone, Copy)]
 pub struct Called {
     pub device: Device,
     pub answer: Answer,

@@ -3,7 +3,7 @@ ghost use Rattle.std.specs.Prelude.{◌≡◌};
 ghost use Rattle.hub.specs.HubWord.{hub_at};
 
 // A hub word taken apart.
-#[derive(Drop)]
+#[derive(Clone, Copy)]
 pub struct HubInfo {
     pub present: bool,
     pub has_parent: bool,

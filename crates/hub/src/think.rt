@@ -6,7 +6,7 @@ ghost use Rattle.hub.specs.ThinkTime.{think_time};
 const EIGHT_BIT_TIMES: u32 = 666;
 
 // The think time field of a hub's slot context.
-#[derive(Drop)]
+#[derive(Clone, Copy)]
 pub enum ThinkTime {
     Value(u8),
     Refused,

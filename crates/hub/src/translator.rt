@@ -5,7 +5,7 @@ ghost use Rattle.hub.specs.Translator.{translator_of};
 use crate::hub_word::hub_at;
 
 // The High speed hub that translates for a Low or Full speed device, and the port on it; all 0 where there is none.
-#[derive(Drop)]
+#[derive(Clone, Copy)]
 pub struct Translator {
     pub slot_id: u8,
     pub multi: bool,

@@ -17,7 +17,7 @@ use record_endpoint::{Endpoint, EndpointMap, PLACES};
 use record_ring::GIVEN_ROOM;
 
 // Where the endpoint words of the setting stand in the list, or why its claim is refused.
-#[derive(Drop)]
+#[derive(Clone, Copy)]
 pub enum Checked {
     Words { start: usize, count: usize },
     Refuse(Answer),

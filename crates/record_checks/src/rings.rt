@@ -11,7 +11,7 @@ use record_endpoint::{Endpoint, PLACES};
 use record_ring::{GIVEN_ROOM, RING_ROOM};
 
 // Rings in quarantine: the first `count` of an array.
-#[derive(Drop)]
+#[derive(Clone, Copy)]
 pub struct Quarantine {
     pub rings: [u64; RING_ROOM],
     pub count: usize,

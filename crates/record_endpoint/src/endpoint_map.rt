@@ -8,7 +8,7 @@ use super::order;
 use super::order::PLACES;
 
 // Ring 0: no endpoint at that place.
-#[derive(Drop)]
+#[derive(Clone, Copy)]
 pub struct EndpointMap {
     pub rings: [u64; PLACES],
     pub owners: [u8; PLACES],
@@ -16,7 +16,7 @@ pub struct EndpointMap {
 }
 
 // The endpoints of every interface, or of one.
-#[derive(Drop)]
+#[derive(Clone, Copy)]
 pub enum Owner {
     Any,
     Interface(u8),

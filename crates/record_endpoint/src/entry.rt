@@ -9,20 +9,20 @@ use super::order;
 use super::order::PLACES;
 
 // Whether transfers may be submitted to an endpoint.
-#[derive(Drop)]
+#[derive(Clone, Copy)]
 pub enum Handle {
     Active,
     Revoked,
 }
 
-#[derive(Drop)]
+#[derive(Clone, Copy)]
 pub struct Endpoint {
     pub address: u8,
     pub ring: u64,
     pub handle: Handle,
 }
 
-#[derive(Drop)]
+#[derive(Clone, Copy)]
 pub struct Endpoints {
     pub eps: [Endpoint; PLACES],
     pub owners: [u8; PLACES],

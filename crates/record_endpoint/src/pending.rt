@@ -7,7 +7,7 @@ use super::order::PLACES;
 use super::{endpoint_map, order};
 
 // Endpoints and their rings side by side, by rising address.
-#[derive(Drop)]
+#[derive(Clone, Copy)]
 pub struct Queues {
     pub dcis: [u8; PLACES],
     pub rings: [u64; PLACES],

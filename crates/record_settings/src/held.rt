@@ -7,7 +7,7 @@ use descriptor_list::Found;
 // How many settings a record has room for: one of each interface.
 pub const HELD_ROOM: usize = 32;
 
-#[derive(Drop)]
+#[derive(Clone, Copy)]
 pub struct Settings {
     pub interfaces: [u8; HELD_ROOM],
     pub alternates: [u8; HELD_ROOM],

@@ -4,13 +4,13 @@ ghost use Rattle.transfer.specs.Routes.{route_index, queues, names, registered, 
 
 use def::{Dci, SlotId};
 
-#[derive(Drop)]
+#[derive(Clone, Copy)]
 pub enum Registered {
     Done,
     QueueFull,
 }
 
-#[derive(Drop)]
+#[derive(Clone, Copy)]
 pub enum Replaced {
     Done,
     InvalidEndpoint,

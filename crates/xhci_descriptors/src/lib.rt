@@ -8,7 +8,7 @@ use descriptor_raw::RawAnswer;
 
 // The number of an answer, no code, and how many words or bytes were written: laid out as what the calls return.
 #[repr(C)]
-#[derive(Drop)]
+#[derive(Clone, Copy)]
 pub struct Answered {
     pub answer: u32,
     pub code: u32,

@@ -12,7 +12,7 @@ use record_endpoint::PLACES;
 
 // What an ask returns beside the rings. Of a refused one all but the answer is 0.
 #[repr(C)]
-#[derive(Drop)]
+#[derive(Clone, Copy)]
 pub struct Shown {
     pub answer: u32,
     pub interface: u8,

@@ -10,7 +10,7 @@ use device::Called;
 
 // Document 01's answer, the code of 13, and how many words were logged.
 #[repr(C)]
-#[derive(Drop)]
+#[derive(Clone, Copy)]
 pub struct Answered {
     pub answer: u32,
     pub code: u32,
