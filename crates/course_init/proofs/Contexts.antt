@@ -111,8 +111,8 @@ module _ (a : BringUp) (spacing : ℕ) (ctx routes : List ℕ) where
       e.ctx e.routes)
 
   -- A cut there.
-  unfoldable pub cut_here : List ℕ → Brought
-  cut_here at = brought answer.Cut (record { configured = true; value = a.value; list = a.list }) at routes
+  unfoldable pub ended_here : List ℕ → Brought
+  ended_here at = brought answer.Cut (record { configured = true; value = a.value; list = a.list }) at routes
 
   none_replaced : replaced routes a.slot [] [] ≡ replace.Done
   unfolding replaced old_match new_free
@@ -130,8 +130,8 @@ module _ (a : BringUp) (spacing : ℕ) (ctx routes : List ℕ) where
     set_part h x = comes_then o (to_set o h e some) (comes_in o ending x)
 
     pub bring_up_at_configure : AllDone o 0 (5 + configurations a.list) → outcome_at o (5 + configurations a.list) ≡ sent.Cut →
-        CutHere o (bring_up_address a spacing ctx routes) (5 + configurations a.list) command.Configure (cut_here (drop_context settings sized))
-    unfolding settings bring_up_settings ending cut_here set_configure then on_sent number
+        CutHere o (bring_up_address a spacing ctx routes) (5 + configurations a.list) command.Configure (ended_here (drop_context settings sized))
+    unfolding settings bring_up_settings ending ended_here set_configure then on_sent number
     bring_up_at_configure h z =
         let n = 5 + configurations a.list in
         cut_here o _ n _ _ _ _
@@ -141,8 +141,8 @@ module _ (a : BringUp) (spacing : ℕ) (ctx routes : List ℕ) where
     pub bring_up_at_restore : (code : ℕ) → AllDone o 0 (6 + configurations a.list) → outcome_at o (6 + configurations a.list) ≡ sent.Failed code →
         outcome_at o (7 + configurations a.list) ≡ sent.Cut →
         CutHere o (bring_up_address a spacing ctx routes) (7 + configurations a.list) command.Configure
-        (cut_here (restore_context settings (drop_context settings sized)))
-    unfolding settings bring_up_settings ending cut_here set_restore then on_sent number
+        (ended_here (restore_context settings (drop_context settings sized)))
+    unfolding settings bring_up_settings ending ended_here set_restore then on_sent number
     bring_up_at_restore code h f z =
         let n = 5 + configurations a.list in
         let one : 6 + configurations a.list ≡ n + 0 + 1 = omega arith in
@@ -154,8 +154,8 @@ module _ (a : BringUp) (spacing : ℕ) (ctx routes : List ℕ) where
 
     pub bring_up_at_evaluate : AllDone o 0 (7 + configurations a.list) → outcome_at o (7 + configurations a.list) ≡ sent.Cut →
         CutHere o (bring_up_address a spacing ctx routes) (7 + configurations a.list) command.Evaluate
-        (cut_here (value_context settings (drop_context settings sized)))
-    unfolding settings bring_up_settings ending cut_here set_evaluate then on_sent number
+        (ended_here (value_context settings (drop_context settings sized)))
+    unfolding settings bring_up_settings ending ended_here set_evaluate then on_sent number
     bring_up_at_evaluate h z =
         let n = 5 + configurations a.list in
         cut_here o _ (7 + configurations a.list) _ _ _ _

@@ -26,8 +26,8 @@ use Rattle.record_settings.specs.Held.{Held, settings_sound}
 use Rattle.record_settings.specs.Match.{endpoints_match}
 use Rattle.record_settings.proofs.Laws.{held_length, sound_fits, match_active}
 use Rattle.record_checks.proofs.Laws.{Apart, placed_given, control_ok, clean_in, apart_in, apart_none, placed_rings, placed_few, placed_none, claim_sound, endpoint_rings, endpoints_few, queue_rings_lem}
-use Rattle.record_checks.proofs.Together.{SoundRings, rings_sound}
-use Rattle.record_checks.proofs.Stored.{SoundStore, store_sound}
+use Rattle.record_checks.proofs.Together.{SoundRings, rings_sound as rings_sound_told}
+use Rattle.record_checks.proofs.Stored.{SoundStore, store_sound as store_sound_told}
 use Rattle.device.specs.declared.record.Device.{Device}
 use Rattle.device.specs.Device.{list_of, endpoint_map_in, held_of, quarantined_of, given_of, Same, keep, put, lost, valued, endpoint_arrays, setting_arrays, ring_array, with_endpoints, with_held, with_configuration, with_quarantined, unusable}
 use Rattle.device.specs.Sound.{slot_sound, counts_fit, lists_sound, live_rings, rings_sound, store_sound, sound}
@@ -64,11 +64,11 @@ sound_if d p q r s t u v w = rw (p, q, r, s, t, u, v, w)
 
 rings_if : (d : Device) → SoundRings d.usable (live_rings d) (quarantined_of d) → rings_sound d ≡ true
 unfolding rings_sound
-rings_if d r = rings_sound d.usable (live_rings d) (quarantined_of d) r
+rings_if d r = rings_sound_told d.usable (live_rings d) (quarantined_of d) r
 
 store_if : (d : Device) → SoundStore (given_of d) (live_rings d) (quarantined_of d) → store_sound d ≡ true
 unfolding store_sound
-store_if d r = store_sound (given_of d) (live_rings d) (quarantined_of d) r
+store_if d r = store_sound_told (given_of d) (live_rings d) (quarantined_of d) r
 
 same_place : (d e : Device) → Same d e → slot_sound e ≡ slot_sound d
 unfolding slot_sound

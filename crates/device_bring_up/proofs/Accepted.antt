@@ -16,7 +16,7 @@ use Rattle.record_ring.specs.Rings.{ring_ok, rings_ok, not_among}
 use Rattle.record_ring.specs.Store.{given_ok}
 use Rattle.record_ring.proofs.Promises.{given_promise, least_promise, given_fits}
 use Rattle.record_checks.proofs.Together.{rings_ok_elem}
-use Rattle.record_checks.proofs.Stored.{store_sound}
+use Rattle.record_checks.proofs.Stored.{store_sound as store_sound_told}
 use Rattle.answer.specs.Answer.{number}
 use Rattle.context.specs.Place.{spacing_of}
 use Rattle.record_endpoint.specs.EndpointMap.{endpoint_map_from, endpoint_map_of, no_endpoints}
@@ -129,7 +129,7 @@ module _ (a : BringUp) (ctx routes log : ℕ) (p : Passed a ctx routes log) (e :
   unfolding d store_sound
   store =
       rw (record_given a (spacing_of ctx) e, live, record_quarantined a (spacing_of ctx) e)
-      (store_sound a.rings (control_ring a ∷ []) []
+      (store_sound_told a.rings (control_ring a ∷ []) []
       (record {
         fit = p.rings;
         live_given = λ x h. ⊎_elim (λ s. rw s (control_given a p.rings)) (λ n. elem_none x n) (elem_cases x (control_ring a) [] h);
