@@ -1,4 +1,6 @@
 // What a call answers: document 01, "Who can cause an answer", and from 19 on the numbers of document 02.
+#![tactic(auto)]
+
 ghost use Rattle.std.specs.Prelude.{◌≡◌};
 ghost use Rattle.answer.specs.Answer.{number, code_of};
 

@@ -1,4 +1,6 @@
 // Commands to the controller and the device: each is a word in the log, and its outcome is a byte (cmd.rs and device.rs of the original).
+#![tactic(auto)]
+
 ghost use Rattle.std.specs.Prelude.{◌≡◌, ◌<◌, length, set};
 ghost use Rattle.command.specs.Command.{command_word, outcome_at};
 ghost use Rattle.command.specs.Sweep.{or_code};

@@ -1,4 +1,6 @@
 // A word of the log, read: what a driver sends.
+#![tactic(auto)]
+
 ghost use Rattle.std.specs.Prelude.{◌≡◌};
 ghost use Rattle.command_reader.specs.Read.{command_of};
 

@@ -1,5 +1,7 @@
 // The blocks of an input context, 32 bytes each: what a step makes of their fields (context.rs and device.rs of the original).
 // The code that writes them: control_block, slot_block, endpoint_block.
+#![tactic(auto)]
+
 ghost use Rattle.std.specs.Prelude.{◌≡◌, ◌<◌};
 ghost use Rattle.context_block.specs.Blocks.{word_dci};
 ghost use Rattle.context_block.specs.Flags.{flags_of};

@@ -1,4 +1,6 @@
 // Fields of a 32-byte block of little-endian doublewords (what the setters of the crate xhci do for the original).
+#![tactic(auto)]
+
 ghost use Rattle.std.specs.Prelude.{◌≡◌, ◌+◌, ◌*◌, ◌<◌, ◌≤◌, ◌^◌, length};
 ghost use Rattle.context_field.specs.Field.{word_at, read_field, write_field, InBlock};
 

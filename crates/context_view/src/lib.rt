@@ -1,5 +1,7 @@
 // A view over the lent bytes of an input context (InputHandler of the original's context.rs), and what its fields hold.
 // It holds a reference, so each function over it is proved by hand: few, and thin. `input_field` is for all other callers.
+#![tactic(auto)]
+
 ghost use Rattle.std.specs.Prelude.{◌≡◌, ◌+◌, ◌*◌, ◌≤◌, length};
 ghost use Rattle.context.specs.Place.{CONTROL, SLOT, read_at};
 ghost use Rattle.context_block.specs.Fields.{DROP-FLAGS, ADD-FLAGS, ROUTE-STRING, CONTEXT-ENTRIES, EP-TYPE, MAX-PACKET-SIZE};

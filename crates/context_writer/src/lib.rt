@@ -1,4 +1,6 @@
 // What Address, Evaluate and Configure are given: the code that writes an input context at either spacing.
+#![tactic(auto)]
+
 mod address;
 mod configure;
 mod evaluate;

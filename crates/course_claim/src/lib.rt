@@ -1,4 +1,6 @@
 // The course of a claim: old endpoints stopped, the controller and the device switched, and the routes moved.
+#![tactic(auto)]
+
 ghost use Rattle.std.specs.Prelude.{◌≡◌, List, ℕ, ◌+◌, ◌≤◌, length};
 ghost use Rattle.command.specs.Command.{LOG-ROOM};
 ghost use Rattle.record_endpoint.specs.Order.{PLACES};

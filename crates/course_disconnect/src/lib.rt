@@ -1,4 +1,6 @@
 // The course of an unplugging: control and the endpoints stopped, the slot disabled, its routes taken out.
+#![tactic(auto)]
+
 ghost use Rattle.std.specs.Prelude.{◌≡◌, List, ℕ, ◌+◌, ◌<◌, ◌≤◌, length};
 ghost use Rattle.command.specs.Command.{LOG-ROOM};
 ghost use Rattle.command.specs.Course.{played};

@@ -1,4 +1,6 @@
 // The course of a bring-up after its checks, with control's route registered: `Device::init` of the original.
+#![tactic(auto)]
+
 mod list;
 mod run;
 

@@ -1,4 +1,6 @@
 // The course of a release: old endpoints stopped, dropped from the controller, and their routes taken out.
+#![tactic(auto)]
+
 ghost use Rattle.std.specs.Prelude.{◌≡◌, List, ℕ, ◌+◌, ◌≤◌, length};
 ghost use Rattle.command.specs.Command.{LOG-ROOM};
 ghost use Rattle.record_endpoint.specs.Order.{PLACES};

@@ -1,4 +1,6 @@
 // The course of a set configuration: all endpoints stopped and dropped, the device switched, the routes taken out, the controller told.
+#![tactic(auto)]
+
 mod held;
 mod run;
 

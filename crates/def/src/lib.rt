@@ -1,4 +1,6 @@
 // Slot and endpoint numbers, speeds, and the packet sizes of the control endpoint (def.rs, mod.rs and `setup_max_packet` of the original).
+#![tactic(auto)]
+
 ghost use Rattle.std.specs.Prelude.{◌≡◌, true};
 ghost use Rattle.def.specs.Speed.{speed_known, first_packet_size, exponent_ok, header_packet_size};
 

@@ -1,4 +1,6 @@
 // Descriptor words, and the Dci of an endpoint's address (device.rs and endpoint.rs of the original).
+#![tactic(auto)]
+
 ghost use Rattle.std.specs.Prelude.{◌≡◌};
 ghost use Rattle.descriptor.specs.Word.{kind, configuration_value, interface_number, alternate_setting, endpoint_descriptor, word_ok};
 ghost use Rattle.descriptor.specs.Endpoint.{dci_of};

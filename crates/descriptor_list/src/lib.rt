@@ -1,4 +1,6 @@
 // The configurations of a device as a list of descriptor words: which lists are valid, and lookup (device.rs of the original).
+#![tactic(auto)]
+
 ghost use Rattle.std.specs.Prelude.{◌≡◌, ◌&&◌, leb, drop};
 ghost use Rattle.descriptor_list.specs.Lookup.{endpoint_run, find_endpoints};
 ghost use Rattle.descriptor_list.specs.Valid.{words_ok, runs_fit, configurations, interfaces, valid_list};

@@ -1,4 +1,6 @@
 // What an endpoint's descriptor says of its type, interval, burst and payload (device.rs and endpoint.rs of the original).
+#![tactic(auto)]
+
 ghost use Rattle.std.specs.Prelude.{◌≡◌};
 ghost use Rattle.descriptor.specs.Endpoint.{endpoint_type, periodic_interval, isochronous_interval, xhci_interval, is_periodic, periodic_burst, esit_payload};
 

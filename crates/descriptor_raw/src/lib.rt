@@ -1,4 +1,6 @@
 // Raw configuration descriptors (USB 2.0 section 9.6): what their reader and their writer share.
+#![tactic(auto)]
+
 pub mod place;
 pub mod size;
 

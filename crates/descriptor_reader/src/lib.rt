@@ -1,4 +1,6 @@
 // The reader of raw configuration descriptors: bytes to descriptor words.
+#![tactic(auto)]
+
 mod claims;
 mod cut;
 mod words;

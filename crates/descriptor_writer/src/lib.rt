@@ -1,4 +1,6 @@
 // The writer of raw configuration descriptors: descriptor words to bytes.
+#![tactic(auto)]
+
 mod claims;
 mod made;
 mod put;

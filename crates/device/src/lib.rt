@@ -1,4 +1,6 @@
 // The record of a device and the calls on it (device.rs of the original, and the lifecycle of src/device.rs above it).
+#![tactic(auto)]
+
 mod ask;
 mod check;
 mod claim;

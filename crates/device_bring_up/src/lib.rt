@@ -1,4 +1,6 @@
 // The bring-up of a slot's device: the checks, control's route, the course, and the record.
+#![tactic(auto)]
+
 mod check;
 mod record;
 

@@ -1,4 +1,6 @@
 // The record as words in a buffer that the caller lends.
+#![tactic(auto)]
+
 mod layout;
 mod reading;
 mod test;

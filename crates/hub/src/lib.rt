@@ -1,4 +1,6 @@
 // The hubs above a device: what its slot context says of them (hub/mod.rs, `address` and `update_hub_inner` of the original).
+#![tactic(auto)]
+
 mod chain;
 mod hub_word;
 mod route;

@@ -1,4 +1,6 @@
 // What the checks of a record ask of its fields and arrays.
+#![tactic(auto)]
+
 mod draw;
 mod held;
 mod lengths;

@@ -1,4 +1,6 @@
 // The endpoints and owners of a record, and the rings of a claim (device.rs and ty/ep/mod.rs of the original).
+#![tactic(auto)]
+
 mod endpoint_map;
 mod entry;
 mod order;

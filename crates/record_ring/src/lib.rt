@@ -1,4 +1,6 @@
 // Ring addresses: nonzero multiples of 16, distinct; and the rings given to a slot.
+#![tactic(auto)]
+
 mod store;
 
 ghost use Rattle.std.specs.Prelude.{◌≡◌, true, ◌&&◌, length, drop};

@@ -1,4 +1,6 @@
 // The settings that a record holds, and whether its endpoints are theirs (device.rs of the original).
+#![tactic(auto)]
+
 mod held;
 mod matching;
 

@@ -1,4 +1,6 @@
 // Replays bring-ups that the original was given, through the function for C; `stdout` is what the original left.
+#![tactic(auto)]
+
 use xhci_device::Answered;
 
 // The numbers stand in the order of the parameters: slot, n, speed, has_parent, parent, port, root_port, header, packet, value.

@@ -1,4 +1,6 @@
 // Replays unpluggings that the original was given, through the function for C; `stdout` is what the original left.
+#![tactic(auto)]
+
 fn run(ctx: &mut [u8]) {
     let mut image = [0u64; xhci_device::WORDS];
     replay_sample::words(&mut image);

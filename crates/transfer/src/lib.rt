@@ -1,4 +1,6 @@
 // The routes of all slots: the ring that each endpoint's completions go to (transfer.rs of the original).
+#![tactic(auto)]
+
 ghost use Rattle.std.specs.Prelude.{◌≡◌, [], get_or};
 ghost use Rattle.transfer.specs.Routes.{route_index, queues, names, registered, with_registered, old_match, new_free, published, replaced, with_replaced, without_slot};
 

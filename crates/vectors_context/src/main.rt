@@ -1,4 +1,6 @@
 // Runs the context facts of document 01 at both spacings, over contents that are not zero; crates/vectors_context/stdout holds what they must be.
+#![tactic(auto)]
+
 mod show;
 mod steps;
 mod view;

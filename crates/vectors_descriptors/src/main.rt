@@ -1,5 +1,7 @@
 // Reads the descriptors of real devices, as `stdin` has them, through the functions for C, writes their words, reads these bytes again and
 // compares; `stdout` holds what it must print.
+#![tactic(auto)]
+
 mod show;
 mod text;
 

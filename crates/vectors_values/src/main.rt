@@ -1,4 +1,6 @@
 // Runs the values that document 01 gives for the leaves, and some at their limits; crates/vectors_values/stdout holds what they must be.
+#![tactic(auto)]
+
 mod chain;
 mod endpoint;
 mod list;

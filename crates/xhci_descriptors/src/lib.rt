@@ -1,4 +1,6 @@
 // The reader and the writer of raw descriptors for C (host/include/xhci_device.h).
+#![tactic(auto)]
+
 ghost use Rattle.std.specs.Prelude.{◌≡◌};
 ghost use Rattle.descriptor_raw.specs.Read.{read_descriptors};
 ghost use Rattle.descriptor_raw.specs.Write.{write_descriptors};

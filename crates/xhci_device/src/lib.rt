@@ -1,4 +1,6 @@
 // The calls for C: the record as an image in a buffer that the caller lends (host/include/xhci_device.h).
+#![tactic(auto)]
+
 mod ask;
 mod claim;
 mod command;

@@ -1,0 +1,33 @@
+use mathlib.Core.Path.{refl, ◌∙◌}
+use native.Mathlib.Omega.{arith}
+use Rattle.command.specs.Course.{on_sent}
+use Rattle.command.specs.Sweep.{or_code}
+use Rattle.command.proofs.Phases.{Begins, continued, went_on}
+use Rattle.course_steps.specs.End.{answer_of}
+use Rattle.course_steps.proofs.Laws.{room_same, ended, ended_resumed}
+use Rattle.course_claim.specs.Claim.{claim_context, claim_resume, claim_configure}
+use Rattle.course_claim.proofs.configure.Goals as goal
+
+pub switch-requires : goal.switch-requires
+switch-requires c = (
+  room_same _ _ _ _ _ c.requires.0 c.prepare_configure.auto.ctx,
+  (c.requires.1.0, omega (arith, c.send-s.auto.log, c.requires.1.1)),
+)
+
+pub returns-in-Done : goal.returns-in-Done
+unfolding claim_configure claim_context on_sent Begins continued
+returns-in-Done c =
+    went_on _ _ _ _ _ refl c.send-s.ensures c.in-Done.is (rw (← c.prepare_configure.ensures) c.switch.ensures)
+
+pub returns-in-Failed : goal.returns-in-Failed
+unfolding claim_configure claim_context claim_resume on_sent Begins continued
+returns-in-Failed c =
+    went_on _ _ _ _ _ refl c.send-s.ensures c.in-Failed.is (rw (← c.prepare_configure.ensures)
+    (ended_resumed _ _ _ _ (λ s. answer_of (or_code _ s)) (c.resume_stopped_endpoints-back.ensures _)
+    (c.settings_kept.ensures ∙ rw (c.answer_of-answer.ensures, c.or_code.ensures))))
+
+pub returns-in-Cut : goal.returns-in-Cut
+unfolding claim_configure claim_context on_sent Begins continued
+returns-in-Cut c =
+    went_on _ _ _ _ _ refl c.send-s.ensures c.in-Cut.is
+    (rw (← c.prepare_configure.ensures) (ended _ c.settings_kept-in-Cut.ensures))

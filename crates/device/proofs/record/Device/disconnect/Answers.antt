@@ -1,0 +1,35 @@
+use lib.ListN.{length}
+use Rattle.device.specs.Disconnect.{disconnect}
+use Rattle.device.proofs.Exits.{refused_left}
+use Rattle.device.proofs.Disconnected.{UpPassed}
+use Rattle.device.proofs.DisconnectLaws.{disconnect_passed, course_active, disconnect_left}
+use Rattle.device.proofs.record.Device.disconnect.Goals as goal
+
+pub returns-in-Refuse : goal.returns-in-Refuse
+unfolding disconnect
+returns-in-Refuse c =
+    rw c.refused.ensures (refused_left _ _ c.disconnect_check-check.ensures _ c.in-Refuse.is c.args.self _
+    c.args.ctx.now c.args.routes.now c.args.log.now)
+
+pub endpoint_map_in-c-requires : goal.endpoint_map_in-c-requires
+endpoint_map_in-c-requires c = ((let it : UpPassed c.args.self (length c.args.ctx.now) (length c.args.routes.now) (length c.args.log.now) = disconnect_passed _ _ _ _ _ c.disconnect_check-check.ensures c.in_default.is in it)).facts.counts.endpoints
+
+pub disconnect-e-requires : goal.disconnect-e-requires
+disconnect-e-requires c = (c.queues_of-q.ensures.room, ((let it : UpPassed c.args.self (length c.args.ctx.now) (length c.args.routes.now) (length c.args.log.now) = disconnect_passed _ _ _ _ _ c.disconnect_check-check.ensures c.in_default.is in it)).room)
+
+pub disconnect_end-requires : goal.disconnect_end-requires
+disconnect_end-requires c = (
+  ((let it : UpPassed c.args.self (length c.args.ctx.now) (length c.args.routes.now) (length c.args.log.now) = disconnect_passed _ _ _ _ _ c.disconnect_check-check.ensures c.in_default.is in it)).is-sound,
+  c.endpoint_map_in-c.ensures,
+  c.queues_of-q.ensures,
+  course_active c.args.self c.endpoint_map_in-c.result c.queues_of-q.result c.disconnect-e.result _ c.args.ctx.now
+      c.args.routes.now c.args.log.now _ _ c.endpoint_map_in-c.ensures c.queues_of-q.ensures
+      (c.disconnect-e.ensures c.args.ctx.now),
+)
+
+pub returns : goal.returns
+returns c =
+    disconnect_left c.args.self c.endpoint_map_in-c.result c.queues_of-q.result c.disconnect-e.result _ c.args.ctx.now
+    c.args.routes.now c.args.log.now _ _ c.endpoint_map_in-c.ensures c.queues_of-q.ensures
+    (c.disconnect-e.ensures c.args.ctx.now) _ _ c.disconnect_check-check.ensures c.in_default.is
+    (c.disconnect_end.ensures _ _ _)

@@ -1,0 +1,15 @@
+use Prim.Native.Nat.{◌≤◌, ◌-◌}
+use mathlib.Core.Path.{◌≡◌}
+use lib.ListN.{length}
+use Rattle.record_ring.specs.Rings.{RING-ROOM}
+use Rattle.device_image.specs.Layout.{QUARANTINED, WORDS}
+use Rattle.device_image.specs.Image.{number_at}
+use Rattle.device_image.proofs.Steps.{Read}
+use Rattle.device_image.proofs.reading.quarantined_in.Given as goal
+
+abbrev pub invariant-loop-i : goal.invariant-loop-i
+invariant-loop-i l =
+    (length l.image ≡ WORDS) × (l.i ≤ RING-ROOM) × Read RING-ROOM (number_at l.image) QUARANTINED l.i l.rings
+
+abbrev pub decreases-loop-i : goal.decreases-loop-i
+decreases-loop-i l = RING-ROOM - l.i

@@ -1,0 +1,43 @@
+use mathlib.Core.Path.{◌≡◌, sym, ◌∙◌}
+use native.Mathlib.Omega.{arith}
+use lib.ListN.{get_or, length-set, get_or-eq_default}
+use mathlib.Core.Logic.{⊎_elim}
+use lib.Seq.{set_out}
+use Rattle.record_endpoint.specs.EndpointMap.{pending_rings}
+use Rattle.record_endpoint.proofs.Steps.{pending_next, pending_none}
+use borrow.Author.Rules.{rules}
+use Rattle.record_endpoint.proofs.pending.pending_rings.Goals as goal
+
+pub loop-i-preserved-then-place-lt-PLACES : goal.loop-i-preserved-then-place-lt-PLACES
+loop-i-preserved-then-place-lt-PLACES c = let l = c.loop-i in
+    let a = c.args in (
+      search rules,
+      simp length-set l.invariant.1,
+      l.invariant.2
+          ∙ pending_next a.words.now a.rings.now l.by l.i (omega arith)
+          ∙ rw (
+            ← c.endpoint_descriptor-e.ensures,
+            ← c.place_of-place.ensures.0,
+            ← (let it : c.if-i-rings.ring ≡ get_or c.args.rings.now c.loop-i.i 0 = ⊎_elim (λ w. w.2)
+                (λ w. w.1 ∙ sym (get_or-eq_default c.args.rings.now 0 w.0.left))
+                c.if-i-rings.branch in it),
+          ),
+    )
+
+pub loop-i-preserved : goal.loop-i-preserved
+loop-i-preserved c = let l = c.loop-i in
+    let a = c.args in (
+      search rules,
+      l.invariant.1,
+      l.invariant.2
+          ∙ pending_next a.words.now a.rings.now l.by l.i (omega arith)
+          ∙ rw (
+            ← c.endpoint_descriptor-e.ensures,
+            ← c.place_of-place.ensures.0,
+            set_out l.by c.place_of-place.result (get_or a.rings.now l.i 0) (omega arith),
+          ),
+    )
+
+pub returns : goal.returns
+unfolding pending_rings
+returns c = sym (c.loop-i.invariant.2 ∙ pending_none c.args.words.now _ _ c.loop-i.i (omega arith))

@@ -1,0 +1,20 @@
+use borrow.Author.Rules.{rules}
+use mathlib.Core.Path.{sym, ◌∙◌}
+use mathlib.Core.Logic.{inl, inr, ⊎_elim}
+use borrow.Author.Tests.{not-true, not-false}
+use Rattle.record_ring.proofs.Steps.{fit_go, fit_stop, fit_none}
+use Rattle.record_ring.proofs.rings_apart.Goals as goal
+
+pub returns-then-not-ring_ok : goal.returns-then-not-ring_ok
+returns-then-not-ring_ok c =
+    sym (c.loop-i.invariant.1 ∙ fit_stop _ _ c.loop-i-test.true (⊎_elim (λ w. inl (sym c.ring_ok.ensures ∙
+    not-true c.ring_ok.result w.taken)) (λ w. inr (sym w.1.ensures ∙ w.2.taken)) c.then-not-ring_ok.branch))
+
+pub loop-i-preserved : goal.loop-i-preserved
+loop-i-preserved c = (
+  search rules,
+  c.loop-i.invariant.1 ∙ fit_go _ _ c.loop-i-test.true (sym c.ring_ok.ensures ∙ c.if-not-ring_ok.false) (sym c.has_ring.ensures ∙ c.if-has_ring.false),
+)
+
+pub returns : goal.returns
+returns c = sym (c.loop-i.invariant.1 ∙ fit_none _ _ c.loop-i-test.false)

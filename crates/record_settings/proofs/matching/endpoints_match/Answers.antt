@@ -1,0 +1,27 @@
+use mathlib.Core.Path.{sym, ◌∙◌}
+use native.Mathlib.Nat.{sub-zero}
+use borrow.Author.Tests.{not-true, not-false}
+use Rattle.record_settings.specs.Match.{all_own}
+use Rattle.record_settings.proofs.Steps.{passed_next, passed_none, match_not, match_owners}
+use Rattle.record_settings.proofs.matching.endpoints_match.Goals as goal
+
+pub loop-i-init : goal.loop-i-init
+loop-i-init c = rw sub-zero
+
+pub returns-then-not-ok : goal.returns-then-not-ok
+unfolding all_own
+returns-then-not-ok c = sym
+    (match_not _ _ _
+    (c.loop-i.invariant
+    ∙ passed_next _ _ _ _ _ c.loop-i-test.true
+    ∙ rw (← c.owns_places-ok.ensures, c.if-not-ok.true)))
+
+pub loop-i-preserved : goal.loop-i-preserved
+unfolding all_own
+loop-i-preserved c = c.loop-i.invariant
+    ∙ passed_next _ _ _ _ _ c.loop-i-test.true
+    ∙ rw (← c.owns_places-ok.ensures, c.if-not-ok.false)
+
+pub returns : goal.returns
+unfolding all_own
+returns c = c.owners_held.ensures _ ∙ sym (match_owners _ _ _ (c.loop-i.invariant ∙ passed_none _ _ _ _ _ c.loop-i-test.false))
