@@ -4,8 +4,7 @@ ghost use Rattle.command_reader.specs.Read.{command_of};
 
 use command_reader::Logged;
 
-#[unsafe(no_mangle)]
-pub extern "C" fn xhci_device_command_of(word: u32) -> Logged
+pub fn xhci_device_command_of(word: u32) -> Logged
     ensures { result ≡ command_of word }
 {
     command_reader::command_of(word)
