@@ -1,4 +1,6 @@
 // What the replays of the original's sample share: numbers from standard input, and what a call left on standard output.
+#![tactic(auto)]
+
 mod read;
 mod show;
 mod sizes;
