@@ -1,7 +1,7 @@
 use mathlib.Core.Path.{◌≡◌}
 use mathlib.Core.Bool.{true, ◌||◌, or-true}
 use native.Mathlib.Omega.{arith}
-use borrow.Author.Tests.{eq-eqb, ne_eqb, le-leb, lt-leb, not-true, not-false}
+use borrow.Author.Tests.{eq-eqb, ne_eqb, le-leb, lt-leb}
 use lib.Dec.{eqb}
 use Rattle.record_checks.proofs.sound.slot_sound.Goals as goal
 use Rattle.record_checks.proofs.sound.slot_sound.Goals.{else-spacing-ne32-via-then-spacing-ne32+else-spacing-ne64, else-spacing-ne32-via-else-spacing-ne32}

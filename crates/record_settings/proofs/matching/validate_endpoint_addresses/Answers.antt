@@ -1,9 +1,7 @@
-use mathlib.Core.Path.{◌≡◌, sym, ◌∙◌}
+use mathlib.Core.Path.{sym, ◌∙◌}
 use borrow.Author.Rules.{rules}
 use mathlib.Core.Bool.{true, false}
-use borrow.Author.Tests.{eq-eqb, ne_eqb, not-true, not-false}
-use lib.Dec.{eqb}
-use lib.ListN.{length, get_or}
+use borrow.Author.Tests.{eq-eqb, ne_eqb}
 use Rattle.record_settings.proofs.Steps.{free_next, free_skip, free_none}
 use Rattle.record_settings.proofs.matching.validate_endpoint_addresses.Goals as goal
 use Rattle.record_settings.proofs.matching.validate_endpoint_addresses.Goals.{else-c-place-ne0-via-then-c-place-ne0+else-c-place, else-c-place-ne0-via-else-c-place-ne0}
