@@ -1,0 +1,47 @@
+use Prim.Native.Nat.{◌≤◌, ◌-◌}
+use lib.ListN.{length}
+use borrow.Author.Rules.{rules}
+use Rattle.vectors_descriptors.proofs.text.line_end.Statement.{statement}
+use Rattle.vectors_descriptors.proofs.text.line_end.Tie as tie
+
+abbrev invariant-loop : tie.invariant-loop
+invariant-loop text from i₀ i =
+    (from ≤ i) × (i ≤ length text)
+
+abbrev decreases-loop : tie.decreases-loop
+decreases-loop text from i₀ i = length text - i
+
+loop-holds : tie.Need-loop-init invariant-loop decreases-loop
+loop-holds c = search rules
+
+shared-slice-read-if1 : tie.Need-shared-slice-read-if1 invariant-loop decreases-loop
+shared-slice-read-if1 c = search rules
+
+returns : tie.Need-returns invariant-loop decreases-loop
+returns c = search rules
+
+add-i : tie.Need-overflow-add-i invariant-loop decreases-loop
+add-i c = search rules
+
+loop-less : tie.Need-loop-smaller invariant-loop decreases-loop
+loop-less c = search rules
+
+loop-again : tie.Need-loop-preserved invariant-loop decreases-loop
+loop-again c = search rules
+
+returns-2 : tie.Need-returns-2 invariant-loop decreases-loop
+returns-2 c = search rules
+
+pub line-end-spec : {M : Type 1} → statement M
+line-end-spec =
+    tie.close
+    (tie.spec
+    invariant-loop
+    decreases-loop
+    loop-holds
+    shared-slice-read-if1
+    returns
+    add-i
+    loop-less
+    loop-again
+    returns-2)
