@@ -13,7 +13,7 @@ use std::env;
 use std::path::{Path, PathBuf};
 use std::process::exit;
 
-use sources::{ARCHIVES, archive, digest, fault, kit, kit_file, origin, write_origin};
+use sources::{ARCHIVES, archive, crates, digest, fault, kit, kit_file, origin, parts, write_origin};
 
 /// Cargo prints what is wrong.
 fn fail(message: &str) -> ! {
@@ -56,12 +56,18 @@ fn built(root: &Path) -> PathBuf {
     let is_old = |known: &&(&str, String)| fault(&folder, known.0, Some(&known.1), kit.as_deref()).is_some();
     let old: Vec<_> = digests.iter().filter(is_old).collect();
     if !old.is_empty() {
-        prove::build(root, &old.iter().map(|known| known.0).collect::<Vec<_>>());
+        prove::build(root, &old.iter().map(|known| known.0).collect::<Vec<_>>(), &folder);
     }
     for (name, digest) in old {
         write_origin(&folder, name, digest).expect("a file beside the archive");
     }
     folder
+}
+
+/// What the archives are made from. (What rt keeps in a crate's out/ is none of it.)
+fn sources(root: &Path) -> Vec<PathBuf> {
+    let crates = crates(root, &ARCHIVES).expect("crates.txt");
+    crates.iter().flat_map(|(name, _)| parts(root, name)).chain([root.join("crates.txt")]).collect()
 }
 
 fn main() {
@@ -74,7 +80,7 @@ fn main() {
     for name in ["XHCI_DEVICE_LIB_DIR", "XHCI_DEVICE_LIB_UNCHECKED"] {
         println!("cargo:rerun-if-env-changed={name}");
     }
-    let sources = root.iter().flat_map(|root| [root.join("crates"), root.join("crates.txt")]);
+    let sources = root.iter().flat_map(|root| sources(root));
     let made = ARCHIVES.iter().flat_map(|name| [archive(&folder, name), origin(&folder, name)]);
     for path in sources.chain(made).chain(kit_file()).chain(["build.rs".into(), "build".into()]) {
         println!("cargo:rerun-if-changed={}", path.display());
