@@ -135,8 +135,8 @@ cut_short P o n (suc i) (sends c ctx k) t h =
     let m : n + 1 + i ≡ n + suc i = omega arith in
     let d = k (outcome_at o n) in
     let s =
-        subst (λ (x : ℕ). P (context_at o (n + 1) i d) (result (take x o) (n + 1) d) × (words (take x o) (n + 1) d ≡ take (i + 1) (words o (n + 1) d)))
-        m (cut_short P o (n + 1) i d (t.1 (outcome_at o n)) (omega arith)) in
+    subst (λ (x : ℕ). P (context_at o (n + 1) i d) (result (take x o) (n + 1) d) × (words (take x o) (n + 1) d ≡ take (i + 1) (words o (n + 1) d)))
+    m (cut_short P o (n + 1) i d (t.1 (outcome_at o n)) (omega arith)) in
     let l : suc (i + 1) ≡ suc i + 1 = omega arith in
     rw e (s.0, ap (λ ws. command_word c ∷ ws) s.1 ∙ ap (λ (j : ℕ). take j (command_word c ∷ words o (n + 1) d)) l)
 

@@ -10,8 +10,9 @@ nonzero_rem-word c = table_some (c.args.word / 2 ^ 28) (omega (arith, c.if-opera
 
 pub returns-then-operation-gt-OPERATIONS : goal.returns-then-operation-gt-OPERATIONS
 returns-then-operation-gt-OPERATIONS c = elim c.then-operation-gt-OPERATIONS.branch [
-    then-operation-gt-OPERATIONS-via-then-operation-gt-OPERATIONS w ↦ past_last _ w.if-operation-gt-OPERATIONS.true
-  | then-operation-gt-OPERATIONS-via-else-operation-gt-OPERATIONS+then-word-operation-ne0 w ↦ more_below c.args.word (omega arith) (ne_eqb _ _ w.if-word-operation-ne0.true) ]
+  | then-operation-gt-OPERATIONS-via-then-operation-gt-OPERATIONS w ↦ past_last _ w.if-operation-gt-OPERATIONS.true
+  | then-operation-gt-OPERATIONS-via-else-operation-gt-OPERATIONS+then-word-operation-ne0 w ↦ more_below c.args.word (omega arith) (ne_eqb _ _ w.if-word-operation-ne0.true)
+]
 
 pub returns : goal.returns
 returns c = a_command c.args.word (omega (arith, c.if-operation-gt-OPERATIONS.false)) (eq-eqb _ _ c.if-word-operation-ne0.false)
