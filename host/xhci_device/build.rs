@@ -1,6 +1,6 @@
 //! Links the archives. The folder XHCI_DEVICE_LIB_DIR has ready ones, which must have been made from the sources that are
-//! here; XHCI_DEVICE_LIB_UNCHECKED takes those of unknown origin. Otherwise `rt` proves and builds each, unless the last
-//! one was made from these sources.
+//! here; XHCI_DEVICE_LIB_UNCHECKED takes those of unknown origin. Otherwise host/archives proves and builds each, unless the
+//! last one was made from these sources.
 
 #[path = "build/prove.rs"]
 mod prove;
@@ -56,7 +56,7 @@ fn built(root: &Path) -> PathBuf {
     let is_old = |known: &&(&str, String)| fault(&folder, known.0, Some(&known.1), kit.as_deref()).is_some();
     let old: Vec<_> = digests.iter().filter(is_old).collect();
     if !old.is_empty() {
-        prove::build(root, &old.iter().map(|known| known.0).collect::<Vec<_>>(), &folder);
+        prove::build(root, &old.iter().map(|known| known.0).collect::<Vec<_>>());
     }
     for (name, digest) in old {
         write_origin(&folder, name, digest).expect("a file beside the archive");
@@ -67,7 +67,11 @@ fn built(root: &Path) -> PathBuf {
 /// What the archives are made from. (What rt keeps in a crate's out/ is none of it.)
 fn sources(root: &Path) -> Vec<PathBuf> {
     let crates = crates(root, &ARCHIVES).expect("crates.txt");
-    crates.iter().flat_map(|(name, _)| parts(root, name)).chain([root.join("crates.txt")]).collect()
+    crates
+        .iter()
+        .flat_map(|(name, _)| parts(root, name))
+        .chain(["crates.txt", "host/archives"].map(|file| root.join(file)))
+        .collect()
 }
 
 fn main() {

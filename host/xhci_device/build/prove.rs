@@ -1,4 +1,4 @@
-//! Has `rt` prove and build the archive, and shows how far it is.
+//! Has host/archives prove and build an archive, and shows how far it is.
 
 use std::fs::{self, File, OpenOptions};
 use std::io::{IsTerminal, Write};
@@ -9,7 +9,7 @@ use std::thread::sleep;
 use std::time::{Duration, Instant};
 
 use crate::fail;
-use crate::sources::{archive, crates, exporting};
+use crate::sources::crates;
 
 /// Cargo keeps what a build script prints to itself. Where its own standard error is a terminal or a pipe, lines
 /// are written there as well.
@@ -46,20 +46,16 @@ fn minutes(time: Duration) -> String {
     format!("{}:{:02} min", time.as_secs() / 60, time.as_secs() % 60)
 }
 
-/// Has rt build the archive of a crate for any processor of x86-64, and calls `look` with its log until it ends.
-fn run(folder: &Path, mut look: impl FnMut(&Path)) {
+/// Has host/archives build an archive, and calls `look` with its log until it ends.
+fn run(root: &Path, name: &str, mut look: impl FnMut(&Path)) {
     let log = Path::new(&std::env::var_os("OUT_DIR").expect("cargo's variable")).join("rt.log");
     let file = File::create(&log).expect("a file in OUT_DIR");
     let copy = file.try_clone().expect("a file in OUT_DIR");
-    let mut rt = Command::new("rt");
-    let rt = rt.args(["lib", "--cpu=x86-64"]).current_dir(folder).env("PYTHONUNBUFFERED", "1").stdin(Stdio::null());
-    let mut child = rt
-        .stdout(file)
-        .stderr(copy)
-        .spawn()
-        .unwrap_or_else(|e| fail(&format!("rt: {e}; XHCI_DEVICE_LIB_DIR can name a folder with the archives")));
+    let mut script = Command::new(root.join("host/archives"));
+    let script = script.arg(name).env("PYTHONUNBUFFERED", "1").stdin(Stdio::null()).stdout(file).stderr(copy);
+    let mut child = script.spawn().unwrap_or_else(|e| fail(&format!("host/archives: {e}")));
     let status = loop {
-        if let Some(status) = child.try_wait().expect("rt's end") {
+        if let Some(status) = child.try_wait().expect("the script's end") {
             break status;
         }
         look(&log);
@@ -67,18 +63,20 @@ fn run(folder: &Path, mut look: impl FnMut(&Path)) {
     };
     if !status.success() {
         let said = fs::read_to_string(log).unwrap_or_default();
-        fail(&format!("rt lib in {}: {status}\n{said}", folder.display()));
+        fail(&format!(
+            "host/archives {name}: {status}; XHCI_DEVICE_LIB_DIR can name a folder with the archives\n{said}"
+        ));
     }
 }
 
-/// Proves what archives are made of, and puts them into a folder under their names.
-pub fn build(root: &Path, archives: &[&str], to: &Path) {
+/// Proves what archives are made of, and builds them.
+pub fn build(root: &Path, archives: &[&str]) {
     let mut screen = Screen::open();
     let (begun, count) = (Instant::now(), crates(root, archives).expect("crates.txt").len());
     screen.line(&format!("  Proving {}: {count} crates; the first time this takes minutes", archives.join(", ")));
     for name in archives {
-        let (folder, mut shown) = (root.join("crates").join(exporting(name)), None);
-        run(&folder, |log| {
+        let mut shown = None;
+        run(root, name, |log| {
             let (proved, being) = noted(log);
             if being.is_some() && being != shown {
                 let (being, time) = (being.as_deref().unwrap_or_default(), minutes(begun.elapsed()));
@@ -86,9 +84,6 @@ pub fn build(root: &Path, archives: &[&str], to: &Path) {
                 shown = Some(being.to_string());
             }
         });
-        fs::create_dir_all(to).expect("a folder for the archives");
-        let made = archive(&folder.join("out"), &exporting(name));
-        fs::copy(&made, archive(to, name)).unwrap_or_else(|e| fail(&format!("{}: {e}", made.display())));
     }
     screen.line(&format!("  Proved {count} crates in {}", minutes(begun.elapsed())));
 }
