@@ -127,7 +127,7 @@ named_follow ss block (h ∷ hs) size i c f =
       named_follow ss block hs size i (and_right (clear_cut ss h.field) (clear ss hs) rest) f.1,
     )
 
--- Fields that share no bit, as `apart-true` says it.
+-- Fields that share no bit, as `apart_true` says it.
 pub apart_from :
     (f g : Field) →
     (f.word ≢ g.word) ⊎ (f.low + f.width ≤ g.low) ⊎ (g.low + g.width ≤ f.low) →

@@ -1,5 +1,5 @@
--- Which sockets a route string tells apart, by the ports on the way up from each (`ports`): `told-apart` where all are numbered
--- from 1 to 15, `above-fifteen` and `at-most-fifteen` where one is not. The lemmas between serve their proofs.
+-- Which sockets a route string tells apart, by the ports on the way up from each (`ports`): `told_apart` where all are numbered
+-- from 1 to 15, `above_fifteen` and `at_most_fifteen` where one is not. The lemmas between serve their proofs.
 use Rattle.std.specs.Prelude.{ℕ, suc, ◌+◌, ◌*◌, ◌/◌, ◌%◌, ◌<◌, ◌≤◌, ◌^◌, ◌≡◌, refl, List, [], ◌∷◌, ◌++◌, length, get_or}
 use Rattle.std.proofs.Common.{sym, ◌∙◌, ap, arith, mul-le-mul_right, length-append}
 use Rattle.std.proofs.Math.Nat.{pow-succ', pow-le-pow_right}
