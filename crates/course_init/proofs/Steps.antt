@@ -1,9 +1,11 @@
 -- What the parts of the code come to.
 use Prim.Native.Nat.{ℕ, suc, ◌+◌, ◌-◌, ◌<◌, ◌≤◌}
 use mathlib.Core.Path.{◌≡◌, refl, sym, ap, ◌∙◌}
+use mathlib.Core.Logic.{inl, inr}
 use mathlib.Core.Bool.{Bool, true, false, cond}
 use mathlib.Core.List.{List, [], ◌∷◌}
 use native.Mathlib.Omega.{arith}
+use borrow.Author.Rules.{rules}
 use borrow.Author.Tests.{eq-eqb, ne_eqb}
 use types.Run.{OneOf, miss}
 use denote.Enum.Declared.{tag_of}
@@ -55,6 +57,14 @@ NotDone s = OneOf (1 ∷ 2 ∷ []) (tag_of sent-type.the_type s)
 
 abbrev pub Refused : Answer → Type 0
 Refused = AnyBut (0 ∷ [])
+
+pub unless_done : (s : Sent) → (s ≡ sent.Done → ⊥) → NotDone s
+unless_done sent.Done h = absurd (h refl)
+unless_done (sent.Failed code) h = inl refl
+unless_done sent.Cut h = inr refl
+
+pub unless_accepted : (a : Answer) → (a ≡ answer.Accepted → ⊥) → Refused a
+unless_accepted a h = search rules
 
 not_done : (s : Sent) → NotDone s → is_accepted (answer_of s) ≡ false
 unfolding answer_of number

@@ -1,5 +1,4 @@
 use Rattle.course_init.proofs.Lists.{Counted}
-use Rattle.course_init.proofs.Lists.{Counted}
 use lib.ListN.{length}
 use Prim.Native.Nat.{◌-◌}
 use Rattle.course_init.proofs.list.count_words.Given as goal
