@@ -2,16 +2,15 @@
 use Prim.Native.Nat.{ℕ, zero, suc, ◌+◌, ◌-◌, ◌≤◌, ◌<◌}
 use mathlib.Core.Path.{◌≡◌, refl, sym, ap, ◌∙◌}
 use mathlib.Core.Bool.{true, ◌&&◌}
-use lib.Dec.{eqb, ltb}
+use lib.Dec.{eqb}
 use mir.Val.{Val}
 use denote.Shadow.{shadow}
 use denote.Array.{each}
-use denote.Struct.Field.{array_field}
 use mathlib.Core.List.{List, [], ◌∷◌, ◌++◌, map}
 use native.Mathlib.Numerals.{add-one}
 use native.Mathlib.Nat.{add-zero}
 use native.Mathlib.Omega.{arith}
-use borrow.Author.Tests.{eqb-true, ltb-true}
+use borrow.Author.Tests.{eqb-true}
 use lib.ListN.{length, get_or, set, take, drop, length-set, length-drop, drop_of_length-le}
 use lib.Seq.{take-suc-set, take_all, drop-cons, set_comm, sets}
 use Rattle.laws.specs.Bounds.{Below}
@@ -20,7 +19,7 @@ use Rattle.record_endpoint.specs.EndpointMap.{tabulated}
 use Rattle.record_endpoint.specs.declared.entry.Handle.{Handle}
 use Rattle.record_endpoint.specs.declared.entry.Endpoint.{Endpoint}
 use Rattle.record_endpoint.specs.declared.entry.Endpoints.{Endpoints}
-use Rattle.record_endpoint.specs.contracts.entry.Endpoint.{the_field}
+use Rattle.record_endpoint.specs.contracts.entry.Endpoint.{the_row}
 use Rattle.record_endpoint.specs.Endpoint.{blank}
 use Rattle.descriptor_list.specs.Valid.{LIST-ROOM}
 use Rattle.record_ring.specs.Rings.{RING-ROOM}
@@ -153,8 +152,7 @@ mapped {A = A} f l i d e h = go l i (rw e h)
 -- What owning a record tells of its endpoints.
 each_address :
     (eps : List Endpoint) (us : List Val) (i : ℕ) →
-    shadow (each the_field.row.Denot the_field.row.own_val (map the_field.into eps) us) →
-    get_or (map address_word eps) i 0 < 256
+    shadow (each the_row.Denot the_row.own_val eps us) → get_or (map address_word eps) i 0 < 256
 unfolding address_word
 each_address [] us i p = omega arith
 each_address (e ∷ eps) [] i p = absurd p
@@ -162,10 +160,8 @@ each_address (e ∷ eps) (u ∷ us) zero p = p.0.1.1.0.1
 each_address (e ∷ eps) (u ∷ us) (suc i) p = each_address eps us i p.1
 
 pub endpoints_known :
-    (eps : List Endpoint) (vs : List Val) → shadow ((array_field the_field PLACES).row.own_val (map the_field.into eps) vs) →
-    (length eps ≡ PLACES) × Below 256 (map address_word eps)
-endpoints_known eps vs p =
-    (sym (length_map the_field.into eps) ∙ p.1.0.1, λ i h. each_address eps p.0 i p.1.1)
+    (eps : List Endpoint) (us : List Val) → shadow (each the_row.Denot the_row.own_val eps us) → Below 256 (map address_word eps)
+endpoints_known eps us p = λ i h. each_address eps us i p
 
 -- One endpoint more written.
 pub endpoints_next :
@@ -216,9 +212,6 @@ module _ (l : List ℕ) (e : is_image l ≡ true) where
   pub image_length : length l ≡ WORDS
   unfolding is_image
   image_length = eqb-true (length l) WORDS (and_left (eqb (length l) WORDS) _ e)
-
-  pub image_within : (i : ℕ) → ltb i WORDS ≡ true → i < length l
-  image_within i h = rw image_length (ltb-true i WORDS h)
 
   pub image_flag : (i : ℕ) → i < SLOT → get_or l i 0 < 2
   image_flag i h = below_in 2 (SLOT - USABLE) USABLE l (and_left (below 2 (SLOT - USABLE) USABLE l) _ bounds) i (omega arith) (omega arith)

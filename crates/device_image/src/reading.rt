@@ -103,6 +103,7 @@ fn given_in(image: &[u64]) -> [u64; GIVEN_ROOM]
 }
 
 // Words that are no image say no device.
+#[tactic(auto, using(crate::proofs::Steps::image_length))]
 pub fn decode(image: &[u64]) -> Device
     ensures { result ≡ decode image.now }
 {

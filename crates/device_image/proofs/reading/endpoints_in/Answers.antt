@@ -1,8 +1,6 @@
 use borrow.Author.Rules.{rules}
 use Prim.Native.Nat.{◌+◌}
 use mathlib.Core.Path.{◌≡◌, refl}
-use mathlib.Core.Logic.{⊎_elim}
-use mathlib.Core.Bool.{true}
 use native.Mathlib.Omega.{arith}
 use lib.ListN.{get_or}
 use borrow.Author.Tests.{eq-eqb, ne_eqb}
@@ -10,6 +8,7 @@ use native.Mathlib.Nat.{zero-add}
 use Rattle.device_image.specs.Layout.{EP-REVOKED, EP-ADDRESSES, EP-INTERFACES}
 use Rattle.device_image.specs.Image.{handle_in, number_at, endpoint_in, endpoints_in}
 use Rattle.device_image.proofs.Steps.{image_length, image_byte, read_none, read_next, read_done}
+use Rattle.device_image.proofs.reading.endpoints_in.Goals.{then-image-i-eq0, else-image-i-eq0}
 use Rattle.device_image.proofs.reading.endpoints_in.Goals as goal
 
 pub loop-i-init : goal.loop-i-init
@@ -29,11 +28,15 @@ pub loop-i-preserved : goal.loop-i-preserved
 unfolding endpoint_in number_at handle_in
 loop-i-preserved c =
     let turn = c.loop-i.invariant in
-    let test = c.loop-i-test.true in (
+    let test = c.loop-i-test.true in
+    let handle : c.if-image-i-eq0.handle ≡ handle_in (get_or c.args.image.now (EP-REVOKED + c.loop-i.i) 0) = elim c.if-image-i-eq0.branch [
+      | then-image-i-eq0 w ↦ rw (eq-eqb _ _ w.if-image-i-eq0.true) w.handle-is
+      | else-image-i-eq0 w ↦ rw (ne_eqb _ _ w.if-image-i-eq0.false) w.handle-is
+    ] in (
       search rules,
       search rules,
       search rules,
-      read_next _ turn.3 test (rw (zero-add, (let it : c.if-image-i-eq0.handle ≡ handle_in (get_or c.args.image.now (EP-REVOKED + c.loop-i.i) 0) = ⊎_elim (λ w. rw (eq-eqb _ _ w.0.taken) w.1) (λ w. rw (ne_eqb _ _ w.0.left) w.1) c.if-image-i-eq0.branch in it)) refl),
+      read_next _ turn.3 test (rw (zero-add, handle) refl),
       read_next _ turn.4 test refl,
     )
 

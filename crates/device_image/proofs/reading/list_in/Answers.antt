@@ -1,7 +1,6 @@
 use borrow.Author.Rules.{rules}
 use Prim.Native.Nat.{◌+◌}
 use mathlib.Core.Path.{refl}
-use mathlib.Core.Bool.{true}
 use native.Mathlib.Omega.{arith}
 use Rattle.device_image.specs.Layout.{LIST}
 use Rattle.device_image.specs.Image.{number_at}

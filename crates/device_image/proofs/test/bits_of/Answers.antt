@@ -15,4 +15,4 @@ loop-i-preserved c =
     (search rules, λ k. sym (bits_next k _ turn.i turn.bits _ c.loop-i-test.true) ∙ turn.invariant.1 k)
 
 pub returns : goal.returns
-returns c = let turn = c.loop-i in sym (bits_all k _ turn.i turn.bits _ c.loop-i-test.false) ∙ turn.invariant.1 k
+returns c k = let turn = c.loop-i in sym (bits_all k _ turn.i turn.bits _ c.loop-i-test.false) ∙ turn.invariant.1 k

@@ -3,7 +3,6 @@ use native.Mathlib.Omega.{arith}
 use lib.ListN.{length}
 use borrow.Author.Rules.{rules}
 use borrow.Author.Tests.{ne_eqb}
-use Rattle.record_ring.specs.Store.{GIVEN-ROOM}
 use Rattle.device_image.specs.Layout.{WORDS}
 use Rattle.device_image.specs.Image.{stored}
 use Rattle.device_image.proofs.Laws.{encoded}
@@ -27,18 +26,12 @@ loop-i-preserved c =
       turn.4 ∙ rest_next _ _ _ _ (omega (arith, turn.2, c.loop-i-test.true)),
     )
 
-pub slice_bounds-put_rings-end : goal.slice_bounds-put_rings-end
-slice_bounds-put_rings-end c = sym ((let it : length c.args.t1.given ≡ GIVEN-ROOM = let known = c.well_formed.0.1.1.1.1.1.1.1.1.1.1.1.1.1.1.1.1.1.1.1.1.1.1.0.1.0.1 in search rules in it))
-
-pub put_rings-requires : goal.put_rings-requires
-put_rings-requires c = (search rules, omega (arith, (let it : length c.args.t1.given ≡ GIVEN-ROOM = let known = c.well_formed.0.1.1.1.1.1.1.1.1.1.1.1.1.1.1.1.1.1.1.1.1.1.1.0.1.0.1 in search rules in it)))
-
 pub returns : goal.returns
 returns c =
     let turn = c.loop-i.invariant in
-    let size : length c.put_rings.new.0 ≡ WORDS = omega (arith, c.put_rings.auto.image, turn.1) in
+    let size : length c.put_rings.new.image ≡ WORDS = omega (arith, c.put_rings.auto.image, turn.1) in
     let f = c.update.ensures.1 size in (
-      encoded c.args.t1 f c.args.image.now turn.0 (sym (turn.4 ∙ rest_all _ _ _ _ (omega (arith, turn.2, c.loop-i-test.false))))
+      encoded c.args.d f c.args.image.now turn.0 (sym (turn.4 ∙ rest_all _ _ _ _ (omega (arith, turn.2, c.loop-i-test.false))))
           c.put_rings.ensures size c.update.ensures.0,
       λ e. f,
     )

@@ -1,11 +1,10 @@
 use borrow.Author.Rules.{rules}
-use mathlib.Core.Path.{◌≡◌, sym, ◌∙◌}
-use mathlib.Core.Logic.{⊎_elim}
-use lib.ListN.{get_or, length-set}
-use Rattle.record_endpoint.specs.Endpoint.{blank}
+use mathlib.Core.Path.{sym, ◌∙◌}
+use lib.ListN.{length-set}
 use native.Mathlib.Omega.{arith}
 use Rattle.device_image.specs.Image.{revoked, handle_word, address_word, ring_word}
 use Rattle.device_image.proofs.Steps.{rest_none, endpoints_next, endpoints_all}
+use Rattle.device_image.proofs.writing.put_endpoints.Goals.{in-Active, in-Revoked}
 use Rattle.device_image.proofs.writing.put_endpoints.Goals as goal
 
 pub loop-i-init : goal.loop-i-init
@@ -38,8 +37,11 @@ loop-i-preserved c =
       search rules,
       search rules,
       turn.invariant.5
-          ∙ endpoints_next c.args.t2 c.args.t3 turn.image turn.i turn.invariant.2 turn.invariant.3 test
-          ((let it : c.match-handle.revoked ≡ revoked (get_or c.args.t2 c.loop-i.i blank).handle = ⊎_elim (λ w. rw w.1.given.1 w.2) (λ w. rw w.1.given.1 w.2) c.match-handle.branch in it)),
+          ∙ endpoints_next c.args.eps c.args.owners turn.image turn.i turn.invariant.2 turn.invariant.3 test
+          (elim c.match-handle.branch [
+            | in-Active w ↦ rw w.in-Active.is w.revoked-is
+            | in-Revoked w ↦ rw w.in-Revoked.is w.revoked-is
+          ]),
     )
 
 pub shape_of-image : goal.shape_of-image
@@ -50,4 +52,4 @@ returns c =
     let turn = c.loop-i in
     sym
     (turn.invariant.5
-    ∙ endpoints_all c.args.t2 c.args.t3 _ _ turn.invariant.2 turn.invariant.3 c.loop-i-test.false)
+    ∙ endpoints_all c.args.eps c.args.owners _ _ turn.invariant.2 turn.invariant.3 c.loop-i-test.false)
