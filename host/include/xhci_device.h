@@ -1,5 +1,5 @@
-/* The functions of Nuszkadorj: the calls, as libxhci_device.a has them (`rt staticlib xhci_device`), and raw
- * descriptors, as libxhci_descriptors.a has them (`rt staticlib xhci_descriptors`). Both may be linked.
+/* The functions of Nuszkadorj: the calls, as libxhci_device.a has them, and raw descriptors, as
+ * libxhci_descriptors.a has them (host/archives makes both). Both may be linked.
  *
  * A slice is a pointer and a count of elements. The slices of one call must not overlap, and a pointer
  * may not be null, even with a count of 0. Nothing is kept after a call returns.

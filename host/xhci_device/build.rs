@@ -1,6 +1,6 @@
 //! Links the archives. The folder XHCI_DEVICE_LIB_DIR has ready ones, which must have been made from the sources that are
-//! here; XHCI_DEVICE_LIB_UNCHECKED takes those of unknown origin. Otherwise `rt` proves and builds each, unless the last
-//! one was made from these sources.
+//! here; XHCI_DEVICE_LIB_UNCHECKED takes those of unknown origin. Otherwise host/archives proves and builds each, unless the
+//! last one was made from these sources.
 
 #[path = "build/prove.rs"]
 mod prove;
@@ -13,7 +13,7 @@ use std::env;
 use std::path::{Path, PathBuf};
 use std::process::exit;
 
-use sources::{ARCHIVES, archive, digest, fault, kit, kit_file, origin, write_origin};
+use sources::{ARCHIVES, archive, crates, digest, fault, kit, kit_file, origin, parts, write_origin};
 
 /// Cargo prints what is wrong.
 fn fail(message: &str) -> ! {
@@ -64,6 +64,16 @@ fn built(root: &Path) -> PathBuf {
     folder
 }
 
+/// What the archives are made from. (What rt keeps in a crate's out/ is none of it.)
+fn sources(root: &Path) -> Vec<PathBuf> {
+    let crates = crates(root, &ARCHIVES).expect("crates.txt");
+    crates
+        .iter()
+        .flat_map(|(name, _)| parts(root, name))
+        .chain(["crates.txt", "host/archives"].map(|file| root.join(file)))
+        .collect()
+}
+
 fn main() {
     let root = repository();
     let folder = match (env::var_os("XHCI_DEVICE_LIB_DIR"), &root) {
@@ -74,7 +84,7 @@ fn main() {
     for name in ["XHCI_DEVICE_LIB_DIR", "XHCI_DEVICE_LIB_UNCHECKED"] {
         println!("cargo:rerun-if-env-changed={name}");
     }
-    let sources = root.iter().flat_map(|root| [root.join("crates"), root.join("crates.txt")]);
+    let sources = root.iter().flat_map(|root| sources(root));
     let made = ARCHIVES.iter().flat_map(|name| [archive(&folder, name), origin(&folder, name)]);
     for path in sources.chain(made).chain(kit_file()).chain(["build.rs".into(), "build".into()]) {
         println!("cargo:rerun-if-changed={}", path.display());

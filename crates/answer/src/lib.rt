@@ -38,6 +38,7 @@ pub enum Check {
 }
 
 // The documents' number of an answer.
+#[tactic(auto, unfolding(crate::specs::Answer::number))]
 pub fn answer_number(a: Answer) -> u8
     ensures { result ≡ number a }
 {

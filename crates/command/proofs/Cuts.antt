@@ -1,6 +1,6 @@
 -- Outcomes that are there and outcomes that are not, and what a course does where a command is cut.
 use Prim.Native.Nat.{ℕ, zero, suc, ◌+◌, ◌-◌, ◌<◌, ◌≤◌}
-use mathlib.Core.Path.{◌≡◌, refl, sym, ◌∙◌, ap}
+use mathlib.Core.Path.{◌≡◌, refl, sym, ◌∙◌, ap, subst}
 use mathlib.Core.Bool.{Bool, true, false, cond}
 use mathlib.Core.List.{List, [], ◌∷◌}
 use native.Mathlib.Omega.{arith}
@@ -132,10 +132,13 @@ cut_short {A} P o n zero (sends c ctx k) t h =
     cut (sends _ _ _) p = absurd p
 cut_short P o n (suc i) (sends c ctx k) t h =
     let e : outcome_at (take (n + suc i) o) n ≡ outcome_at o n = outcome_take o n (n + suc i) (omega arith) in
-    let m : n + suc i ≡ n + 1 + i = omega arith in
-    let l : suc i + 1 ≡ suc (i + 1) = omega arith in
-    let s = cut_short P o (n + 1) i (k (outcome_at o n)) (t.1 (outcome_at o n)) (omega arith) in
-    rw (e, m, l) (s.0, ap (λ ws. command_word c ∷ ws) s.1)
+    let m : n + 1 + i ≡ n + suc i = omega arith in
+    let d = k (outcome_at o n) in
+    let s =
+    subst (λ (x : ℕ). P (context_at o (n + 1) i d) (result (take x o) (n + 1) d) × (words (take x o) (n + 1) d ≡ take (i + 1) (words o (n + 1) d)))
+    m (cut_short P o (n + 1) i d (t.1 (outcome_at o n)) (omega arith)) in
+    let l : suc (i + 1) ≡ suc i + 1 = omega arith in
+    rw e (s.0, ap (λ ws. command_word c ∷ ws) s.1 ∙ ap (λ (j : ℕ). take j (command_word c ∷ words o (n + 1) d)) l)
 
 -- the context that a course is left with, given only the outcomes before one of its commands, is that command's
 pub cut_context : {A : Type 0} (context_of : A → List ℕ) (o : List ℕ) (n i : ℕ) (c : Course A) → CutEnds context_of c →

@@ -1,5 +1,5 @@
 // A view over the lent bytes of an input context (InputHandler of the original's context.rs), and what its fields hold.
-// It holds a reference, so each function over it is proved by hand: few, and thin. `input_field` is for all other callers.
+// `input_field` reads a field without a view.
 #![tactic(auto)]
 
 ghost use Rattle.std.specs.Prelude.{◌≡◌, ◌+◌, ◌*◌, ◌≤◌, length};

@@ -1,6 +1,7 @@
 -- The loop that stops endpoints past failures, and the exits of the course.
 use Prim.Native.Nat.{ℕ, ◌+◌, ◌<◌, ◌≤◌}
 use mathlib.Core.Path.{◌≡◌, refl, sym, ap, ◌∙◌}
+use mathlib.Core.Logic.{inl, inr}
 use mathlib.Core.Bool.{Bool, true, false, cond}
 use mathlib.Core.List.{List, [], ◌∷◌}
 use native.Mathlib.Nat.{add-zero}
@@ -29,6 +30,11 @@ use Rattle.course_disconnect.specs.Disconnect.{stops_leave, disable, disconnect_
 -- A command that is not cut: the same whether it is done or fails.
 abbrev pub uncut : List ℕ
 uncut = 0 ∷ 1 ∷ []
+
+pub unless_cut : (s : Sent) → (s ≡ Cut → ⊥) → OneOf uncut (tag_of the_type s)
+unless_cut Done h = inl refl
+unless_cut (Failed code) h = inr refl
+unless_cut Cut h = absurd (h refl)
 
 past_failure : {A : Type 0} (s : Sent) (next cut : A) → OneOf uncut (tag_of the_type s) → on_sent s next (λ code. next) cut ≡ next
 unfolding on_sent

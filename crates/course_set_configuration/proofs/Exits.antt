@@ -1,6 +1,7 @@
 -- What the exits of the phases come to.
 use Prim.Native.Nat.{ℕ, ◌+◌}
 use mathlib.Core.Path.{◌≡◌, refl, sym, ◌∙◌}
+use mathlib.Core.Logic.{inl, inr}
 use mathlib.Core.Bool.{true, false}
 use mathlib.Core.List.{List, [], ◌∷◌}
 use types.Run.{OneOf, miss}
@@ -74,6 +75,12 @@ unfolding on_sent
 told o left next table n sent.Done = rw played_ends
 told o left next table n (sent.Failed code) = rw played_ends
 told o left next table n sent.Cut = rw played_ends
+
+-- The variants that are left, by their places in the enum.
+pub unless_done : (t : Replaced) → (t ≡ replace.Done → ⊥) → OneOf (1 ∷ 2 ∷ []) (tag_of replaced-type.the_type t)
+unless_done replace.Done h = absurd (h refl)
+unless_done replace.InvalidEndpoint h = inl refl
+unless_done replace.QueueFull h = inr refl
 
 -- The routes are taken out.
 module _

@@ -1,6 +1,7 @@
 -- The loops that resume and stop the endpoints of some queues: a turn of each, and how it ends.
 use Prim.Native.Nat.{ℕ, ◌+◌, ◌<◌, ◌≤◌}
-use mathlib.Core.Path.{◌≡◌, ◌∙◌}
+use mathlib.Core.Path.{◌≡◌, refl, ◌∙◌}
+use mathlib.Core.Logic.{inl, inr}
 use mathlib.Core.List.{List, [], ◌∷◌, ◌++◌}
 use native.Mathlib.Nat.{add-zero}
 use native.Mathlib.Numerals.{add-one}
@@ -18,6 +19,12 @@ use Rattle.command.specs.Sweep.{swept, resume_from, resume_stopped_endpoints, un
 use Rattle.command.proofs.Laws.{played_ends, played_sends}
 use Rattle.record_endpoint.specs.declared.pending.Queues.{Queues}
 use Rattle.course_steps.specs.Arrays.{dcis_in}
+
+-- The variants that are left, by their places in the enum.
+pub unless_done : (s : Sent) → (s ≡ Done → ⊥) → OneOf (1 ∷ 2 ∷ []) (tag_of the_type s)
+unless_done Done h = absurd (h refl)
+unless_done (Failed code) h = inl refl
+unless_done Cut h = inr refl
 
 module _ (q : Queues) (o log ctx : List ℕ) (n : ℕ) where
   -- the resuming loop's start

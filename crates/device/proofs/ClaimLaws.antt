@@ -1,12 +1,9 @@
 -- What a claim whose checks have passed may rely on, and what it leaves.
-use mir.Val.{Val}
-use denote.Shadow.{shadow}
-use denote.Struct.Field.{array_field}
-use Prim.Native.Nat.{ℕ, suc, ◌+◌, ◌-◌, ◌≤◌}
-use mathlib.Core.Path.{◌≡◌, refl, sym, ap, ◌∙◌}
-use mathlib.Core.Bool.{Bool, true, false, cond}
+use Prim.Native.Nat.{ℕ, ◌+◌, ◌-◌, ◌≤◌}
+use mathlib.Core.Path.{◌≡◌, sym, ap, ◌∙◌}
+use mathlib.Core.Bool.{true, false, cond}
 use mathlib.Core.Logic.{◌⊎◌, inl, inr}
-use mathlib.Core.List.{List, [], ◌∷◌, ◌++◌, map}
+use mathlib.Core.List.{List, [], ◌∷◌, ◌++◌}
 use native.Mathlib.Nat.{add-sub_cancel_left}
 use native.Mathlib.Omega.{arith}
 use lib.ListN.{length, take, drop}
@@ -14,17 +11,15 @@ use lib.Seq.{length-take-le}
 use Rattle.answer.specs.declared.Answer.{Answer}
 use Rattle.answer.specs.declared.Answer.TheVariants as answer
 use Rattle.answer.specs.Answer.{number}
-use Rattle.answer.proofs.Numbers.{AnyBut, other_answer}
 use Rattle.answer.specs.declared.Check.{Check}
 use Rattle.answer.specs.declared.Check.TheVariants as check
 use Rattle.answer.specs.declared.Check.TheVariants.{Pass}
 use Rattle.descriptor_list.specs.declared.Found.TheVariants.{Endpoints}
 use Rattle.descriptor_list.specs.Lookup.{find_endpoints}
+use Rattle.descriptor_list.proofs.Laws.{found_inside}
 use Rattle.command.specs.Course.{played}
 use Rattle.record_ring.specs.Rings.{entered}
 use Rattle.record_ring.specs.Store.{lowest, free_rings}
-use Rattle.record_endpoint.specs.declared.entry.Endpoint.{Endpoint}
-use Rattle.record_endpoint.specs.contracts.entry.Endpoint.{the_field}
 use Rattle.record_endpoint.specs.Endpoint.{rings_of}
 use Rattle.record_checks.proofs.Stored.{SoundStore, free_count, live_count}
 use Rattle.record_endpoint.specs.declared.endpoint_map.EndpointMap.{EndpointMap}
@@ -49,7 +44,7 @@ use Rattle.device.specs.Left.{leaves, ended}
 use Rattle.device.specs.Check.{record_check}
 use Rattle.device.specs.Claim.{claim_check, drawn, pending_of, args_in, claim_in, quarantines, claim_record, claim_run}
 use Rattle.device.proofs.Ends.{handed, else_quarantined}
-use Rattle.device.proofs.Facts.{sound_facts, none_quarantined}
+use Rattle.device.proofs.Facts.{SoundFacts, sound_facts, none_quarantined}
 use Rattle.device.proofs.Kept.{claim_entered}
 use Rattle.device.proofs.Laws.{refused_first, own_check}
 
@@ -59,10 +54,9 @@ module _ (a : Answer) (rings : List ℕ) (d : Device) where
   unfolding quarantines number
   is_quarantined e = rw e
 
-  -- a record that did not move and stays as it was: all in one law, since inside `rw` an answer's keys cost more steps than there are
-  pub not_quarantined : (moved : Bool) (next : Device) → moved ≡ false → AnyBut (14 ∷ []) a → d ≡ cond moved next (quarantines a rings d)
-  unfolding quarantines
-  not_quarantined moved next m h = rw (m, other_answer (14 ∷ []) 14 a refl h)
+  pub not_quarantined : (a ≡ answer.InterfaceBroken → ⊥) → d ≡ quarantines a rings d
+  unfolding quarantines number
+  not_quarantined n = grind arith
 
 module _ (d : Device) (i alt : ℕ) where
   -- the words of the old setting, as the code takes them
@@ -132,14 +126,14 @@ pub pending_drawn :
 unfolding pending_of drawn
 pending_drawn d i alt words by n e p = p ∙ rw (e, ← free_none d n)
 
--- what owning a record tells of its endpoints: their array has its length
-length_map : {A B : Type 0} (f : A → B) (l : List A) → length (map f l) ≡ length l
-length_map f [] = refl
-length_map f (x ∷ l) = ap suc (length_map f l)
+-- the list of a record whose counts fit, and a setting found in it
+pub list_length : (d : Device) → SoundFacts d → length d.list ≡ 256 → length (list_of d) ≡ d.list_len
+unfolding list_of
+list_length d f room = length-take-le d.list_len d.list (omega (arith, room, f.counts.list))
 
-pub endpoints_room :
-    (eps : List Endpoint) (vs : List Val) → shadow ((array_field the_field 30).row.own_val (map the_field.into eps) vs) → length eps ≡ 30
-endpoints_room eps vs p = sym (length_map the_field.into eps) ∙ p.1.0.1
+pub setting_inside : (d : Device) → SoundFacts d → length d.list ≡ 256 → (i alt start count : ℕ) →
+    find_endpoints (list_of d) i alt ≡ Endpoints start count → start + count ≤ d.list_len
+setting_inside d f room i alt start count e = rw (list_length d f room) at (found_inside _ _ _ _ _ e)
 
 -- The free rings of a usable record are as many as were given less its endpoints' and control's.
 pub free_many :
@@ -159,14 +153,14 @@ free_many d u s e g =
 
 module _ (d : Device) (i alt : ℕ) (rings : List ℕ) where
   -- what the course of a claim works on, in the code's arrays
-  claim_of :
+  claim_made_in :
       (a : ClaimPlan) (c : EndpointMap) (by old new : List ℕ) → c ≡ endpoint_map_in d → by ≡ pending_of d i alt rings →
       old ≡ cond (is_held i (held_of d)) (setting_words (list_of d) i (alternate_of i (held_of d))) [] →
       new ≡ setting_words (list_of d) i alt →
       a.args ≡ args_in d i alt → QueuesAs a.old (owned_rings (Interface i) c) → QueuesAs a.pending by →
       QueuesAs a.all c.rings → claim_of a old new ≡ claim_in d i alt rings
   unfolding claim_in arrays.dcis_in
-  claim_of a c by old new e p eo en g o n m =
+  claim_made_in a c by old new e p eo en g o n m =
       let q = queues_as a.old _ o in
       let pending = queues_as a.pending by n in
       rw (g, eo, en, q, pending, m.dcis, e, p)
@@ -183,7 +177,7 @@ module _ (d : Device) (i alt : ℕ) (rings : List ℕ) where
       leaves r ctx' routes' log' ≡ ended (claim_record d i alt rings) (arrays.course_leaves e ctx' routes' log') →
       leaves r ctx' routes' log' ≡ claim_run d ctx routes log o i alt rings
   claim_left a c by old new o ctx routes log ctx' routes' log' e r h q eo en g x y z run m =
-      m ∙ sym (rw (← claim_of a c by old new h q eo en g x y z, ← run))
+      m ∙ sym (rw (← claim_made_in a c by old new h q eo en g x y z, ← run))
 
   -- the record that the end of the course makes
   pub claim_made :

@@ -3,16 +3,14 @@ use Prim.Native.Nat.{ℕ}
 use mathlib.Core.Path.{◌≡◌, refl}
 use mathlib.Core.Logic.{◌⊎◌, inl, inr}
 use mathlib.Core.Bool.{Bool, true, false, cond}
-use mathlib.Core.List.{List, [], ◌∷◌}
-use types.Run.{OneOf}
-use denote.Enum.Declared.{tag_of}
+use mathlib.Core.List.{List}
+use native.Mathlib.Omega.{arith}
 use lib.ListN.{length}
-use Rattle.answer.specs.contracts.Answer.{the_type}
-use Rattle.answer.proofs.Numbers.{tag_number, AnyBut, other_answer}
 use Rattle.answer.specs.declared.Answer.{Answer}
+use Rattle.answer.specs.declared.Answer.TheVariants.{Accepted, InterfaceBroken, Cut}
 use Rattle.answer.specs.declared.Check.{Check}
 use Rattle.answer.specs.declared.Check.TheVariants.{Pass, Refuse}
-use Rattle.answer.specs.Answer.{is_accepted, is_lost}
+use Rattle.answer.specs.Answer.{number, is_accepted, is_lost}
 use Rattle.device.specs.declared.record.Device.{Device}
 use Rattle.device.specs.Device.{unusable}
 use Rattle.device.specs.Left.{Left, refused, marked}
@@ -33,19 +31,20 @@ marked_one a d = go (is_lost a)
     go false = inl refl
 
 -- 14 and 15 mark it
-pub marked_lost : (a : Answer) (d : Device) → OneOf (14 ∷ 15 ∷ []) (tag_of the_type a) → unusable d ≡ marked a d
-unfolding marked
-marked_lost a d (inl e) = rw (tag_number a 14 e)
-marked_lost a d (inr e) = rw (tag_number a 15 e)
+pub marked_lost : (a : Answer) (d : Device) → (a ≡ InterfaceBroken) ⊎ (a ≡ Cut) → unusable d ≡ marked a d
+unfolding marked number
+marked_lost a d (inl e) = rw e
+marked_lost a d (inr e) = rw e
 
 -- and no other does
-pub marked_kept : (a : Answer) (d : Device) → AnyBut (14 ∷ 15 ∷ []) a → d ≡ marked a d
-unfolding marked
-marked_kept a d h = rw (other_answer (14 ∷ 15 ∷ []) 14 a refl h, other_answer (14 ∷ 15 ∷ []) 15 a refl h)
+pub marked_kept : (a : Answer) (d : Device) → (a ≡ InterfaceBroken → ⊥) → (a ≡ Cut → ⊥) → d ≡ marked a d
+unfolding marked number
+marked_kept a d b k = grind arith
 
 -- only an accepted one sets a value
-pub not_configured : (a : Answer) (d : Device) (moved : Bool) (made : Device) → moved ≡ true → AnyBut (0 ∷ []) a → d ≡ cond moved (cond (is_accepted a) made d) d
-not_configured a d moved made m h = rw (m, other_answer (0 ∷ []) 0 a refl h)
+pub not_configured : (a : Answer) (d : Device) (moved : Bool) (made : Device) → moved ≡ true → (a ≡ Accepted → ⊥) → d ≡ cond moved (cond (is_accepted a) made d) d
+unfolding number
+not_configured a d moved made m n = grind arith
 
 -- what holds of a call that runs after its checks, and of each refusal, holds of the call
 pub on_pass : (P : Left → Type 0) (k : Check) (run : Left) (refuse : Answer → Left) → (k ≡ Pass → P run) →

@@ -1,10 +1,9 @@
 -- What each exit of the code comes to.
 use Prim.Native.Nat.{ℕ, ◌≤◌}
 use mathlib.Core.Path.{◌≡◌, refl, sym, ◌∙◌}
-use mathlib.Core.Bool.{Bool, true, false, not, cond}
+use mathlib.Core.Bool.{Bool, true, false, cond}
 use mathlib.Core.List.{List}
 use native.Mathlib.Omega.{arith}
-use borrow.Author.Tests.{not-true, not-false}
 use lib.Dec.{eqb}
 use lib.ListN.{length}
 use Rattle.def.specs.Speed.{speed_known}
@@ -73,13 +72,6 @@ Entered a ctx routes log r left =
     (r ≡ bring_up_check a ctx routes log)
     × (r ≡ Pass → left ≡ with_route routes a.slot 1 (control_ring a))
     × ((x : Answer) → r ≡ Refuse x → left ≡ routes)
-
--- what a test in the code says of what it tests
-pub tested_not : (b t : Bool) → b ≡ t → not b ≡ true → t ≡ false
-tested_not b t e h = sym e ∙ not-true b h
-
-pub tested : (b t : Bool) → b ≡ t → not b ≡ false → t ≡ true
-tested b t e h = sym e ∙ not-false b h
 
 module _ (a : BringUp) (ctx : ℕ) (routes : List ℕ) (log : ℕ) where
   -- one before 17 refuses

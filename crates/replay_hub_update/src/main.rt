@@ -1,18 +1,20 @@
 // Replays hub updates that the original was given, through the function for C; `stdout` is what the original left.
 #![tactic(auto)]
 
-fn run(ctx: &mut [u8]) {
+use std::io;
+
+fn run(rt: &(impl Input + Print), ctx: &mut [u8]) -> io::Result<()> {
     let mut image = [0u64; xhci_device::WORDS];
-    replay_sample::words(&mut image);
+    replay_sample::words(rt, &mut image)?;
     let mut routes = [0u64; replay_sample::ROUTES_ROOM];
-    replay_sample::words(&mut routes);
+    replay_sample::words(rt, &mut routes)?;
     let mut log = [0xa500_0000u32; replay_sample::LOG_ROOM];
     let mut outcomes = [0u8; replay_sample::OUTCOMES_ROOM];
-    replay_sample::bytes(&mut outcomes);
-    let n = replay_sample::count(replay_sample::OUTCOMES_ROOM);
-    let ports = replay_sample::byte();
-    let multi = replay_sample::byte();
-    let ns = replay_sample::word();
+    replay_sample::bytes(rt, &mut outcomes)?;
+    let n = replay_sample::count(rt, replay_sample::OUTCOMES_ROOM)?;
+    let ports = replay_sample::byte(rt)?;
+    let multi = replay_sample::byte(rt)?;
+    let ns = replay_sample::word(rt)?;
     let a = xhci_device::xhci_device_hub_update(
         &mut image,
         ctx,
@@ -23,15 +25,14 @@ fn run(ctx: &mut [u8]) {
         multi,
         ns,
     );
-    replay_sample::left(a, &log, ctx, &routes, &image);
+    replay_sample::left(rt, a, &log, ctx, &routes, &image)
 }
 
-fn main() {
-    let mut left = replay_sample::next();
-    while left > 0 {
-        left -= 1;
+fn main(rt: HostRuntime) -> io::Result<()> {
+    for _ in 0..replay_sample::next(&rt)? {
         let mut ctx = [0x5au8; replay_sample::CONTEXT_ROOM];
-        let n = replay_sample::count(replay_sample::CONTEXT_ROOM);
-        run(&mut ctx[0..n]);
+        let n = replay_sample::count(&rt, replay_sample::CONTEXT_ROOM)?;
+        run(&rt, &mut ctx[0..n])?;
     }
+    Ok(())
 }

@@ -1,7 +1,8 @@
 // Numbers from standard input, each 16 hexadecimal digits and a line's end.
-ghost use Rattle.std.specs.Prelude.{◌<◌, ◌≤◌};
+ghost use Rattle.std.specs.Prelude.{◌<◌, ◌≤◌, IfOk};
 
-use libc::STDIN_FILENO;
+use std::io;
+use std::io::Read;
 
 fn digit(b: u8) -> u64
     ensures { result < 16 }
@@ -20,84 +21,95 @@ fn shifted(v: u64, d: u64) -> u64
 
 fn value(line: &[u8]) -> u64 {
     let mut v = 0;
-    let mut i = 0;
-    while i < line.len() {
-        v = shifted(v, digit(line[i]));
-        i += 1;
+    for b in line {
+        v = shifted(v, digit(*b));
     }
     v
 }
 
-pub fn next() -> u64 {
+// As much of a buffer as the input still has; the rest stays.
+fn fill(rt: &impl Input, buf: &mut [u8]) -> io::Result<()> {
+    let mut at = 0;
+    while at < buf.len() {
+        let n = rt.reader().read(&mut buf[at..])?;
+        if n == 0 {
+            break;
+        }
+        at += n;
+    }
+    Ok(())
+}
+
+pub fn next(rt: &impl Input) -> io::Result<u64> {
     let mut line = [0u8; 16];
-    io::read_full(STDIN_FILENO, &mut line);
+    fill(rt, &mut line)?;
     let v = value(&line);
     let mut end = [0u8; 1];
-    io::read_full(STDIN_FILENO, &mut end);
-    v
+    fill(rt, &mut end)?;
+    Ok(v)
 }
 
 // A length, or an index, at most so much.
-pub fn count(most: usize) -> usize
-    ensures { result ≤ most }
+pub fn count(rt: &impl Input, most: usize) -> io::Result<usize>
+    ensures { IfOk result (λ n. n ≤ most) }
 {
-    let n = next() as usize;
-    if n < most { n } else { most }
+    let n = next(rt)? as usize;
+    Ok(if n < most { n } else { most })
 }
 
-pub fn byte() -> u8 {
-    (next() % 256) as u8
+pub fn byte(rt: &impl Input) -> io::Result<u8> {
+    Ok((next(rt)? % 256) as u8)
 }
 
-pub fn word() -> u32 {
-    (next() % 4294967296) as u32
+pub fn word(rt: &impl Input) -> io::Result<u32> {
+    Ok((next(rt)? % 4294967296) as u32)
 }
 
-fn put_word(buf: &mut [u64]) {
-    let i = count(buf.len());
-    let w = next();
+fn put_word(rt: &impl Input, buf: &mut [u64]) -> io::Result<()> {
+    let i = count(rt, buf.len())?;
+    let w = next(rt)?;
     if i < buf.len() {
         buf[i] = w;
     }
+    Ok(())
 }
 
-fn put_list_word(buf: &mut [u32]) {
-    let i = count(buf.len());
-    let w = word();
+fn put_list_word(rt: &impl Input, buf: &mut [u32]) -> io::Result<()> {
+    let i = count(rt, buf.len())?;
+    let w = word(rt)?;
     if i < buf.len() {
         buf[i] = w;
     }
+    Ok(())
 }
 
-fn put_byte(buf: &mut [u8]) {
-    let i = count(buf.len());
-    let b = byte();
+fn put_byte(rt: &impl Input, buf: &mut [u8]) -> io::Result<()> {
+    let i = count(rt, buf.len())?;
+    let b = byte(rt)?;
     if i < buf.len() {
         buf[i] = b;
     }
+    Ok(())
 }
 
 // Words that are not 0: how many, then index and value of each.
-pub fn words(buf: &mut [u64]) {
-    let mut left = next();
-    while left > 0 {
-        left -= 1;
-        put_word(buf);
+pub fn words(rt: &impl Input, buf: &mut [u64]) -> io::Result<()> {
+    for _ in 0..next(rt)? {
+        put_word(rt, buf)?;
     }
+    Ok(())
 }
 
-pub fn list(buf: &mut [u32]) {
-    let mut left = next();
-    while left > 0 {
-        left -= 1;
-        put_list_word(buf);
+pub fn list(rt: &impl Input, buf: &mut [u32]) -> io::Result<()> {
+    for _ in 0..next(rt)? {
+        put_list_word(rt, buf)?;
     }
+    Ok(())
 }
 
-pub fn bytes(buf: &mut [u8]) {
-    let mut left = next();
-    while left > 0 {
-        left -= 1;
-        put_byte(buf);
+pub fn bytes(rt: &impl Input, buf: &mut [u8]) -> io::Result<()> {
+    for _ in 0..next(rt)? {
+        put_byte(rt, buf)?;
     }
+    Ok(())
 }

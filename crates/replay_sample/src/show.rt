@@ -1,76 +1,51 @@
 // What a call left, on standard output.
-use libc::STDOUT_FILENO;
+use std::io;
 use xhci_device::Answered;
 
-fn text(s: &[u8]) {
-    io::write_all(STDOUT_FILENO, s);
+fn answer(rt: &impl Print, a: Answered) -> io::Result<()> {
+    println!(rt; "answer {} {} {}", a.answer, a.code, a.count)
 }
 
-fn answer(a: Answered) {
-    text(b"answer ");
-    io::print_decimal(STDOUT_FILENO, a.answer as u64);
-    text(b" ");
-    io::print_decimal(STDOUT_FILENO, a.code as u64);
-    text(b" ");
-    io::print_decimal(STDOUT_FILENO, a.count as u64);
-    text(b"\n");
-}
-
-fn log_word(w: u32) {
-    text(b" ");
-    io::print_hex(STDOUT_FILENO, w as u64, 8);
-}
-
-fn log(words: &[u32]) {
-    text(b"log");
-    let mut i = 0;
-    while i < words.len() {
-        log_word(words[i]);
-        i += 1;
+fn log(rt: &impl Print, words: &[u32]) -> io::Result<()> {
+    rt.print("log")?;
+    for w in words {
+        print!(rt; " {w:08x}")?;
     }
-    text(b"\n");
+    rt.print("\n")
 }
 
-fn byte(b: u8) {
-    io::print_hex(STDOUT_FILENO, b as u64, 2);
-}
-
-fn bytes(label: &[u8], bytes: &[u8]) {
-    text(label);
-    let mut i = 0;
-    while i < bytes.len() {
-        byte(bytes[i]);
-        i += 1;
+fn bytes(rt: &impl Print, label: &str, bytes: &[u8]) -> io::Result<()> {
+    rt.print(label)?;
+    for b in bytes {
+        print!(rt; "{b:02x}")?;
     }
-    text(b"\n");
+    rt.print("\n")
 }
 
 // The words that are not 0.
-fn words(label: &[u8], words: &[u64]) {
-    text(label);
-    let mut i = 0;
-    while i < words.len() {
-        word(i, words[i]);
-        i += 1;
+fn words(rt: &impl Print, label: &str, words: &[u64]) -> io::Result<()> {
+    rt.print(label)?;
+    for (i, w) in words.iter().enumerate() {
+        if *w != 0 {
+            print!(rt; " {i}={w:x}")?;
+        }
     }
-    text(b"\n");
-}
-
-fn word(i: usize, w: u64) {
-    if w != 0 {
-        text(b" ");
-        io::print_decimal(STDOUT_FILENO, i as u64);
-        text(b"=");
-        io::print_hex(STDOUT_FILENO, w, 0);
-    }
+    rt.print("\n")
 }
 
 // A call's answer, and what it left.
-pub fn left(a: Answered, sent: &[u32], ctx: &[u8], routes: &[u64], image: &[u64]) {
-    answer(a);
-    log(sent);
-    bytes(b"ctx ", ctx);
-    words(b"routes", routes);
-    words(b"record", image);
-    text(b".\n");
+pub fn left(
+    rt: &impl Print,
+    a: Answered,
+    sent: &[u32],
+    ctx: &[u8],
+    routes: &[u64],
+    image: &[u64],
+) -> io::Result<()> {
+    answer(rt, a)?;
+    log(rt, sent)?;
+    bytes(rt, "ctx ", ctx)?;
+    words(rt, "routes", routes)?;
+    words(rt, "record", image)?;
+    rt.print(".\n")
 }

@@ -5,45 +5,47 @@ mod show;
 mod steps;
 mod view;
 
-fn narrow() {
+use std::io;
+
+fn narrow(rt: &impl Print) -> io::Result<()> {
     let mut ctx = [0x5au8; 1056];
-    show::text(b"spacing 32, over bytes of 0x5a\n");
-    steps::header(&mut ctx, 32);
-    steps::claim_two(&mut ctx, 32);
-    steps::configuration(&mut ctx, 32);
-    steps::hub(&mut ctx, 32, def::HIGH, 3);
-    steps::hub(&mut ctx, 32, def::FULL, 1);
+    show::text(rt, "spacing 32, over bytes of 0x5a\n")?;
+    steps::header(rt, &mut ctx, 32)?;
+    steps::claim_two(rt, &mut ctx, 32)?;
+    steps::configuration(rt, &mut ctx, 32)?;
+    steps::hub(rt, &mut ctx, 32, def::HIGH, 3)?;
+    steps::hub(rt, &mut ctx, 32, def::FULL, 1)
 }
 
-fn narrow_address() {
+fn narrow_address(rt: &impl Print) -> io::Result<()> {
     let mut ctx = [0x5au8; 1056];
-    show::text(b"spacing 32, after Address\n");
-    steps::address(&mut ctx, 32);
-    steps::claim_one(&mut ctx, 32);
-    view::claimed(&ctx, 32, 64);
+    show::text(rt, "spacing 32, after Address\n")?;
+    steps::address(rt, &mut ctx, 32)?;
+    steps::claim_one(rt, &mut ctx, 32)?;
+    view::claimed(rt, &ctx, 32, 64)
 }
 
-fn wide() {
+fn wide(rt: &impl Print) -> io::Result<()> {
     let mut ctx = [0x5au8; 2112];
-    show::text(b"spacing 64, over bytes of 0x5a\n");
-    steps::header(&mut ctx, 64);
-    steps::claim_two(&mut ctx, 64);
-    steps::configuration(&mut ctx, 64);
-    steps::hub(&mut ctx, 64, def::HIGH, 3);
-    steps::hub(&mut ctx, 64, def::FULL, 1);
+    show::text(rt, "spacing 64, over bytes of 0x5a\n")?;
+    steps::header(rt, &mut ctx, 64)?;
+    steps::claim_two(rt, &mut ctx, 64)?;
+    steps::configuration(rt, &mut ctx, 64)?;
+    steps::hub(rt, &mut ctx, 64, def::HIGH, 3)?;
+    steps::hub(rt, &mut ctx, 64, def::FULL, 1)
 }
 
-fn wide_address() {
+fn wide_address(rt: &impl Print) -> io::Result<()> {
     let mut ctx = [0x5au8; 2112];
-    show::text(b"spacing 64, after Address\n");
-    steps::address(&mut ctx, 64);
-    steps::claim_one(&mut ctx, 64);
-    view::claimed(&ctx, 64, 32);
+    show::text(rt, "spacing 64, after Address\n")?;
+    steps::address(rt, &mut ctx, 64)?;
+    steps::claim_one(rt, &mut ctx, 64)?;
+    view::claimed(rt, &ctx, 64, 32)
 }
 
-fn main() {
-    narrow();
-    narrow_address();
-    wide();
-    wide_address();
+fn main(rt: HostRuntime) -> io::Result<()> {
+    narrow(&rt)?;
+    narrow_address(&rt)?;
+    wide(&rt)?;
+    wide_address(&rt)
 }

@@ -1,58 +1,56 @@
 // Blocks of a context on standard output.
-use libc::STDOUT_FILENO;
+use std::io;
 
-pub fn text(s: &[u8]) {
-    io::write_all(STDOUT_FILENO, s);
+pub fn text(rt: &impl Print, s: &str) -> io::Result<()> {
+    rt.print(s)
 }
 
-pub fn number(x: u64) {
-    io::write_all(STDOUT_FILENO, b" ");
-    io::print_hex(STDOUT_FILENO, x, 8);
+pub fn number(rt: &impl Print, x: u64) -> io::Result<()> {
+    print!(rt; " {x:08x}")
 }
 
-fn wide(x: u8) -> u64 {
-    x as u64
-}
-
-fn byte(ctx: &[u8], at: usize) {
+fn byte(rt: &impl Print, ctx: &[u8], at: usize) -> io::Result<()> {
     if at < ctx.len() {
-        io::print_hex(STDOUT_FILENO, wide(ctx[at]), 2);
+        let b = ctx[at];
+        print!(rt; "{b:02x}")?;
     }
+    Ok(())
 }
 
 // A little-endian doubleword, most significant byte first.
-fn doubleword(ctx: &[u8], at: u16) {
+fn doubleword(rt: &impl Print, ctx: &[u8], at: u16) -> io::Result<()> {
     let a = at as usize;
-    io::write_all(STDOUT_FILENO, b" ");
-    byte(ctx, a + 3);
-    byte(ctx, a + 2);
-    byte(ctx, a + 1);
-    byte(ctx, a);
+    rt.print(" ")?;
+    byte(rt, ctx, a + 3)?;
+    byte(rt, ctx, a + 2)?;
+    byte(rt, ctx, a + 1)?;
+    byte(rt, ctx, a)
 }
 
 // The eight doublewords of block number b, and after them the next one where blocks are 64 bytes apart.
-pub fn block(label: &[u8], ctx: &[u8], spacing: usize, b: u8) {
-    io::write_all(STDOUT_FILENO, label);
+pub fn block(rt: &impl Print, label: &str, ctx: &[u8], spacing: usize, b: u8) -> io::Result<()> {
+    rt.print(label)?;
     if spacing == 64 {
         let at = (b as u16) * 64;
-        block_at(ctx, at);
-        io::write_all(STDOUT_FILENO, b" |");
-        doubleword(ctx, at + 32);
+        block_at(rt, ctx, at)?;
+        rt.print(" |")?;
+        doubleword(rt, ctx, at + 32)?;
     } else {
-        block_at(ctx, (b as u16) * 32);
+        block_at(rt, ctx, (b as u16) * 32)?;
     }
-    io::write_all(STDOUT_FILENO, b"\n");
+    rt.print("\n")
 }
 
-fn block_at(ctx: &[u8], at: u16) {
+fn block_at(rt: &impl Print, ctx: &[u8], at: u16) -> io::Result<()> {
     if at < 60000 {
-        doubleword(ctx, at);
-        doubleword(ctx, at + 4);
-        doubleword(ctx, at + 8);
-        doubleword(ctx, at + 12);
-        doubleword(ctx, at + 16);
-        doubleword(ctx, at + 20);
-        doubleword(ctx, at + 24);
-        doubleword(ctx, at + 28);
+        doubleword(rt, ctx, at)?;
+        doubleword(rt, ctx, at + 4)?;
+        doubleword(rt, ctx, at + 8)?;
+        doubleword(rt, ctx, at + 12)?;
+        doubleword(rt, ctx, at + 16)?;
+        doubleword(rt, ctx, at + 20)?;
+        doubleword(rt, ctx, at + 24)?;
+        doubleword(rt, ctx, at + 28)?;
     }
+    Ok(())
 }

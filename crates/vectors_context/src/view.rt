@@ -2,6 +2,7 @@
 use super::show;
 use context_field::Field;
 use context_view::Reading;
+use std::io;
 
 const ROUTE_STRING: Field = Field {
     word: 0,
@@ -21,27 +22,41 @@ const MAX_PACKET_SIZE: Field = Field {
     width: 16,
 };
 
-fn reading(label: &[u8], r: Reading) {
-    show::text(label);
+fn reading(rt: &impl Print, label: &str, r: Reading) -> io::Result<()> {
+    show::text(rt, label)?;
     match r {
-        Reading::Value(v) => show::number(v),
-        Reading::NoContext => show::text(b" no context"),
-        Reading::NoField => show::text(b" no field"),
+        Reading::Value(v) => show::number(rt, v)?,
+        Reading::NoContext => show::text(rt, " no context")?,
+        Reading::NoField => show::text(rt, " no field")?,
     }
-    show::text(b"\n");
+    show::text(rt, "\n")
 }
 
-fn field_of(label: &[u8], ctx: &[u8], spacing: usize, block: usize, f: Field) {
+fn field_of(
+    rt: &impl Print,
+    label: &str,
+    ctx: &[u8],
+    spacing: usize,
+    block: usize,
+    f: Field,
+) -> io::Result<()> {
     let r = context_view::input_field(ctx, spacing, block, f);
-    reading(label, r);
+    reading(rt, label, r)
 }
 
 // After a claim of Dci 3; `other` is not the context's spacing.
-pub fn claimed(ctx: &[u8], spacing: usize, other: usize) {
-    show::text(b"read back\n");
-    field_of(b"route string:", ctx, spacing, 1, ROUTE_STRING);
-    field_of(b"context entries:", ctx, spacing, 1, CONTEXT_ENTRIES);
-    field_of(b"Dci 3, max packet size:", ctx, spacing, 4, MAX_PACKET_SIZE);
-    field_of(b"block 33:", ctx, spacing, 33, MAX_PACKET_SIZE);
-    field_of(b"at the other spacing:", ctx, other, 1, CONTEXT_ENTRIES);
+pub fn claimed(rt: &impl Print, ctx: &[u8], spacing: usize, other: usize) -> io::Result<()> {
+    show::text(rt, "read back\n")?;
+    field_of(rt, "route string:", ctx, spacing, 1, ROUTE_STRING)?;
+    field_of(rt, "context entries:", ctx, spacing, 1, CONTEXT_ENTRIES)?;
+    field_of(
+        rt,
+        "Dci 3, max packet size:",
+        ctx,
+        spacing,
+        4,
+        MAX_PACKET_SIZE,
+    )?;
+    field_of(rt, "block 33:", ctx, spacing, 33, MAX_PACKET_SIZE)?;
+    field_of(rt, "at the other spacing:", ctx, other, 1, CONTEXT_ENTRIES)
 }

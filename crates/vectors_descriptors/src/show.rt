@@ -1,23 +1,16 @@
 // What was read and written, on standard output.
-ghost use Rattle.std.specs.Prelude.{◌≤◌, length};
+ghost use Rattle.std.specs.Prelude.{◌≤◌, IfOk, length};
 
-use libc::STDOUT_FILENO;
+use std::io;
 use xhci_descriptors::Answered;
 
-fn text(s: &[u8]) {
-    io::write_all(STDOUT_FILENO, s);
+pub fn line(rt: &impl Print, s: &[u8]) -> io::Result<()> {
+    rt.write_all(s)?;
+    rt.print("\n")
 }
 
-pub fn line(s: &[u8]) {
-    text(s);
-    text(b"\n");
-}
-
-fn answer(a: Answered) {
-    io::print_decimal(STDOUT_FILENO, a.answer as u64);
-    text(b" ");
-    io::print_decimal(STDOUT_FILENO, a.count as u64);
-    text(b"\n");
+fn answer(rt: &impl Print, a: Answered) -> io::Result<()> {
+    println!(rt; "{} {}", a.answer, a.count)
 }
 
 fn held(n: usize, most: usize) -> usize
@@ -26,66 +19,46 @@ fn held(n: usize, most: usize) -> usize
     if n < most { n } else { most }
 }
 
-fn word(w: u32) {
-    io::print_hex(STDOUT_FILENO, w as u64, 8);
-    text(b"\n");
-}
-
 // The answer of the reader and its words. Says how many there are.
-pub fn words(a: Answered, words: &[u32]) -> usize
-    ensures { result ≤ length words.now }
+pub fn words(rt: &impl Print, a: Answered, words: &[u32]) -> io::Result<usize>
+    ensures { IfOk result (λ n. n ≤ length words.now) }
 {
-    text(b"read ");
-    answer(a);
+    rt.print("read ")?;
+    answer(rt, a)?;
     let n = held(a.count, words.len());
-    let mut i = 0;
-    while i < n {
-        word(words[i]);
-        i += 1;
+    for w in &words[..n] {
+        println!(rt; "{w:08x}")?;
     }
-    n
-}
-
-fn byte(b: u8) {
-    io::print_hex(STDOUT_FILENO, b as u64, 2);
+    Ok(n)
 }
 
 // The answer of the writer and its bytes. Says how many there are.
-pub fn bytes(a: Answered, bytes: &[u8]) -> usize
-    ensures { result ≤ length bytes.now }
+pub fn bytes(rt: &impl Print, a: Answered, bytes: &[u8]) -> io::Result<usize>
+    ensures { IfOk result (λ n. n ≤ length bytes.now) }
 {
-    text(b"written ");
-    answer(a);
+    rt.print("written ")?;
+    answer(rt, a)?;
     let n = held(a.count, bytes.len());
-    let mut i = 0;
-    while i < n {
-        byte(bytes[i]);
-        i += 1;
+    for b in &bytes[..n] {
+        print!(rt; "{b:02x}")?;
     }
-    text(b"\n");
-    n
+    rt.print("\n")?;
+    Ok(n)
 }
 
+// Whether two lists agree as far as both go.
 fn same(a: &[u32], b: &[u32]) -> bool {
-    let mut i = 0;
-    while i < a.len() {
-        if i < b.len() {
-            if a[i] != b[i] {
-                return false;
-            }
-        }
-        i += 1;
-    }
-    true
+    a.iter().zip(b).all(|(x, y)| x == y)
 }
 
 // The answer of the second reading, and whether its words are those of the first.
-pub fn again(a: Answered, first: &[u32], second: &[u32]) {
-    text(b"again ");
-    answer(a);
-    if same(first, second) {
-        text(b"the same words\n");
+pub fn again(rt: &impl Print, a: Answered, first: &[u32], second: &[u32]) -> io::Result<()> {
+    rt.print("again ")?;
+    answer(rt, a)?;
+    let text = if same(first, second) {
+        "the same words"
     } else {
-        text(b"other words\n");
-    }
+        "other words"
+    };
+    rt.println(text)
 }

@@ -6,14 +6,12 @@ pub fn line_end(text: &[u8], from: usize) -> usize
     requires { from ≤ length text.now }
     ensures { (from ≤ result) × (result ≤ length text.now) }
 {
-    let mut i = from;
-    while i < text.len() {
+    for i in from..text.len() {
         if text[i] == b'\n' {
             return i;
         }
-        i += 1;
     }
-    i
+    text.len()
 }
 
 fn digit(b: u8) -> u8
@@ -35,14 +33,12 @@ pub fn put_line(line: &[u8], bytes: &mut [u8], from: usize) -> usize
     ensures { result ≤ length bytes.old }
 {
     let mut count = from;
-    let mut i = 1;
-    while i < line.len() {
+    for digits in line.chunks_exact(2) {
         if count == bytes.len() {
             return count;
         }
-        bytes[count] = pair(line[i - 1], line[i]);
+        bytes[count] = pair(digits[0], digits[1]);
         count += 1;
-        i += 2;
     }
     count
 }

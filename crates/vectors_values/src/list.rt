@@ -1,6 +1,7 @@
 // Valid lists, lists refused for each reason, lists at each limit, and lookup.
 use super::out;
 use descriptor_list::Found;
+use std::io;
 
 // Configuration 1, alternate 0 of interface 0, and a bulk endpoint of address 0x01.
 const CONFIGURATION: u32 = 0x0040_0000;
@@ -25,68 +26,78 @@ pub fn endpoint(input: u32, number: u32, kind: u32, size: u32, packets: u32, int
 }
 
 // Whether a list is valid, after its description.
-fn case(label: &[u8], list: &[u32]) {
-    out::text(label);
-    out::truth(descriptor_list::valid_list(list));
-    out::end();
+fn case(rt: &impl Print, label: &str, list: &[u32]) -> io::Result<()> {
+    out::text(rt, label)?;
+    out::truth(rt, descriptor_list::valid_list(list))?;
+    out::end(rt)
 }
 
-pub fn valid() {
-    case(b"empty list:", &[0u32; 0]);
+pub fn valid(rt: &impl Print) -> io::Result<()> {
+    case(rt, "empty list:", &[0u32; 0])?;
     case(
-        b"a configuration, an alternate, an endpoint:",
+        rt,
+        "a configuration, an alternate, an endpoint:",
         &[CONFIGURATION, ALTERNATE, BULK],
-    );
-    case(b"a configuration alone:", &[CONFIGURATION]);
+    )?;
+    case(rt, "a configuration alone:", &[CONFIGURATION])?;
     case(
-        b"one address twice in an alternate:",
+        rt,
+        "one address twice in an alternate:",
         &[CONFIGURATION, ALTERNATE, BULK, BULK],
-    );
+    )?;
     case(
-        b"one alternate twice:",
+        rt,
+        "one alternate twice:",
         &[CONFIGURATION, ALTERNATE, ALTERNATE],
-    );
+    )
 }
 
-pub fn refused() {
-    refused_endpoints();
-    refused_words();
+pub fn refused(rt: &impl Print) -> io::Result<()> {
+    refused_endpoints(rt)?;
+    refused_words(rt)
 }
 
-fn refused_endpoints() {
-    case(b"begins with an alternate:", &[ALTERNATE]);
+fn refused_endpoints(rt: &impl Print) -> io::Result<()> {
+    case(rt, "begins with an alternate:", &[ALTERNATE])?;
     case(
-        b"endpoint after a configuration:",
+        rt,
+        "endpoint after a configuration:",
         &[CONFIGURATION, ALTERNATE, CONFIGURATION, BULK],
-    );
+    )?;
     case(
-        b"number 0:",
+        rt,
+        "number 0:",
         &[CONFIGURATION, ALTERNATE, endpoint(0, 0, 2, 64, 0, 0)],
-    );
+    )?;
     case(
-        b"type 0:",
+        rt,
+        "type 0:",
         &[CONFIGURATION, ALTERNATE, endpoint(0, 1, 0, 64, 0, 0)],
-    );
+    )?;
     case(
-        b"IN 15:",
+        rt,
+        "IN 15:",
         &[CONFIGURATION, ALTERNATE, endpoint(1, 15, 2, 64, 0, 0)],
-    );
+    )
 }
 
-fn refused_words() {
-    case(b"kind 3:", &[CONFIGURATION, 0xc000_0000]);
+fn refused_words(rt: &impl Print) -> io::Result<()> {
+    case(rt, "kind 3:", &[CONFIGURATION, 0xc000_0000])?;
     case(
-        b"unused bit of a configuration:",
+        rt,
+        "unused bit of a configuration:",
         &[CONFIGURATION + 0x20_0000],
-    );
+    )?;
     case(
-        b"unused bit of an alternate:",
+        rt,
+        "unused bit of an alternate:",
         &[CONFIGURATION, ALTERNATE + 0x2000],
-    );
+    )?;
     case(
-        b"unused bit of an endpoint:",
+        rt,
+        "unused bit of an endpoint:",
         &[CONFIGURATION, ALTERNATE, BULK + 2],
-    );
+    )
 }
 
 // A configuration, then an alternate of each interface from 0 to 32.
@@ -127,56 +138,56 @@ const INTERFACES: [u32; 34] = [
     0x4800_0000,
 ];
 
-pub fn limits() {
-    word_limit();
-    configuration_limit();
-    endpoint_limit();
-    interface_limit();
+pub fn limits(rt: &impl Print) -> io::Result<()> {
+    word_limit(rt)?;
+    configuration_limit(rt)?;
+    endpoint_limit(rt)?;
+    interface_limit(rt)
 }
 
-fn word_limit() {
+fn word_limit(rt: &impl Print) -> io::Result<()> {
     let mut words = [ALTERNATE; 257];
     words[0] = CONFIGURATION;
-    case(b"256 words:", &words[0..256]);
-    case(b"257 words:", &words);
+    case(rt, "256 words:", &words[0..256])?;
+    case(rt, "257 words:", &words)
 }
 
-fn configuration_limit() {
+fn configuration_limit(rt: &impl Print) -> io::Result<()> {
     let configurations = [CONFIGURATION; 9];
-    case(b"8 configurations:", &configurations[0..8]);
-    case(b"9 configurations:", &configurations);
+    case(rt, "8 configurations:", &configurations[0..8])?;
+    case(rt, "9 configurations:", &configurations)
 }
 
-fn endpoint_limit() {
+fn endpoint_limit(rt: &impl Print) -> io::Result<()> {
     let mut run = [BULK; 33];
     run[0] = CONFIGURATION;
     run[1] = ALTERNATE;
-    case(b"30 endpoints in an alternate:", &run[0..32]);
-    case(b"31 endpoints in an alternate:", &run);
+    case(rt, "30 endpoints in an alternate:", &run[0..32])?;
+    case(rt, "31 endpoints in an alternate:", &run)
 }
 
-fn interface_limit() {
+fn interface_limit(rt: &impl Print) -> io::Result<()> {
     let interfaces = INTERFACES;
-    case(b"32 interfaces:", &interfaces[0..33]);
-    case(b"33 interfaces:", &interfaces);
+    case(rt, "32 interfaces:", &interfaces[0..33])?;
+    case(rt, "33 interfaces:", &interfaces)
 }
 
-fn find(label: &[u8], list: &[u32], interface: u8, setting: u8) {
-    out::text(label);
+fn find(rt: &impl Print, label: &str, list: &[u32], interface: u8, setting: u8) -> io::Result<()> {
+    out::text(rt, label)?;
     let found = descriptor_list::find_interface_endpoints(list, interface, setting);
     match found {
         Found::Endpoints { start, count } => {
-            out::number(start as u64);
-            out::number(count as u64);
+            out::number(rt, start as u64)?;
+            out::number(rt, count as u64)?;
         }
         Found::NotFound => {
-            out::text(b" not found");
+            out::text(rt, " not found")?;
         }
     }
-    out::end();
+    out::end(rt)
 }
 
-pub fn lookup() {
+pub fn lookup(rt: &impl Print) -> io::Result<()> {
     let list = [
         CONFIGURATION,
         ALTERNATE,
@@ -188,13 +199,20 @@ pub fn lookup() {
         alternate(0, 1),
         alternate(7, 0),
     ];
-    find(b"interface 0, alternate 0:", &list, 0, 0);
-    find(b"interface 0, alternate 1, the first of two:", &list, 0, 1);
+    find(rt, "interface 0, alternate 0:", &list, 0, 0)?;
     find(
-        b"interface 7, alternate 0, of another configuration:",
+        rt,
+        "interface 0, alternate 1, the first of two:",
+        &list,
+        0,
+        1,
+    )?;
+    find(
+        rt,
+        "interface 7, alternate 0, of another configuration:",
         &list,
         7,
         0,
-    );
-    find(b"interface 7, alternate 1:", &list, 7, 1);
+    )?;
+    find(rt, "interface 7, alternate 1:", &list, 7, 1)
 }

@@ -7,17 +7,19 @@ mod list;
 mod out;
 mod route;
 
-fn main() {
-    endpoint::packet_sizes();
-    endpoint::intervals();
-    endpoint::endpoints();
-    list::valid();
-    list::refused();
-    list::limits();
-    list::lookup();
-    chain::accepted();
-    chain::refused();
-    chain::think_times();
-    route::table();
-    route::replacements();
+use std::io;
+
+fn main(rt: HostRuntime) -> io::Result<()> {
+    endpoint::packet_sizes(&rt)?;
+    endpoint::intervals(&rt)?;
+    endpoint::endpoints(&rt)?;
+    list::valid(&rt)?;
+    list::refused(&rt)?;
+    list::limits(&rt)?;
+    list::lookup(&rt)?;
+    chain::accepted(&rt)?;
+    chain::refused(&rt)?;
+    chain::think_times(&rt)?;
+    route::table(&rt)?;
+    route::replacements(&rt)
 }

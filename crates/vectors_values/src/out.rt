@@ -1,28 +1,22 @@
 // Lines on standard output.
-use libc::STDOUT_FILENO;
+use std::io;
 
-pub fn text(s: &[u8]) {
-    io::write_all(STDOUT_FILENO, s);
+pub fn text(rt: &impl Print, s: &str) -> io::Result<()> {
+    rt.print(s)
 }
 
-pub fn number(n: u64) {
-    io::write_all(STDOUT_FILENO, b" ");
-    io::print_decimal(STDOUT_FILENO, n);
+pub fn number(rt: &impl Print, n: u64) -> io::Result<()> {
+    print!(rt; " {n}")
 }
 
-pub fn hex(n: u64) {
-    io::write_all(STDOUT_FILENO, b" 0x");
-    io::print_hex(STDOUT_FILENO, n, 1);
+pub fn hex(rt: &impl Print, n: u64) -> io::Result<()> {
+    print!(rt; " 0x{n:x}")
 }
 
-pub fn truth(b: bool) {
-    if b {
-        io::write_all(STDOUT_FILENO, b" yes");
-    } else {
-        io::write_all(STDOUT_FILENO, b" no");
-    }
+pub fn truth(rt: &impl Print, b: bool) -> io::Result<()> {
+    rt.print(if b { " yes" } else { " no" })
 }
 
-pub fn end() {
-    io::write_all(STDOUT_FILENO, b"\n");
+pub fn end(rt: &impl Print) -> io::Result<()> {
+    rt.print("\n")
 }

@@ -1,80 +1,103 @@
 // The route table: registering, replacing, and each refusal.
 use super::out;
 use def::{Dci, SlotId};
+use std::io;
 use transfer::{Registered, Replaced};
 
 // The words of Dcis 1 to 4 of slot 1.
-fn slot_words(routes: [u64; 64]) {
-    out::hex(routes[33]);
-    out::hex(routes[34]);
-    out::hex(routes[35]);
-    out::hex(routes[36]);
-    out::end();
+fn slot_words(rt: &impl Print, routes: [u64; 64]) -> io::Result<()> {
+    out::hex(rt, routes[33])?;
+    out::hex(rt, routes[34])?;
+    out::hex(rt, routes[35])?;
+    out::hex(rt, routes[36])?;
+    out::end(rt)
 }
 
-fn registered(r: Registered) {
+fn registered(rt: &impl Print, r: Registered) -> io::Result<()> {
     match r {
-        Registered::Done => out::text(b" done;"),
-        Registered::QueueFull => out::text(b" queue full;"),
+        Registered::Done => out::text(rt, " done;")?,
+        Registered::QueueFull => out::text(rt, " queue full;")?,
     }
+    Ok(())
 }
 
-fn replaced(r: Replaced) {
+fn replaced(rt: &impl Print, r: Replaced) -> io::Result<()> {
     match r {
-        Replaced::Done => out::text(b" done;"),
-        Replaced::InvalidEndpoint => out::text(b" invalid endpoint;"),
-        Replaced::QueueFull => out::text(b" queue full;"),
+        Replaced::Done => out::text(rt, " done;")?,
+        Replaced::InvalidEndpoint => out::text(rt, " invalid endpoint;")?,
+        Replaced::QueueFull => out::text(rt, " queue full;")?,
     }
+    Ok(())
 }
 
-pub fn table() {
+pub fn table(rt: &impl Print) -> io::Result<()> {
     let mut routes = [0u64; 64];
-    out::text(b"register Dci 1:");
-    registered(transfer::register_queue(&mut routes, SlotId(1), Dci::CTRL, 0x1000));
-    slot_words(routes);
-    out::text(b"register Dci 1 again:");
-    registered(transfer::register_queue(&mut routes, SlotId(1), Dci::CTRL, 0x2000));
-    slot_words(routes);
+    out::text(rt, "register Dci 1:")?;
+    registered(
+        rt,
+        transfer::register_queue(&mut routes, SlotId(1), Dci::CTRL, 0x1000),
+    )?;
+    slot_words(rt, routes)?;
+    out::text(rt, "register Dci 1 again:")?;
+    registered(
+        rt,
+        transfer::register_queue(&mut routes, SlotId(1), Dci::CTRL, 0x2000),
+    )?;
+    slot_words(rt, routes)
 }
 
 // Replaces two endpoints by two others in a table where Dcis 1 to 3 are taken.
-fn replace(label: &[u8], old: [u8; 2], old_rings: [u64; 2], new: [u8; 2], new_rings: [u64; 2]) {
+fn replace(
+    rt: &impl Print,
+    label: &str,
+    old: [u8; 2],
+    old_rings: [u64; 2],
+    new: [u8; 2],
+    new_rings: [u64; 2],
+) -> io::Result<()> {
     let mut routes = [0u64; 64];
     routes[33] = 0x1000;
     routes[34] = 0x20;
     routes[35] = 0x30;
-    out::text(label);
-    replaced(transfer::replace_queues(&mut routes, SlotId(1), &old, &old_rings, &new, &new_rings));
-    slot_words(routes);
+    out::text(rt, label)?;
+    replaced(
+        rt,
+        transfer::replace_queues(&mut routes, SlotId(1), &old, &old_rings, &new, &new_rings),
+    )?;
+    slot_words(rt, routes)
 }
 
-pub fn replacements() {
+pub fn replacements(rt: &impl Print) -> io::Result<()> {
     replace(
-        b"3 and 4 for 2 and 3:",
+        rt,
+        "3 and 4 for 2 and 3:",
         [2, 3],
         [0x20, 0x30],
         [3, 4],
         [0x40, 0x50],
-    );
+    )?;
     replace(
-        b"an old ring that is not there:",
+        rt,
+        "an old ring that is not there:",
         [2, 3],
         [0x20, 0x40],
         [3, 4],
         [0x40, 0x50],
-    );
+    )?;
     replace(
-        b"a new Dci that is taken:",
+        rt,
+        "a new Dci that is taken:",
         [2, 2],
         [0x20, 0x20],
         [3, 4],
         [0x40, 0x50],
-    );
+    )?;
     replace(
-        b"a new Dci that has its ring already:",
+        rt,
+        "a new Dci that has its ring already:",
         [2, 2],
         [0x20, 0x20],
         [3, 4],
         [0x30, 0x50],
-    );
+    )
 }

@@ -1,4 +1,4 @@
-// The reader and the writer of raw descriptors for C (host/include/xhci_device.h).
+// The reader and the writer of raw descriptors that crates/xhci_descriptors_c exports to C.
 #![tactic(auto)]
 
 ghost use Rattle.std.specs.Prelude.{◌≡◌};
@@ -44,15 +44,13 @@ fn as_answered(a: RawAnswer) -> Answered
     }
 }
 
-#[unsafe(no_mangle)]
-pub extern "C" fn xhci_device_read_descriptors(bytes: &[u8], words: &mut [u32]) -> Answered
+pub fn xhci_device_read_descriptors(bytes: &[u8], words: &mut [u32]) -> Answered
     ensures { crosses result words.new ≡ crossed (read_descriptors bytes.now words.old) }
 {
     as_answered(descriptor_reader::read_descriptors(bytes, words))
 }
 
-#[unsafe(no_mangle)]
-pub extern "C" fn xhci_device_write_descriptors(list: &[u32], bytes: &mut [u8]) -> Answered
+pub fn xhci_device_write_descriptors(list: &[u32], bytes: &mut [u8]) -> Answered
     ensures { crosses result bytes.new ≡ crossed (write_descriptors list.now bytes.old) }
 {
     as_answered(descriptor_writer::write_descriptors(list, bytes))

@@ -37,8 +37,7 @@ fn put_rings(words: &mut [u64], rings: [u64; PLACES], n: usize)
 }
 
 // What a claim that is lent a context, a table and a log of these lengths would do. The rings that it would draw go to the lent words.
-#[unsafe(no_mangle)]
-pub extern "C" fn xhci_device_ask(
+pub fn xhci_device_ask(
     image: &[u64],
     ctx: usize,
     routes: usize,
@@ -67,8 +66,7 @@ pub extern "C" fn xhci_device_ask(
     }
 }
 
-#[unsafe(no_mangle)]
-pub extern "C" fn xhci_device_commit(
+pub fn xhci_device_commit(
     image: &mut [u64],
     ctx: &mut [u8],
     routes: &mut [u64],

@@ -6,8 +6,7 @@ ghost use Rattle.xhci_device.specs.Crossed.{crosses, CrossedAs};
 use super::returned;
 use super::returned::Answered;
 
-#[unsafe(no_mangle)]
-pub extern "C" fn xhci_device_claim(
+pub fn xhci_device_claim(
     image: &mut [u64],
     ctx: &mut [u8],
     routes: &mut [u64],

@@ -40,8 +40,7 @@ fn bring_up_into(
     returned::answer_of(answer, called.count)
 }
 
-#[unsafe(no_mangle)]
-pub extern "C" fn xhci_device_bring_up(
+pub fn xhci_device_bring_up(
     image: &mut [u64],
     ctx: &mut [u8],
     routes: &mut [u64],

@@ -4,15 +4,13 @@ ghost use Rattle.device_image.specs.Layout.{WORDS};
 ghost use Rattle.device_image.specs.Image.{decode, is_image};
 
 // How many words an image has.
-#[unsafe(no_mangle)]
-pub extern "C" fn xhci_device_record_words() -> usize
+pub fn xhci_device_record_words() -> usize
     ensures { result ≡ WORDS }
 {
     device_image::WORDS
 }
 
-#[unsafe(no_mangle)]
-pub extern "C" fn xhci_device_is_usable(image: &[u64]) -> bool
+pub fn xhci_device_is_usable(image: &[u64]) -> bool
     ensures { result ≡ is_image image.now && (decode image.now).usable }
 {
     let d = device_image::decode(image);
@@ -20,8 +18,7 @@ pub extern "C" fn xhci_device_is_usable(image: &[u64]) -> bool
 }
 
 // Whether its device may be unplugged: brought up, and not unplugged since.
-#[unsafe(no_mangle)]
-pub extern "C" fn xhci_device_is_up(image: &[u64]) -> bool
+pub fn xhci_device_is_up(image: &[u64]) -> bool
     ensures { result ≡ is_image image.now && (decode image.now).up }
 {
     let d = device_image::decode(image);

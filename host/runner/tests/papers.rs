@@ -12,7 +12,7 @@ fn root() -> PathBuf {
 /// The files of a folder, and of the folders in it, but what is built.
 fn files(folder: &Path, found: &mut Vec<PathBuf>) {
     let inside = fs::read_dir(folder).into_iter().flatten().flatten().map(|entry| entry.path());
-    for path in inside.filter(|path| !path.ends_with("target") && !path.ends_with(".git")) {
+    for path in inside.filter(|path| !["target", "out", ".git"].iter().any(|built| path.ends_with(built))) {
         if path.is_dir() { files(&path, found) } else { found.push(path) }
     }
 }

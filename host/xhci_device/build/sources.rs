@@ -7,8 +7,13 @@ use std::{env, fs, io};
 
 use crate::sha256::sha256;
 
-/// The crates of the repository that are built as archives: the calls on a slot, and what stands outside a slot.
+/// The archives: the calls on a slot, and what stands outside a slot.
 pub const ARCHIVES: [&str; 2] = ["xhci_device", "xhci_descriptors"];
+
+/// The crate of the repository that is built as an archive: it exports the calls of the library of the archive's name.
+pub fn exporting(name: &str) -> String {
+    format!("{name}_c")
+}
 
 pub fn archive(folder: &Path, name: &str) -> PathBuf {
     folder.join(format!("lib{name}.a"))
@@ -23,11 +28,19 @@ pub fn origin(folder: &Path, name: &str) -> PathBuf {
 pub fn crates(root: &Path, archives: &[&str]) -> io::Result<Vec<(String, Vec<String>)>> {
     let text = fs::read_to_string(root.join("crates.txt"))?;
     let lines = text.lines().filter_map(|line| line.split('#').next()?.split_once(':'));
+    // A static library's line has its kind behind the name.
+    let named = lines.filter_map(|(name, uses)| Some((name.split_whitespace().next()?, uses)));
     let uses: BTreeMap<String, Vec<String>> =
-        lines.map(|(name, uses)| (name.trim().into(), uses.split_whitespace().map(String::from).collect())).collect();
+        named.map(|(name, uses)| (name.into(), uses.split_whitespace().map(String::from).collect())).collect();
     let mut found = Vec::new();
-    archives.iter().for_each(|name| visit(name, &uses, &mut found));
+    archives.iter().for_each(|name| visit(&exporting(name), &uses, &mut found));
     Ok(found)
+}
+
+/// The folders of a crate that its archive is made from.
+pub fn parts(root: &Path, name: &str) -> Vec<PathBuf> {
+    let parts = ["src", "specs", "proofs"].map(|part| root.join("crates").join(name).join(part));
+    parts.into_iter().filter(|folder| folder.is_dir()).collect()
 }
 
 fn visit(name: &str, uses: &BTreeMap<String, Vec<String>>, found: &mut Vec<(String, Vec<String>)>) {
@@ -53,11 +66,8 @@ pub fn digest(root: &Path, name: &str) -> io::Result<String> {
     for (name, uses) in crates(root, &[name])? {
         text.push_str(&format!("{name}: {}\n", uses.join(" ")));
         let mut found = Vec::new();
-        for part in ["src", "specs", "proofs"] {
-            let folder = root.join("crates").join(&name).join(part);
-            if folder.is_dir() {
-                files(&folder, &mut found)?;
-            }
+        for folder in parts(root, &name) {
+            files(&folder, &mut found)?;
         }
         found.sort();
         for path in found {

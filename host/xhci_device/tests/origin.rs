@@ -27,7 +27,7 @@ fn digests() {
     assert_eq!(sha256(&[b'a'; 1_000_000]), "cdc76e5c9914fb9281a1c7e284d73e67f1809a48a497200e046d39ccc7112cd0");
 }
 
-/// A folder that goes with the test: `rt check` refuses stray files of Rattle, also below target/.
+/// A folder that goes with the test: `rt ci` refuses stray files of Rattle, also below target/.
 struct Repository(PathBuf);
 
 impl Deref for Repository {
@@ -44,15 +44,20 @@ impl Drop for Repository {
     }
 }
 
-/// A repository of three crates, of which the archive uses two.
+/// A repository of four crates, of which the archive uses three.
 fn repository(name: &str) -> Repository {
     let root = Path::new(env!("CARGO_TARGET_TMPDIR")).join(name);
     let _ = fs::remove_dir_all(&root);
-    put(&root, "crates.txt", "# a line for each\nbelow:\nother: below\nxhci_device: below io\n");
+    put(
+        &root,
+        "crates.txt",
+        "# a line for each\nbelow:\nother: below\nxhci_device: below io\nxhci_device_c staticlib: xhci_device\n",
+    );
     for (name, part) in [("below", "src/lib.rt"), ("below", "proofs/Laws.antt"), ("other", "src/lib.rt")] {
         put(&root, &format!("crates/{name}/{part}"), "text");
     }
     put(&root, "crates/xhci_device/src/lib.rt", "text");
+    put(&root, "crates/xhci_device_c/src/lib.rt", "text");
     put(&root, "target/staticlib/libxhci_device.a", "archive");
     Repository(root)
 }
@@ -67,7 +72,7 @@ fn put(root: &Path, path: &str, text: &str) {
 fn the_digest_is_of_what_the_archive_is_made_from() {
     let root = repository("digest");
     let names: Vec<String> = crates(&root, &[NAME]).expect("crates.txt").into_iter().map(|known| known.0).collect();
-    assert_eq!(names, ["below", "xhci_device"]);
+    assert_eq!(names, ["below", "xhci_device", "xhci_device_c"]);
     let first = digest(&root, NAME).expect("a digest");
     for same in ["crates/other/src/lib.rt", "crates/below/must-fail/a.edit", "docs/a.md", "crates/below/src/lib.rt"] {
         put(&root, same, "text");
@@ -77,7 +82,7 @@ fn the_digest_is_of_what_the_archive_is_made_from() {
         ("crates/below/src/lib.rt", "another"),
         ("crates/below/proofs/Laws.antt", ""),
         ("crates/xhci_device/specs/New.antt", ""),
-        ("crates.txt", "below:\nxhci_device: below\n"),
+        ("crates.txt", "below:\nxhci_device: below\nxhci_device_c staticlib: xhci_device\n"),
     ];
     let mut known = vec![first];
     for (path, text) in changes {

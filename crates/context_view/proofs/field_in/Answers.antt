@@ -1,5 +1,4 @@
 use mathlib.Core.Path.{sym, ◌∙◌}
-use borrow.Author.Tests.{not-true, not-false}
 use Rattle.context_view.specs.View.{field_in}
 use Rattle.context_view.proofs.Laws.{in_context}
 use Rattle.context_view.proofs.field_in.Goals as goal

@@ -8,10 +8,12 @@ use Rattle.course_claim.proofs.claim_interface.Goals as goal
 
 pub configure-requires : goal.configure-requires
 configure-requires c =
-    let e = stopped_count _ _ _ _ _ _ _ (c.stop_endpoints-stop.ensures []) c.in-Done.is in (
-      c.requires.0,
-      (c.requires.1.0, omega (arith, e, c.stop_endpoints-stop.auto.log, c.requires.0.few, c.requires.1.1)),
-    )
+    let e = stopped_count _ _ _ _ _ _ _ (c.stop_endpoints-stop.ensures []) c.in-Done.is in
+    record {
+      room = c.requires.room;
+      count_bound = c.requires.count_bound;
+      count_in_bounds = omega (arith, e, c.stop_endpoints-stop.auto.log, c.requires.room.few, c.requires.in_bounds);
+    }
 
 pub returns-in-Done : goal.returns-in-Done
 unfolding claim_course on_sent
@@ -21,7 +23,7 @@ returns-in-Done c =
 pub returns-in-Failed : goal.returns-in-Failed
 unfolding claim_course on_sent
 returns-in-Failed c =
-    rw (dcis_in_lem, c.requires.0.full)
+    rw (dcis_in_lem, c.requires.room.full)
     (swept_on _ _ _ _ _ (c.stop_endpoints-stop.ensures _) c.in-Failed.is (ended _ c.settings_kept.ensures))
 
 pub returns-in-Cut : goal.returns-in-Cut

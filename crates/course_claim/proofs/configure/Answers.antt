@@ -9,10 +9,11 @@ use Rattle.course_claim.specs.Claim.{claim_context, claim_resume, claim_configur
 use Rattle.course_claim.proofs.configure.Goals as goal
 
 pub switch-requires : goal.switch-requires
-switch-requires c = (
-  room_same _ _ _ _ _ c.requires.0 c.prepare_configure.auto.ctx,
-  (c.requires.1.0, omega (arith, c.send-s.auto.log, c.requires.1.1)),
-)
+switch-requires c = record {
+  room = room_same _ _ _ _ _ c.requires.room c.prepare_configure.auto.ctx;
+  count_bound = c.requires.count_bound;
+  n_in_bounds = omega (arith, c.send-s.auto.log, c.requires.count_in_bounds);
+}
 
 pub returns-in-Done : goal.returns-in-Done
 unfolding claim_configure claim_context on_sent Begins continued

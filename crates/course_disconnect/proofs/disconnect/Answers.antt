@@ -6,12 +6,12 @@ use Rattle.command.specs.Sweep.{stop_each}
 use Rattle.command.proofs.Phases.{Begins, continued, went_on}
 use Rattle.course_steps.proofs.Laws.{ended}
 use Rattle.course_disconnect.specs.Disconnect.{disconnect_course}
-use Rattle.course_disconnect.proofs.Steps.{stopped, stops_count}
+use Rattle.course_disconnect.proofs.Steps.{unless_cut, stopped, stops_count}
 use Rattle.course_disconnect.proofs.disconnect.Goals as goal
 
 pub returns-then-stops : goal.returns-then-stops
 returns-then-stops c =
-    λ ctx. stopped _ _ _ ctx _ _ _ _ _ c.send.ensures c.in_default.in_default-own.keys2 (c.stop_each-stops.ensures ctx)
+    λ ctx. stopped _ _ _ ctx _ _ _ _ _ c.send.ensures (unless_cut _ c.in_default.not-Cut) (c.stop_each-stops.ensures ctx)
     (rw c.if-stops.true (ended _ c.settings_kept-then-stops.ensures))
 
 pub disable-requires : goal.disable-requires
@@ -25,5 +25,5 @@ returns-in-Cut c =
 
 pub returns-else-stops : goal.returns-else-stops
 returns-else-stops c =
-    λ ctx. stopped _ _ _ ctx _ _ _ _ _ c.send.ensures c.in_default.in_default-own.keys2 (c.stop_each-stops.ensures ctx)
+    λ ctx. stopped _ _ _ ctx _ _ _ _ _ c.send.ensures (unless_cut _ c.in_default.not-Cut) (c.stop_each-stops.ensures ctx)
     (rw c.if-stops.false (c.disable.ensures ctx))

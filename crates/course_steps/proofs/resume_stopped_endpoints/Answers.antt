@@ -1,6 +1,6 @@
 use mathlib.Core.Path.{refl, ◌∙◌}
 use borrow.Author.Rules.{rules}
-use Rattle.course_steps.proofs.Loops.{resume_start, resume_next, resume_left, resume_end}
+use Rattle.course_steps.proofs.Loops.{unless_done, resume_start, resume_next, resume_left, resume_end}
 use Rattle.course_steps.proofs.resume_stopped_endpoints.Goals as goal
 
 pub loop-i-init : goal.loop-i-init
@@ -19,7 +19,7 @@ loop-i-preserved c = (
 pub returns-in_default : goal.returns-in_default
 returns-in_default c =
     λ ctx. rw (c.loop-i.invariant.3 ctx ∙ resume_left _ _ _ _ ctx _ _ _ c.loop-i.invariant.2 c.requires.0 c.loop-i-test.true
-    c.send-sent.ensures.0 c.send-sent.ensures.1 c.in_default.in_default-own.keys2) (record {
+    c.send-sent.ensures.0 c.send-sent.ensures.1 (unless_done _ c.in_default.not-Done)) (record {
       sent = refl;
       active = refl;
       count = refl;

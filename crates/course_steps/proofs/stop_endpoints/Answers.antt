@@ -22,7 +22,7 @@ pub returns-in-Failed : goal.returns-in-Failed
 unfolding undo_stops dcis_in
 returns-in-Failed c =
     λ ctx. rw (
-      c.loop-i.invariant.3 ctx ∙ stop_failed c.args.t4 _ _ _ ctx _ _ _ c.loop-i.invariant.2 c.requires.0
+      c.loop-i.invariant.3 ctx ∙ stop_failed c.args.q _ _ _ ctx _ _ _ c.loop-i.invariant.2 c.requires.0
           c.loop-i-test.true c.send.ensures.0 c.send.ensures.1 _ c.in-Failed.is,
       played_then,
       played_ends,

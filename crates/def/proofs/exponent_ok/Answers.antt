@@ -6,12 +6,12 @@ use Rattle.def.proofs.exponent_ok.Goals as goal
 
 pub returns-in-4-to-5 : goal.returns-in-4-to-5
 unfolding exponent_ok
-returns-in-4-to-5 c = rw (super_true c.args.speed c.in-4-to-5.if-speed-lt4-own.false (omega (arith, c.in-4-to-5.if-speed-lt6-own.true)))
+returns-in-4-to-5 c = rw (super_true c.args.speed (omega arith) (omega arith))
 
 pub returns-in_default : goal.returns-in_default
 unfolding exponent_ok
-returns-in_default c = rw (super_false c.args.speed (inl c.in_default.if-speed-lt4-own.true))
+returns-in_default c = rw (super_false c.args.speed (inl (omega arith)))
 
 pub returns-in_default-2 : goal.returns-in_default-2
 unfolding exponent_ok
-returns-in_default-2 c = rw (super_false c.args.speed (inr c.in_default.if-speed-lt6-own.false))
+returns-in_default-2 c = rw (super_false c.args.speed (inr (omega arith)))

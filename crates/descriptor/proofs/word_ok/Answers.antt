@@ -1,3 +1,4 @@
+use native.Mathlib.Omega.{arith}
 use borrow.Author.Tests.{ne_eqb}
 use Rattle.descriptor.specs.Word.{word_ok}
 use Rattle.descriptor.proofs.Refused.{endpoint_number_zero, endpoint_type_zero, endpoint_fits}
@@ -13,7 +14,9 @@ returns-in-1 c = rw (← c.word_kind.ensures, c.in-1.is)
 
 pub returns-in_default : goal.returns-in_default
 unfolding word_ok
-returns-in_default c = rw (← c.word_kind.ensures, ne_eqb _ _ c.in_default.in_default-own.rest.0.0.1, ne_eqb _ _ c.in_default.in_default-own.rest.0.1, ne_eqb _ _ c.in_default.in_default-own.rest.1)
+returns-in_default c =
+    let k = c.word_kind.result in
+    rw (← c.word_kind.ensures, ne_eqb k 0 (omega arith), ne_eqb k 1 (omega arith), ne_eqb k 2 (omega arith))
 
 pub returns-then-w-eq0 : goal.returns-then-w-eq0
 unfolding word_ok

@@ -1,6 +1,5 @@
 use borrow.Author.Rules.{rules}
 use mathlib.Core.Path.{sym, ◌∙◌}
-use borrow.Author.Tests.{not-true, not-false}
 use lib.ListN.{length-set}
 use Rattle.descriptor_list.proofs.Next.{drop_back}
 use Rattle.descriptor_list.proofs.Marks.{counted_end, counted_all, other_word, marked_word, new_word}

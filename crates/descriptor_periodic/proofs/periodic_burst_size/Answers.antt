@@ -1,22 +1,18 @@
-use mathlib.Core.Logic.{◌≢◌, ⊎_elim}
-use native.Mathlib.Omega.{arith}
-use borrow.Author.Tests.{eqb-true, eqb-false, not-true, not-false}
-use lib.Dec.{eqb}
+use borrow.Author.Tests.{eq-eqb, ne_eqb}
 use Rattle.descriptor.specs.Endpoint.{periodic_burst}
+use Rattle.descriptor_periodic.proofs.periodic_burst_size.Goals.{else-is_periodic-via-then-is_periodic+then-port_speed-eq-HIGH+else-packets-ne0, else-is_periodic-via-then-is_periodic+else-port_speed-eq-HIGH, else-is_periodic-via-else-is_periodic}
 use Rattle.descriptor_periodic.proofs.periodic_burst_size.Goals as goal
-
-pub overflow_sub-result : goal.overflow_sub-result
-overflow_sub-result c = let packets = c.args.packets in let some : packets ≢ 0 = eqb-false packets 0 (not-true (eqb packets 0) c.if-packets-ne0.true) in omega arith
 
 pub returns-then-packets-ne0 : goal.returns-then-packets-ne0
 unfolding periodic_burst
-returns-then-packets-ne0 c = rw (← c.is_periodic.ensures, c.if-is_periodic.true, c.if-port_speed-eq-HIGH.true)
+returns-then-packets-ne0 c = rw (← c.is_periodic.ensures, c.if-is_periodic.true, eq-eqb _ _ c.if-port_speed-eq-HIGH.true)
 
 pub returns : goal.returns
 unfolding periodic_burst
-returns c =
-    let packets = c.args.packets in
-    ⊎_elim
-    (λ w. rw (← c.is_periodic.ensures, w.0.taken, w.1.taken, eqb-true packets 0 (not-false (eqb packets 0) w.2.left)))
-    (⊎_elim (λ w. rw (← c.is_periodic.ensures, w.0.taken, w.1.left)) (λ w. rw (← c.is_periodic.ensures, w.left)))
-    c.else-is_periodic.branch
+returns c = elim c.else-is_periodic.branch [
+  | else-is_periodic-via-then-is_periodic+then-port_speed-eq-HIGH+else-packets-ne0 w ↦
+      rw (← c.is_periodic.ensures, w.if-is_periodic.true, eq-eqb _ _ w.if-port_speed-eq-HIGH.true, w.if-packets-ne0.false)
+  | else-is_periodic-via-then-is_periodic+else-port_speed-eq-HIGH w ↦
+      rw (← c.is_periodic.ensures, w.if-is_periodic.true, ne_eqb _ _ w.if-port_speed-eq-HIGH.false)
+  | else-is_periodic-via-else-is_periodic w ↦ rw (← c.is_periodic.ensures, w.if-is_periodic.false)
+]

@@ -1,5 +1,4 @@
 use mathlib.Core.Path.{sym, ◌∙◌}
-use borrow.Author.Tests.{not-true, not-false}
 use Rattle.descriptor_writer.proofs.Exits.{too_short, not_valid, not_given, listed, all_written}
 use Rattle.descriptor_writer.proofs.write_descriptors.Goals as goal
 

@@ -1,6 +1,5 @@
 use borrow.Author.Rules.{rules}
 use mathlib.Core.Path.{sym, ◌∙◌}
-use borrow.Author.Tests.{not-true, not-false}
 use Rattle.record_ring.proofs.Steps.{count_go, count_pass, count_none}
 use Rattle.record_ring.proofs.count_not_among.Goals as goal
 

@@ -1,14 +1,16 @@
 use borrow.Author.Rules.{rules}
 use mathlib.Core.Path.{sym, ◌∙◌}
-use mathlib.Core.Logic.{inl, inr, ⊎_elim}
-use borrow.Author.Tests.{not-true, not-false}
+use mathlib.Core.Logic.{inl, inr}
 use Rattle.record_ring.proofs.Steps.{fit_go, fit_stop, fit_none}
+use Rattle.record_ring.proofs.rings_apart.Goals.{then-not-ring_ok-via-then-not-ring_ok, then-not-ring_ok-via-else-not-ring_ok+then-has_ring}
 use Rattle.record_ring.proofs.rings_apart.Goals as goal
 
 pub returns-then-not-ring_ok : goal.returns-then-not-ring_ok
 returns-then-not-ring_ok c =
-    sym (c.loop-i.invariant.1 ∙ fit_stop _ _ c.loop-i-test.true (⊎_elim (λ w. inl (sym c.ring_ok.ensures ∙
-    not-true c.ring_ok.result w.taken)) (λ w. inr (sym w.1.ensures ∙ w.2.taken)) c.then-not-ring_ok.branch))
+    sym (c.loop-i.invariant.1 ∙ fit_stop _ _ c.loop-i-test.true (elim c.then-not-ring_ok.branch [
+      | then-not-ring_ok-via-then-not-ring_ok w ↦ inl (sym c.ring_ok.ensures ∙ w.if-not-ring_ok.true)
+      | then-not-ring_ok-via-else-not-ring_ok+then-has_ring w ↦ inr (sym w.has_ring.ensures ∙ w.if-has_ring.true)
+    ]))
 
 pub loop-i-preserved : goal.loop-i-preserved
 loop-i-preserved c = (

@@ -1,11 +1,9 @@
-use Prim.Native.Nat.{◌≤◌, ◌-◌}
-use mathlib.Core.Path.{◌≡◌}
-use lib.ListN.{length}
+-- The bytes of a device fit its buffer, and each turn leaves less of the text.
+use Rattle.std.proofs.Common.{length, ◌-◌, ◌≡◌, ◌≤◌}
 use Rattle.vectors_descriptors.proofs.devices.Given as goal
 
 abbrev pub invariant-loop-at : goal.invariant-loop-at
-invariant-loop-at l =
-    (l.count ≤ length l.bytes) × (length l.bytes ≡ 1024)
+invariant-loop-at g l = (l.count ≤ 1024) × (length l.bytes ≡ 1024)
 
 abbrev pub decreases-loop-at : goal.decreases-loop-at
-decreases-loop-at l = length l.input - l.at
+decreases-loop-at g l = length l.input - l.at

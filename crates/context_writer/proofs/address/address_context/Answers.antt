@@ -28,6 +28,4 @@ returns c =
       c.address_slot.ensures,
       c.put_field.ensures,
       (let it : c.loop-i.ctx ≡ replicate (length c.args.ctx.now) 0 = clear_done _ _ _ c.loop-i.invariant.0 (omega (arith, c.loop-i-test.false, c.loop-i.invariant.1)) c.loop-i.invariant.2 in it),
-      add-sub_cancel_left,
-      add-sub_cancel_left,
-    )
+    ) (simp add-sub_cancel_left)

@@ -2,7 +2,6 @@ use mathlib.Core.Path.{sym, ◌∙◌}
 use mathlib.Core.Logic.{inl, inr, ⊎_elim}
 use native.Mathlib.Omega.{arith}
 use mir.Syntax.{w64}
-use borrow.Author.Tests.{eqb-true, eqb-false}
 use borrow.Author.Rules.{rules, Fits-under}
 use Rattle.context.specs.Steps.{staying}
 use Rattle.context.proofs.Entries.{staying_under, staying_above, staying_done}
@@ -24,7 +23,7 @@ loop-i-preserved-then-flag-eq0 c = (
   search rules,
   omega (arith, c.if-highest-dci.true),
   λ dropped f. c.loop-i.invariant.2 dropped f ∙ staying_above dropped _ _ _ _ _ f c.requires.1 c.loop-i-test.true
-      c.read_field-flag.ensures (eqb-true _ 0 c.if-flag-eq0.true) c.if-highest-dci.true,
+      c.read_field-flag.ensures c.if-flag-eq0.true c.if-highest-dci.true,
 )
 
 pub loop-i-preserved : goal.loop-i-preserved
@@ -32,7 +31,7 @@ loop-i-preserved c = (
   search rules,
   search rules,
   λ dropped f. c.loop-i.invariant.2 dropped f ∙ staying_under dropped _ _ _ _ _ f c.requires.1 c.loop-i-test.true
-      c.read_field-flag.ensures (⊎_elim (λ w. inr (eqb-false _ 0 w.1.left)) (λ w. inl w.left) c.else-highest-dci.branch),
+      c.read_field-flag.ensures (⊎_elim (λ w. inr w.1) inl c.else-highest-dci.either),
 )
 
 pub returns : goal.returns

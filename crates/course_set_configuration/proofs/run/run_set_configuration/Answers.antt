@@ -8,7 +8,11 @@ use Rattle.course_set_configuration.proofs.run.run_set_configuration.Goals as go
 
 pub configure-requires : goal.configure-requires
 configure-requires c =
-    (c.requires.0, (c.requires.1.0, let e = stopped_count _ _ _ _ _ _ _ (c.stop_endpoints-stop.ensures []) c.in-Done.is in omega (arith, e, c.stop_endpoints-stop.auto.log, c.requires.1.1)))
+    let e = stopped_count _ _ _ _ _ _ _ (c.stop_endpoints-stop.ensures []) c.in-Done.is in
+    record {
+      room = c.requires.room;
+      held_bound = (c.requires.held_bound, omega (arith, e, c.stop_endpoints-stop.auto.log, c.requires.count_in_bounds));
+    }
 
 pub returns-in-Done : goal.returns-in-Done
 unfolding set_course on_sent

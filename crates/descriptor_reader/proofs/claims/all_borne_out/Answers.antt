@@ -1,6 +1,5 @@
 use mathlib.Core.Path.{refl, sym, ◌∙◌}
 use native.Mathlib.Omega.{arith}
-use borrow.Author.Tests.{not-true, not-false}
 use Rattle.descriptor_raw.specs.Read.{descriptors}
 use Rattle.descriptor_reader.proofs.Rest.{after_whole, long}
 use Rattle.descriptor_reader.proofs.Judged.{judged_on, judged_end}

@@ -41,4 +41,4 @@ pub returns-in-5 : goal.returns-in-5
 returns-in-5 c = sym (endpoint_judged _ _ c.requires.0 c.requires.1 c.in-5.is _ c.two_bytes_at-in-5.ensures.0)
 
 pub returns-in_default : goal.returns-in_default
-returns-in_default c = sym (other_judged _ _ c.requires.0 c.requires.1 c.in_default.in_default-own.rest.0.0.1 c.in_default.in_default-own.rest.0.1 c.in_default.in_default-own.rest.1)
+returns-in_default c = sym (other_judged _ _ c.requires.0 c.requires.1 (omega arith) (omega arith) (omega arith))

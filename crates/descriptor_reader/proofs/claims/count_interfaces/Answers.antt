@@ -8,7 +8,6 @@ use Rattle.descriptor_raw.proofs.Made.{numbers_after}
 use Rattle.descriptor_raw.proofs.Marks.{unmarked, unmarked_all, none_left, met_other, met_again, met_new}
 use Rattle.descriptor_reader.specs.Walk.{descriptors_from}
 use Rattle.descriptor_reader.proofs.Rest.{numbers_end, numbers_stop, numbers_interface, numbers_other, after_whole, long, type_inside, interface_inside}
-use borrow.Author.Tests.{not-true, not-false}
 use borrow.Author.Rules.{rules}
 use Rattle.descriptor_reader.proofs.claims.count_interfaces.Goals as goal
 

@@ -3,7 +3,7 @@ use native.Mathlib.Omega.{arith}
 use Rattle.descriptor_reader.proofs.cut.byte_at.Goals as goal
 
 pub overflow_cast-result : goal.overflow_cast-result
-overflow_cast-result c = omega (arith, c.shared_slice_known-1.given c.args.i)
+overflow_cast-result c = omega (arith, c.type_inv.bytes c.args.i)
 
 pub returns : goal.returns
-returns c = (refl, omega (arith, c.shared_slice_known-1.given c.args.i))
+returns c = (refl, omega (arith, c.type_inv.bytes c.args.i))

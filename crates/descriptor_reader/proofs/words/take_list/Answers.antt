@@ -1,5 +1,4 @@
 use mathlib.Core.Path.{sym, ◌∙◌}
-use borrow.Author.Tests.{not-true, not-false}
 use Rattle.descriptor_reader.proofs.words.take_list.Goals as goal
 
 pub returns-then-not-valid_list : goal.returns-then-not-valid_list

@@ -42,4 +42,4 @@ returns-in-5 c = rw (endpoint_words _ _ c.requires.0 c.requires.1 c.in-5.is _ c.
 
 pub returns-in_default : goal.returns-in_default
 unfolding made_words
-returns-in_default c = rw (other_words _ _ c.requires.0 c.requires.1 c.in_default.in_default-own.rest.0.0.1 c.in_default.in_default-own.rest.0.1 c.in_default.in_default-own.rest.1)
+returns-in_default c = rw (other_words _ _ c.requires.0 c.requires.1 (omega arith) (omega arith) (omega arith))

@@ -6,7 +6,7 @@ pub interface_descriptor-d-requires : goal.interface_descriptor-d-requires
 interface_descriptor-d-requires c = run_small _ _ _ _ _ c.requires c.endpoint_run-endpoints.ensures
 
 pub overflow_sub-packet : goal.overflow_sub-packet
-overflow_sub-packet c = packets_some _ _ _ _ c.requires _ c.word_kind.ensures c.in_default.in_default-own.rest.0.1 c.in_default.in_default-own.rest.1 _ c.endpoint_descriptor-e.ensures
+overflow_sub-packet c = packets_some _ _ _ _ c.requires _ c.word_kind.ensures (omega arith) (omega arith) _ c.endpoint_descriptor-e.ensures
 
 pub overflow_mul-packet : goal.overflow_mul-packet
 overflow_mul-packet c = omega (arith, (packet_small _ _ c.endpoint_descriptor-e.ensures).1)
@@ -21,4 +21,4 @@ pub returns-in-1 : goal.returns-in-1
 returns-in-1 c = put_interface _ _ _ _ c.requires _ c.word_kind.ensures _ _ _ c.copy-in-1.ensures c.in-1.is _ _ _ c.endpoint_run-endpoints.ensures c.interface_number-interface.ensures c.alternate_setting-alternate.ensures c.interface_descriptor-d.ensures
 
 pub returns-in_default : goal.returns-in_default
-returns-in_default c = put_endpoint _ _ _ _ c.requires _ c.word_kind.ensures _ _ _ c.copy-in_default.ensures c.in_default.in_default-own.rest.0.1 c.in_default.in_default-own.rest.1 _ c.endpoint_descriptor-e.ensures c.endpoint_bytes-d.ensures
+returns-in_default c = put_endpoint _ _ _ _ c.requires _ c.word_kind.ensures _ _ _ c.copy-in_default.ensures (omega arith) (omega arith) _ c.endpoint_descriptor-e.ensures c.endpoint_bytes-d.ensures

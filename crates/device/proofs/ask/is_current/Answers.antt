@@ -1,4 +1,3 @@
-use Prim.Native.Nat.{◌≤◌}
 use mathlib.Core.Path.{◌≡◌, sym}
 use native.Mathlib.Omega.{arith}
 use lib.ListN.{length}
@@ -15,15 +14,19 @@ returns-then-drops-current c =
 pub returns-then-adds-current : goal.returns-then-adds-current
 returns-then-adds-current c =
     other_adds c.args.interface c.args.alternate c.args.drops c.args.adds c.args.rings.now c.show_claim-current.result _ _
-    c.show_claim-current.ensures (omega (arith, c.if-drops-current.false)) c.if-adds-current.true
+    c.show_claim-current.ensures c.if-drops-current.false c.if-adds-current.true
 
 pub slice_bounds-drawn-end : goal.slice_bounds-drawn-end
-slice_bounds-drawn-end c = (let it : c.show_claim-current.result.count ≤ length c.show_claim-current.result.rings = let known : length c.show_claim-current.result.rings ≡ 30 = search rules in omega (arith, known, c.show_claim-current.ensures.room) in it)
+slice_bounds-drawn-end c =
+    let room : length c.show_claim-current.result.rings ≡ 30 = search rules in
+    omega (arith, room, c.show_claim-current.ensures.room)
 
 pub slice_bounds-same_rings-end : goal.slice_bounds-same_rings-end
-slice_bounds-same_rings-end c = sym (length-take-le _ _ ((let it : c.show_claim-current.result.count ≤ length c.show_claim-current.result.rings = let known : length c.show_claim-current.result.rings ≡ 30 = search rules in omega (arith, known, c.show_claim-current.ensures.room) in it)))
+slice_bounds-same_rings-end c =
+    let room : length c.show_claim-current.result.rings ≡ 30 = search rules in
+    sym (length-take-le _ _ (omega (arith, room, c.show_claim-current.ensures.room)))
 
 pub returns : goal.returns
 returns c =
     same_flags c.args.interface c.args.alternate c.args.drops c.args.adds c.args.rings.now c.show_claim-current.result _ _
-    c.show_claim-current.ensures (omega (arith, c.if-drops-current.false)) (omega (arith, c.if-adds-current.false)) c.same_rings.result c.same_rings.ensures
+    c.show_claim-current.ensures c.if-drops-current.false c.if-adds-current.false c.same_rings.result c.same_rings.ensures

@@ -1,16 +1,12 @@
-use borrow.Author.Tests.{not-true, not-false}
+use borrow.Author.Tests.{not-false}
 use Rattle.answer.specs.Answer.{number}
 use Rattle.device.specs.Device.{with_configuration}
 use Rattle.device.proofs.Marks.{not_configured}
 use Rattle.device.proofs.set_configuration.configured.Goals as goal
 
-pub returns-then-not-e : goal.returns-then-not-e
-returns-then-not-e c = rw (c.if-not-e.true)
-
 pub returns-in-Accepted : goal.returns-in-Accepted
 unfolding with_configuration number
-returns-in-Accepted c = rw (c.if-not-e.false, c.in-Accepted.is)
+returns-in-Accepted c = rw (not-false _ c.if-not-e.false, c.in-Accepted.is)
 
 pub returns-in_default : goal.returns-in_default
-returns-in_default c =
-    not_configured c.args.e.answer c.args.d c.args.e.moved _ (c.if-not-e.false) c.in_default.in_default-own.keys2
+returns-in_default c = not_configured c.args.e.answer c.args.d c.args.e.moved _ (not-false _ c.if-not-e.false) c.in_default.not-Accepted

@@ -11,7 +11,7 @@ returns c =
       c.answer_number-accepted.ensures,
       c.first_words-kept.ensures,
       c.given_rings-given.ensures,
-      c.requires.1,
+      c.requires.ring_value,
       c.no_device-d.ensures,
       e.1,
       length-take-le _ _ e.0,

@@ -2,7 +2,6 @@ use Prim.Native.Nat.{◌^◌}
 use mir.Syntax.{w32}
 use native.Mathlib.Nat.{zero-add}
 use native.Mathlib.Omega.{arith}
-use borrow.Author.Tests.{not-true, not-false}
 use Rattle.hub.specs.Route.{route_string}
 use Rattle.hub.proofs.Laws.{depth_below}
 use Rattle.hub.proofs.Steps.{route_up, route_room, route_end, route_small}

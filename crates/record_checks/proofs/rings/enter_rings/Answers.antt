@@ -1,7 +1,6 @@
 use borrow.Author.Rules.{rules}
 use mathlib.Core.Path.{sym, ◌∙◌}
 use native.Mathlib.Omega.{arith}
-use borrow.Author.Tests.{not-true, not-false}
 use lib.Seq.{length-take-le}
 use Rattle.record_checks.proofs.Steps.{enter_start, enter_length, enter_room, enter_old, enter_new, enter_end, ring_within, ring_past}
 use Rattle.record_checks.proofs.rings.enter_rings.Goals as goal

@@ -1,5 +1,4 @@
 use mathlib.Core.Path.{sym, ◌∙◌}
-use borrow.Author.Tests.{not-true, not-false}
 use Rattle.record_checks.proofs.rings.store_sound.Goals as goal
 
 pub returns-then-not-given_fit : goal.returns-then-not-given_fit

@@ -1,13 +1,12 @@
 use mathlib.Core.Path.{◌≡◌, sym}
 use native.Mathlib.Omega.{arith}
-use borrow.Author.Tests.{not-true, not-false}
 use lib.ListN.{length}
 use lib.Seq.{length-take-le}
 use borrow.Author.Rules.{rules}
 use Rattle.record_checks.proofs.sound.lists_sound.Goals as goal
 
 pub slice_bounds-words-end : goal.slice_bounds-words-end
-slice_bounds-words-end c = let full : length c.args.t1 ≡ 256 = search rules in sym (length-take-le c.args.n c.args.t1 (omega (arith, full, c.requires)))
+slice_bounds-words-end c = let full : length c.args.list ≡ 256 = search rules in sym (length-take-le c.args.n c.args.list (omega (arith, full, c.requires)))
 
 pub returns-then-not-valid_list : goal.returns-then-not-valid_list
 returns-then-not-valid_list c = rw (← c.valid_list.ensures, c.if-not-valid_list.true)

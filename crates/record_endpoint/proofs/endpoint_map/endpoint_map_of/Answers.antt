@@ -1,12 +1,12 @@
 use mathlib.Core.Path.{◌≡◌, sym, ◌∙◌}
 use lib.ListN.{get_or}
-use mathlib.Core.Logic.{⊎_elim}
 use native.Mathlib.Nat.{sub-zero}
 use Rattle.record_endpoint.specs.Endpoint.{blank}
 use Rattle.record_endpoint.specs.EndpointMap.{with_endpoint, is_active, endpoint_map_of}
 use Rattle.record_endpoint.proofs.Steps.{map_next, map_done, whole_none, whole_entry, entry_out}
 use borrow.Author.Rules.{rules}
 use Rattle.record_endpoint.proofs.endpoint_map.endpoint_map_of.Goals as goal
+use Rattle.record_endpoint.proofs.endpoint_map.endpoint_map_of.Goals.{in-Active, in-Revoked}
 
 pub loop-i-init : goal.loop-i-init
 loop-i-init c =
@@ -15,12 +15,16 @@ loop-i-init c =
 pub loop-i-preserved-then-place-lt-PLACES : goal.loop-i-preserved-then-place-lt-PLACES
 unfolding with_endpoint is_active
 loop-i-preserved-then-place-lt-PLACES c =
-    let l = c.loop-i in (
+    let l = c.loop-i in
+    let switched : c.match-handle.on ≡ is_active (get_or c.args.eps l.i blank).handle = elim c.match-handle.branch [
+      | in-Active w ↦ rw w.in-Active.is w.on-is
+      | in-Revoked w ↦ rw w.in-Revoked.is w.on-is
+    ] in (
       search rules,
       whole_entry _ _ _ _ _ l.invariant.1,
       l.invariant.2
           ∙ map_next _ _ _ _ _ c.loop-i-test.true
-          ∙ rw (c.place_of-place.ensures.0, (let it : c.match-handle.on ≡ is_active (get_or c.args.t1 c.loop-i.i blank).handle = ⊎_elim (λ w. rw w.1.given.1 w.2) (λ w. rw w.1.given.1 w.2) c.match-handle.branch in it)),
+          ∙ rw (c.place_of-place.ensures.0, switched),
     )
 
 pub loop-i-preserved : goal.loop-i-preserved

@@ -1,6 +1,5 @@
 use native.Mathlib.Omega.{arith}
 use borrow.Author.Rules.{rules}
-use borrow.Author.Tests.{not-true, not-false}
 use Rattle.record_endpoint.specs.EndpointMap.{is_owned, owned_rings}
 use Rattle.record_endpoint.proofs.Steps.{write_none, write_next, write_keep, write_done}
 use Rattle.record_endpoint.proofs.endpoint_map.owned_rings.Goals as goal

@@ -1,16 +1,20 @@
 use mathlib.Core.Path.{◌≡◌, sym, ◌∙◌}
 use native.Mathlib.Omega.{arith}
 use lib.ListN.{get_or, length-set, get_or-eq_default}
-use mathlib.Core.Logic.{⊎_elim}
 use lib.Seq.{set_out}
 use Rattle.record_endpoint.specs.EndpointMap.{pending_rings}
 use Rattle.record_endpoint.proofs.Steps.{pending_next, pending_none}
 use borrow.Author.Rules.{rules}
 use Rattle.record_endpoint.proofs.pending.pending_rings.Goals as goal
+use Rattle.record_endpoint.proofs.pending.pending_rings.Goals.{then-i-rings, else-i-rings}
 
 pub loop-i-preserved-then-place-lt-PLACES : goal.loop-i-preserved-then-place-lt-PLACES
 loop-i-preserved-then-place-lt-PLACES c = let l = c.loop-i in
-    let a = c.args in (
+    let a = c.args in
+    let offered : c.if-i-rings.ring ≡ get_or a.rings.now l.i 0 = elim c.if-i-rings.branch [
+      | then-i-rings w ↦ w.ring-is
+      | else-i-rings w ↦ w.ring-is ∙ sym (get_or-eq_default a.rings.now 0 w.if-i-rings.false)
+    ] in (
       search rules,
       simp length-set l.invariant.1,
       l.invariant.2
@@ -18,9 +22,7 @@ loop-i-preserved-then-place-lt-PLACES c = let l = c.loop-i in
           ∙ rw (
             ← c.endpoint_descriptor-e.ensures,
             ← c.place_of-place.ensures.0,
-            ← (let it : c.if-i-rings.ring ≡ get_or c.args.rings.now c.loop-i.i 0 = ⊎_elim (λ w. w.2)
-                (λ w. w.1 ∙ sym (get_or-eq_default c.args.rings.now 0 w.0.left))
-                c.if-i-rings.branch in it),
+            ← offered,
           ),
     )
 

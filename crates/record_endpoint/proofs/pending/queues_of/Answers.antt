@@ -29,7 +29,7 @@ loop-p-preserved c = let l = c.loop-p in (
 pub returns : goal.returns
 unfolding queues_of
 returns c =
-    let by = c.args.t1 in
+    let by = c.args.by in
     let i = c.loop-p.invariant in
     let e : c.loop-p.p ≡ 30 = omega arith in
     record {

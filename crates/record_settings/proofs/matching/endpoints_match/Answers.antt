@@ -1,6 +1,5 @@
 use mathlib.Core.Path.{sym, ◌∙◌}
 use native.Mathlib.Nat.{sub-zero}
-use borrow.Author.Tests.{not-true, not-false}
 use Rattle.record_settings.specs.Match.{all_own}
 use Rattle.record_settings.proofs.Steps.{passed_next, passed_none, match_not, match_owners}
 use Rattle.record_settings.proofs.matching.endpoints_match.Goals as goal

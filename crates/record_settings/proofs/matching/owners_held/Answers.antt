@@ -1,7 +1,6 @@
 use mathlib.Core.Path.{refl, sym, ◌∙◌}
 use borrow.Author.Rules.{rules}
-use borrow.Author.Tests.{eq-eqb, ne_eqb, not-true, not-false}
-use Rattle.record_settings.specs.Held.{is_held}
+use borrow.Author.Tests.{eq-eqb, ne_eqb}
 use Rattle.record_settings.specs.Match.{each_place, owners_held}
 use Rattle.record_settings.proofs.Steps.{each_next, each_none}
 use Rattle.record_settings.proofs.matching.owners_held.Goals as goal

@@ -1,11 +1,10 @@
-use Prim.Native.Nat.{◌≤◌, ◌-◌}
-use mathlib.Core.Path.{◌≡◌}
-use lib.ListN.{length}
+-- The bytes put so far fit.
+use Rattle.std.proofs.Common.{length, ◌≤◌, ◌≡◌}
 use Rattle.vectors_descriptors.proofs.text.put_line.Given as goal
 
-abbrev pub invariant-loop-i : goal.invariant-loop-i
-invariant-loop-i l =
-    (l.count ≤ length l.bytes) × (length l.bytes ≡ length l.initial.bytes) × (1 ≤ l.i)
-
-abbrev pub decreases-loop-i : goal.decreases-loop-i
-decreases-loop-i l = length l.line - l.i
+abbrev pub invariant-loop-digits : goal.invariant-loop-digits
+invariant-loop-digits l =
+    (goal.iterator-loop-digits).can_next l.digits-iterator ×
+    (goal.iterator-loop-digits).is_finite l.digits-iterator ×
+    (l.count ≤ length l.bytes) ×
+    (length l.bytes ≡ length l.initial.bytes)

@@ -7,7 +7,10 @@ pub show_claim-requires : goal.show_claim-requires
 unfolding check_of
 show_claim-requires c =
     let e = c.claim_check-checked.ensures in
-    (ready_to_show c.args.self c.args.ctx c.args.routes c.args.log c.args.interface c.args.alternate (sym e.check ∙ ap check_of c.in-Words.is), e.words _ _ c.in-Words.is)
+    record {
+      d_value = ready_to_show c.args.self c.args.ctx c.args.routes c.args.log c.args.interface c.args.alternate (sym e.check ∙ ap check_of c.in-Words.is);
+      alternate_value = e.words _ _ c.in-Words.is;
+    }
 
 pub returns-in-Words : goal.returns-in-Words
 unfolding check_of

@@ -1,5 +1,4 @@
 use mathlib.Core.Path.{sym, ◌∙◌}
-use borrow.Author.Tests.{not-true, not-false}
 use Rattle.device.specs.Check.{check_marked}
 use Rattle.device.proofs.Facts.{sound_facts}
 use Rattle.device.proofs.record.Device.check_marked.Goals as goal

@@ -7,7 +7,7 @@ use Rattle.device.proofs.record.Device.claim.Goals as goal
 pub run_claim-requires : goal.run_claim-requires
 unfolding check_of
 run_claim-requires c =
-    let e = c.claim_check-checked.ensures in (sym e.check ∙ ap check_of c.in-Words.is, e.words _ _ c.in-Words.is)
+    let e = c.claim_check-checked.ensures in record { alternate_value = sym e.check ∙ ap check_of c.in-Words.is; alternate_value_2 = e.words _ _ c.in-Words.is }
 
 pub returns-in-Words : goal.returns-in-Words
 unfolding claim check_of

@@ -1,7 +1,5 @@
-use lib.ListN.{length}
 use Rattle.device.specs.Disconnect.{disconnect}
 use Rattle.device.proofs.Exits.{refused_left}
-use Rattle.device.proofs.Disconnected.{UpPassed}
 use Rattle.device.proofs.DisconnectLaws.{disconnect_passed, course_active, disconnect_left}
 use Rattle.device.proofs.record.Device.disconnect.Goals as goal
 
@@ -12,14 +10,14 @@ returns-in-Refuse c =
     c.args.ctx.now c.args.routes.now c.args.log.now)
 
 pub endpoint_map_in-c-requires : goal.endpoint_map_in-c-requires
-endpoint_map_in-c-requires c = ((let it : UpPassed c.args.self (length c.args.ctx.now) (length c.args.routes.now) (length c.args.log.now) = disconnect_passed _ _ _ _ _ c.disconnect_check-check.ensures c.in_default.is in it)).facts.counts.endpoints
+endpoint_map_in-c-requires c = (disconnect_passed _ _ _ _ _ c.disconnect_check-check.ensures c.in_default.is).facts.counts.endpoints
 
 pub disconnect-e-requires : goal.disconnect-e-requires
-disconnect-e-requires c = (c.queues_of-q.ensures.room, ((let it : UpPassed c.args.self (length c.args.ctx.now) (length c.args.routes.now) (length c.args.log.now) = disconnect_passed _ _ _ _ _ c.disconnect_check-check.ensures c.in_default.is in it)).room)
+disconnect-e-requires c = (c.queues_of-q.ensures.room, (disconnect_passed _ _ _ _ _ c.disconnect_check-check.ensures c.in_default.is).room)
 
 pub disconnect_end-requires : goal.disconnect_end-requires
 disconnect_end-requires c = (
-  ((let it : UpPassed c.args.self (length c.args.ctx.now) (length c.args.routes.now) (length c.args.log.now) = disconnect_passed _ _ _ _ _ c.disconnect_check-check.ensures c.in_default.is in it)).is-sound,
+  (disconnect_passed _ _ _ _ _ c.disconnect_check-check.ensures c.in_default.is).is_sound,
   c.endpoint_map_in-c.ensures,
   c.queues_of-q.ensures,
   course_active c.args.self c.endpoint_map_in-c.result c.queues_of-q.result c.disconnect-e.result _ c.args.ctx.now

@@ -1,13 +1,12 @@
-use Prim.Native.Nat.{◌≤◌}
 use mathlib.Core.Path.{◌≡◌, sym}
 use native.Mathlib.Omega.{arith}
 use lib.ListN.{length}
-use lib.Seq.{length-take-le}
 use Rattle.record_settings.specs.Held.{without_setting}
 use Rattle.course_steps.proofs.Laws.{room_as}
 use Rattle.device.specs.Device.{list_of, endpoint_map_in, held_of}
 use Rattle.device.specs.Release.{release_check, release}
-use Rattle.device.proofs.Laws.{Passed, record_passed, refused_first, own_check}
+use Rattle.device.proofs.Laws.{record_passed, refused_first, own_check}
+use Rattle.device.proofs.ClaimLaws.{list_length}
 use Rattle.device.proofs.Exits.{refused_left}
 use Rattle.device.proofs.ReleaseLaws.{release_left}
 use borrow.Author.Rules.{rules}
@@ -21,14 +20,18 @@ returns-in-Refuse c =
     c.args.routes.now c.args.log.now)
 
 pub slice_bounds-list-end : goal.slice_bounds-list-end
-slice_bounds-list-end c = (let it : c.args.self.list_len ≤ length c.args.self.list = omega (arith, (let it : length c.args.self.list ≡ 256 = search rules in it), ((let it : Passed c.args.self (length c.args.ctx.now) (length c.args.routes.now) (length c.args.log.now) = record_passed _ _ _ _ _ c.record_check-check.ensures c.in_default.is in it)).facts.counts.list) in it)
+slice_bounds-list-end c =
+    let f = (record_passed _ _ _ _ _ c.record_check-check.ensures c.in_default.is).facts in
+    let room : length c.args.self.list ≡ 256 = search rules in
+    omega (arith, room, f.counts.list)
 
 pub slice_bounds-words-end : goal.slice_bounds-words-end
+unfolding list_of
 slice_bounds-words-end c =
-    sym (length-take-le c.args.self.list_len c.args.self.list ((let it : c.args.self.list_len ≤ length c.args.self.list = omega (arith, (let it : length c.args.self.list ≡ 256 = search rules in it), ((let it : Passed c.args.self (length c.args.ctx.now) (length c.args.routes.now) (length c.args.log.now) = record_passed _ _ _ _ _ c.record_check-check.ensures c.in_default.is in it)).facts.counts.list) in it)))
+    sym (list_length c.args.self (record_passed _ _ _ _ _ c.record_check-check.ensures c.in_default.is).facts (search rules))
 
 pub held_check-known-requires : goal.held_check-known-requires
-held_check-known-requires c = ((let it : Passed c.args.self (length c.args.ctx.now) (length c.args.routes.now) (length c.args.log.now) = record_passed _ _ _ _ _ c.record_check-check.ensures c.in_default.is in it)).facts.counts.held
+held_check-known-requires c = (record_passed _ _ _ _ _ c.record_check-check.ensures c.in_default.is).facts.counts.held
 
 pub returns-in-Refuse-known : goal.returns-in-Refuse-known
 unfolding release release_check list_of held_of
@@ -39,20 +42,20 @@ returns-in-Refuse-known c =
     c.args.self _ c.args.ctx.now c.args.routes.now c.args.log.now)
 
 pub endpoint_map_in-c-requires : goal.endpoint_map_in-c-requires
-endpoint_map_in-c-requires c = ((let it : Passed c.args.self (length c.args.ctx.now) (length c.args.routes.now) (length c.args.log.now) = record_passed _ _ _ _ _ c.record_check-check.ensures c.in_default.is in it)).facts.counts.endpoints
+endpoint_map_in-c-requires c = (record_passed _ _ _ _ _ c.record_check-check.ensures c.in_default.is).facts.counts.endpoints
 
 pub alternate_of-requires : goal.alternate_of-requires
-alternate_of-requires c = ((let it : Passed c.args.self (length c.args.ctx.now) (length c.args.routes.now) (length c.args.log.now) = record_passed _ _ _ _ _ c.record_check-check.ensures c.in_default.is in it)).facts.counts.held
+alternate_of-requires c = (record_passed _ _ _ _ _ c.record_check-check.ensures c.in_default.is).facts.counts.held
 
 pub release_interface-e-requires : goal.release_interface-e-requires
-release_interface-e-requires c = (
-  room_as c.args.self.spacing _ c.queues_of.result c.queues_of-2.result _ _ ((let it : Passed c.args.self (length c.args.ctx.now) (length c.args.routes.now) (length c.args.log.now) = record_passed _ _ _ _ _ c.record_check-check.ensures c.in_default.is in it)).spaced c.queues_of.ensures
-      c.queues_of-2.ensures,
-  ((let it : Passed c.args.self (length c.args.ctx.now) (length c.args.routes.now) (length c.args.log.now) = record_passed _ _ _ _ _ c.record_check-check.ensures c.in_default.is in it)).room,
-)
+release_interface-e-requires c = record {
+  room = room_as c.args.self.spacing _ c.queues_of.result c.queues_of-2.result _ _ (record_passed _ _ _ _ _ c.record_check-check.ensures c.in_default.is).spaced c.queues_of.ensures
+      c.queues_of-2.ensures;
+  in_bounds = (record_passed _ _ _ _ _ c.record_check-check.ensures c.in_default.is).room;
+}
 
 pub without_setting-held-requires : goal.without_setting-held-requires
-without_setting-held-requires c = ((let it : Passed c.args.self (length c.args.ctx.now) (length c.args.routes.now) (length c.args.log.now) = record_passed _ _ _ _ _ c.record_check-check.ensures c.in_default.is in it)).facts.counts.held
+without_setting-held-requires c = (record_passed _ _ _ _ _ c.record_check-check.ensures c.in_default.is).facts.counts.held
 
 pub returns : goal.returns
 unfolding release_check list_of held_of endpoint_map_in

@@ -1,6 +1,5 @@
 use mathlib.Core.Path.{◌≡◌, sym, ◌∙◌}
 use mathlib.Core.Bool.{true}
-use borrow.Author.Tests.{not-true, not-false}
 use Rattle.device.specs.Device.{list_of, endpoint_map_in, held_of, quarantined_of, given_of}
 use Rattle.device.specs.Sound.{slot_sound, counts_fit, lists_sound, live_rings, rings_sound, store_sound, sound}
 use Rattle.device.proofs.Facts.{count_facts}
@@ -13,23 +12,32 @@ returns-then-not-slot_sound c = rw (← c.slot_sound.ensures, c.if-not-slot_soun
 pub returns-then-not-counts_fit : goal.returns-then-not-counts_fit
 unfolding sound counts_fit slot_sound
 returns-then-not-counts_fit c =
-    rw ((let it : slot_sound c.args.self ≡ true = sym c.slot_sound.ensures ∙ c.if-not-slot_sound.false in it), ← c.counts_fit.ensures, c.if-not-counts_fit.true)
+    let slot : slot_sound c.args.self ≡ true = sym c.slot_sound.ensures ∙ c.if-not-slot_sound.false in
+    rw (slot, ← c.counts_fit.ensures, c.if-not-counts_fit.true)
 
 pub lists_sound-requires : goal.lists_sound-requires
 unfolding counts_fit
-lists_sound-requires c = let f = count_facts c.args.self ((let it : counts_fit c.args.self ≡ true = sym c.counts_fit.ensures ∙ c.if-not-counts_fit.false in it)) in (f.list, f.held, f.endpoints)
+lists_sound-requires c =
+    let f = count_facts c.args.self (sym c.counts_fit.ensures ∙ c.if-not-counts_fit.false) in
+    (f.list, f.held, f.endpoints)
 
 pub returns-then-not-lists_sound : goal.returns-then-not-lists_sound
 unfolding sound lists_sound list_of endpoint_map_in held_of counts_fit slot_sound
 returns-then-not-lists_sound c =
-    rw ((let it : slot_sound c.args.self ≡ true = sym c.slot_sound.ensures ∙ c.if-not-slot_sound.false in it), (let it : counts_fit c.args.self ≡ true = sym c.counts_fit.ensures ∙ c.if-not-counts_fit.false in it), ← c.lists_sound.ensures, c.if-not-lists_sound.true)
+    let slot : slot_sound c.args.self ≡ true = sym c.slot_sound.ensures ∙ c.if-not-slot_sound.false in
+    let counts : counts_fit c.args.self ≡ true = sym c.counts_fit.ensures ∙ c.if-not-counts_fit.false in
+    rw (slot, counts, ← c.lists_sound.ensures, c.if-not-lists_sound.true)
 
 pub rings_sound-requires : goal.rings_sound-requires
 unfolding counts_fit
 rings_sound-requires c =
-    let f = count_facts c.args.self ((let it : counts_fit c.args.self ≡ true = sym c.counts_fit.ensures ∙ c.if-not-counts_fit.false in it)) in (f.endpoints, (f.quarantined, f.given))
+    let f = count_facts c.args.self (sym c.counts_fit.ensures ∙ c.if-not-counts_fit.false) in
+    (f.endpoints, (f.quarantined, f.given))
 
 pub returns : goal.returns
 unfolding sound rings_sound store_sound live_rings quarantined_of given_of lists_sound list_of endpoint_map_in held_of counts_fit slot_sound
 returns c =
-    rw ((let it : slot_sound c.args.self ≡ true = sym c.slot_sound.ensures ∙ c.if-not-slot_sound.false in it), (let it : counts_fit c.args.self ≡ true = sym c.counts_fit.ensures ∙ c.if-not-counts_fit.false in it), (let it : lists_sound c.args.self ≡ true = sym c.lists_sound.ensures ∙ c.if-not-lists_sound.false in it), c.rings_sound.ensures)
+    let slot : slot_sound c.args.self ≡ true = sym c.slot_sound.ensures ∙ c.if-not-slot_sound.false in
+    let counts : counts_fit c.args.self ≡ true = sym c.counts_fit.ensures ∙ c.if-not-counts_fit.false in
+    let lists : lists_sound c.args.self ≡ true = sym c.lists_sound.ensures ∙ c.if-not-lists_sound.false in
+    rw (slot, counts, lists, c.rings_sound.ensures)
