@@ -16,7 +16,7 @@ use Rattle.hub.specs.HubWord.{hub_info, hub_at}
 use Rattle.hub.specs.Chain.{chain_from, chain_ok}
 use Rattle.hub.specs.Route.{ports, route_of_ports, route_string}
 use Rattle.hub.specs.Translator.{no_translator, nearest_high, translator_of}
-use Rattle.hub.specs.Sockets.{route_below}
+use Rattle.hub.proofs.Sockets.{route_below}
 use Rattle.hub.specs.ThinkTime.{think_time}
 
 -- The depth plus one of a hub word has three bits.

@@ -81,7 +81,7 @@ EachEnd P (sends c ctx k) = (s : Sent) → EachEnd P (k s)
 each_result : {A : Type 0} (P : A → Type 0) (o : List ℕ) (n : ℕ) (c : Course A) → EachEnd P c → P (result o n c)
 unfolding EachEnd result
 each_result P o n (ends a) e = e
-each_result P o n (sends c ctx k) e = each_result P o _ (k (outcome_at o n)) (e (outcome_at o n))
+each_result P o n (sends c ctx k) e = each_result P o (n + 1) (k (outcome_at o n)) (e (outcome_at o n))
 
 each_then : {A B : Type 0} (P : B → Type 0) (c : Course A) (f : A → Course B) → ((a : A) → EachEnd P (f a)) → EachEnd P (then c f)
 unfolding EachEnd then
