@@ -1,5 +1,5 @@
 -- The fields of an input context by the names of xHCI 1.2, section 6.2: doubleword, low bit, width.
-use Rattle.std.specs.Prelude.{ℕ, Bool, true, ◌&&◌, List, [], ◌∷◌, ◌≡◌, refl}
+use Rattle.std.specs.Prelude.{ℕ, Bool, true, ◌&&◌, List, [], ◌∷◌}
 use Rattle.context_field.specs.declared.Field.{Field}
 use Rattle.context_field.specs.Field.{apart}
 
@@ -129,8 +129,3 @@ apart_from_all f (g ∷ gs) = apart f g && apart_from_all f gs
 unfoldable pub pairwise_apart : List Field → Bool
 pairwise_apart [] = true
 pairwise_apart (f ∷ fs) = apart_from_all f fs && pairwise_apart fs
-
--- No two fields of one context overlap.
-pub no_overlap : (pairwise_apart fields_of_control && (pairwise_apart fields_of_slot && pairwise_apart fields_of_endpoint)) ≡ true
-unfolding apart pairwise_apart apart_from_all
-no_overlap = refl

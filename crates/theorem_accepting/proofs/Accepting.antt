@@ -42,7 +42,7 @@ use Rattle.device.proofs.Kept.{claim_passed, set_value}
 use Rattle.device.proofs.Laws.{passed}
 use Rattle.theorem_accepting.specs.Accepting.{Ready, Enough, Accepted, ClaimAccepted, ReleaseAccepted, ReleaseBack, SetAccepted, SetAgain, HubAccepted}
 use Rattle.theorem_accepting.proofs.Back.{same_words_lem, setting_back, map_back, free_ring}
-use Rattle.theorem_accepting.proofs.Runs.{Ran, done_at, offer_nonzero, offer_places, claim_ran, release_ran, set_end, set_end, set_ran}
+use Rattle.theorem_accepting.proofs.Runs.{Ran, done_at, offer_nonzero, offer_places, claim_ran, release_ran, set_end, set_ends, set_ran}
 
 -- What a call that ran gives.
 accepted :
@@ -179,7 +179,7 @@ set_device :
     (d : Device) (ctx routes log o : List ℕ) (value : ℕ) (g : Ready d ctx routes log o Pass) →
     (set_configuration d ctx routes log o value).device ≡ set_record d value (set_end d ctx routes log o value g)
 unfolding set_configuration on_check ended played
-set_device d ctx routes log o value g = rw (g.passes, set_end d ctx routes log o value g)
+set_device d ctx routes log o value g = rw (g.passes, set_ends d ctx routes log o value g)
 
 pub set_accepts : SetAccepted
 unfolding no_endpoints set_end

@@ -177,9 +177,9 @@ module _ (d : Device) (ctx routes log o : List ℕ) (value : ℕ) (g : Ready d c
       let a = settings_in d value in
       settings_moved answer.Accepted (value_context a (drop_context a ctx)) (with_replaced routes d.slot.0 (queues_of (endpoint_map_in d).rings) [])
 
-  pub set_end : result o 0 (set_course (settings_in d value) ctx routes) ≡ set_end
+  pub set_ends : result o 0 (set_course (settings_in d value) ctx routes) ≡ set_end
   unfolding settings_in set_end
-  set_end =
+  set_ends =
       let p = (passed d (length ctx) (length routes) (length log) Pass g.passes).0 in
       let t = bare_routed routes d.slot.0 (endpoint_map_in d) g.routed (in_table d _ _ _ routes p refl) in
       set_accepted (settings_in d value) routes o ctx 0
@@ -194,6 +194,6 @@ module _ (d : Device) (ctx routes log o : List ℕ) (value : ℕ) (g : Ready d c
       let a = settings_in d value in
       ran d routes [] no_endpoints (endpoint_map_in d).rings (replicate 30 0) (set_record d value) _ o log
       (value_context a (drop_context a ctx)) (set_course a ctx routes) _ g.passes
-      (rw no_queues set_end)
+      (rw no_queues set_ends)
       (set_moves d _ _ _ value g.passes _ refl)
       (rw no_queues t.routed)
