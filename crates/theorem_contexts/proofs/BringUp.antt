@@ -24,7 +24,7 @@ use Rattle.context.specs.Promises.{ConfigurationReads, ConfigureReads}
 use Rattle.course_set_configuration.specs.SetConfiguration.{drop_context, restore_context, value_context}
 use Rattle.course_init.specs.Reading.{BringUp, control_ring, nothing_read, Brought, brought}
 use Rattle.course_init.specs.Init.{HeaderRead, bring_up_address}
-use Rattle.course_init.proofs.Contexts.{addressed, sized, settings, cut_here, bring_up_at_address, bring_up_at_packet, bring_up_at_configure, bring_up_at_restore, bring_up_at_evaluate, bring_up_address_reads, bring_up_packet_reads, bring_up_configure_reads, bring_up_restore_reads, bring_up_evaluate_reads}
+use Rattle.course_init.proofs.Contexts.{addressed, sized, settings, ended_here, bring_up_at_address, bring_up_at_packet, bring_up_at_configure, bring_up_at_restore, bring_up_at_evaluate, bring_up_address_reads, bring_up_packet_reads, bring_up_configure_reads, bring_up_restore_reads, bring_up_evaluate_reads}
 use Rattle.device.specs.Calls.{on_check}
 use Rattle.context.specs.Place.{spacing_of}
 use Rattle.device_bring_up.specs.BringUp.{queue_check, bring_up_check, bring_up_course, brought_left, bring_up}
@@ -94,13 +94,13 @@ module _ (a : BringUp) (ctx routes log : List ℕ) (pass : bring_up_check a (len
       n : ℕ
       n = configurations a.list
 
-      three_cut : CutHere (done_times (5 + n)) (bring_up_address a s ctx table) (5 + n) command.Configure (cut_here a s ctx table dropped)
+      three_cut : CutHere (done_times (5 + n)) (bring_up_address a s ctx table) (5 + n) command.Configure (ended_here a s ctx table dropped)
       unfolding n dropped
       three_cut = bring_up_at_configure a s ctx table (done_times (5 + n)) e some (λ k l m. dones_before (5 + n) k (omega arith)) (dones_past (5 + n))
 
       restore_cut : (code : ℕ) → (code ≡ 0 → ⊥) →
           CutHere (failed_after (6 + n) code) (bring_up_address a s ctx table) (7 + n) command.Configure
-          (cut_here a s ctx table (restore_context (settings a s ctx table) dropped))
+          (ended_here a s ctx table (restore_context (settings a s ctx table) dropped))
       unfolding n dropped
       restore_cut code z =
           bring_up_at_restore a s ctx table (failed_after (6 + n) code) e some code (λ k l m. fails_before (6 + n) code k (omega arith))
@@ -108,7 +108,7 @@ module _ (a : BringUp) (ctx routes log : List ℕ) (pass : bring_up_check a (len
           (let m : 6 + n + 1 ≡ 7 + n = omega arith in rw m at (fails_past (6 + n) code))
 
       evaluate_cut : CutHere (done_times (7 + n)) (bring_up_address a s ctx table) (7 + n) command.Evaluate
-          (cut_here a s ctx table (value_context (settings a s ctx table) dropped))
+          (ended_here a s ctx table (value_context (settings a s ctx table) dropped))
       unfolding n dropped
       evaluate_cut = bring_up_at_evaluate a s ctx table (done_times (7 + n)) e some (λ k l m. dones_before (7 + n) k (omega arith)) (dones_past (7 + n))
 
@@ -117,12 +117,12 @@ module _ (a : BringUp) (ctx routes log : List ℕ) (pass : bring_up_check a (len
       two_context = left_context a ctx routes log (done_times 2) pass 2 _ _ two_cut
 
       three_context : (bring_up a ctx routes log (done_times (5 + n))).ctx ≡ dropped
-      unfolding s table cut_here
+      unfolding s table ended_here
       three_context = left_context a ctx routes log (done_times (5 + n)) pass (5 + n) _ _ three_cut
 
       configure : SentAt (5 + n) command.Configure (ConfigureReads s a.speed 0 0 [] [] [] [] (bring_up a ctx routes log (done_times 2)).ctx)
           (bring_up a ctx routes log (done_times (5 + n)))
-      unfolding s table dropped n cut_here
+      unfolding s table dropped n ended_here
       configure =
           left_at a ctx routes log (done_times (5 + n)) pass (5 + n) _ _ three_cut _ (omega (arith, few))
           (rw two_context (bring_up_configure_reads a s ctx table facts.spaced))
@@ -130,7 +130,7 @@ module _ (a : BringUp) (ctx routes log : List ℕ) (pass : bring_up_check a (len
       restore : (code : ℕ) → (code ≡ 0 → ⊥) →
           SentAt (5 + n + 2) command.Configure (ConfigureReads s a.speed 0 0 [] [] [] [] (bring_up a ctx routes log (done_times (5 + n))).ctx)
           (bring_up a ctx routes log (failed_after (5 + n + 1) code))
-      unfolding s table n cut_here dropped
+      unfolding s table n ended_here dropped
       restore code z =
           let one : 5 + n + 1 ≡ 6 + n = omega arith in
           let two : 5 + n + 2 ≡ 7 + n = omega arith in
@@ -140,7 +140,7 @@ module _ (a : BringUp) (ctx routes log : List ℕ) (pass : bring_up_check a (len
       evaluate : SentAt (5 + n + 2) command.Evaluate
           (ConfigurationReads s (configuration_value (get_or a.list 0 0)) (bring_up a ctx routes log (done_times (5 + n))).ctx)
           (bring_up a ctx routes log (done_times (5 + n + 2)))
-      unfolding s table n cut_here dropped
+      unfolding s table n ended_here dropped
       evaluate =
           let two : 5 + n + 2 ≡ 7 + n = omega arith in
           rw (two, three_context)
