@@ -1,6 +1,5 @@
 use mathlib.Core.Path.{sym, ◌∙◌}
 use borrow.Author.Rules.{rules}
-use mathlib.Core.Bool.{true, false}
 use borrow.Author.Tests.{eq-eqb, ne_eqb}
 use Rattle.record_settings.proofs.Steps.{free_next, free_skip, free_none}
 use Rattle.record_settings.proofs.matching.validate_endpoint_addresses.Goals as goal
