@@ -2,7 +2,6 @@ use Rattle.device.specs.Ask.{asking}
 use Rattle.xhci_device.proofs.Steps.{commit_keeps, cross}
 use Rattle.xhci_device.proofs.ask.xhci_device_commit.Goals as goal
 
--- src/ask.rt:70:1
 pub returns : goal.returns
 returns c =
     rw (← c.decode-d.ensures)
