@@ -5,6 +5,7 @@ use mathlib.Core.Bool.{Bool, true, false, cond}
 use mathlib.Core.List.{List, [], ◌∷◌}
 use native.Mathlib.Omega.{arith}
 use borrow.Author.Tests.{eqb-true, le-leb, lt-leb}
+use Rattle.std.proofs.Common.{lit<}
 use lib.Dec.{eqb}
 use lib.ListN.{get_or}
 use Rattle.laws.proofs.Computed.{all, all_below}
@@ -25,15 +26,15 @@ pub table_right : (operation : ℕ) → operation < 13 → get_or table operatio
 unfolding right
 table_right operation h = eqb-true (get_or table operation 0) (lowest_bit operation) (all_below right 13 all_right operation h)
 
+positive : (b c : Bool) {x y z : ℕ} → 0 < x → 0 < y → 0 < z → 0 < cond b x (cond c y z)
+positive true c p q r = p
+positive false true p q r = q
+positive false false p q r = r
+
 -- no operation's is 0
 pub lowest_some : (operation : ℕ) → 0 < lowest_bit operation
 unfolding lowest_bit
-lowest_some operation = go (has_one operation) (has_two operation)
-  where
-    go : (b c : Bool) → 0 < cond b (2 ^ 20) (cond c (2 ^ 12) (2 ^ 28))
-    go true c = omega arith
-    go false true = omega arith
-    go false false = omega arith
+lowest_some operation = positive (has_one operation) (has_two operation) (lit< tt) (lit< tt) (lit< tt)
 
 pub table_some : (operation : ℕ) → operation < 13 → 0 < get_or table operation 0
 table_some operation h = rw (table_right operation h) (lowest_some operation)
