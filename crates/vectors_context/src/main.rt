@@ -9,7 +9,7 @@ use std::io;
 
 fn narrow(rt: &impl Print) -> io::Result<()> {
     let mut ctx = [0x5au8; 1056];
-    show::text(rt, "spacing 32, over bytes of 0x5a\n")?;
+    show::text(rt, b"spacing 32, over bytes of 0x5a\n")?;
     steps::header(rt, &mut ctx, 32)?;
     steps::claim_two(rt, &mut ctx, 32)?;
     steps::configuration(rt, &mut ctx, 32)?;
@@ -19,7 +19,7 @@ fn narrow(rt: &impl Print) -> io::Result<()> {
 
 fn narrow_address(rt: &impl Print) -> io::Result<()> {
     let mut ctx = [0x5au8; 1056];
-    show::text(rt, "spacing 32, after Address\n")?;
+    show::text(rt, b"spacing 32, after Address\n")?;
     steps::address(rt, &mut ctx, 32)?;
     steps::claim_one(rt, &mut ctx, 32)?;
     view::claimed(rt, &ctx, 32, 64)
@@ -27,7 +27,7 @@ fn narrow_address(rt: &impl Print) -> io::Result<()> {
 
 fn wide(rt: &impl Print) -> io::Result<()> {
     let mut ctx = [0x5au8; 2112];
-    show::text(rt, "spacing 64, over bytes of 0x5a\n")?;
+    show::text(rt, b"spacing 64, over bytes of 0x5a\n")?;
     steps::header(rt, &mut ctx, 64)?;
     steps::claim_two(rt, &mut ctx, 64)?;
     steps::configuration(rt, &mut ctx, 64)?;
@@ -37,7 +37,7 @@ fn wide(rt: &impl Print) -> io::Result<()> {
 
 fn wide_address(rt: &impl Print) -> io::Result<()> {
     let mut ctx = [0x5au8; 2112];
-    show::text(rt, "spacing 64, after Address\n")?;
+    show::text(rt, b"spacing 64, after Address\n")?;
     steps::address(rt, &mut ctx, 64)?;
     steps::claim_one(rt, &mut ctx, 64)?;
     view::claimed(rt, &ctx, 64, 32)

@@ -1,8 +1,8 @@
 // Blocks of a context on standard output.
 use std::io;
 
-pub fn text(rt: &impl Print, s: &str) -> io::Result<()> {
-    rt.print(s)
+pub fn text(rt: &impl Print, s: &[u8]) -> io::Result<()> {
+    rt.write_all(s)
 }
 
 pub fn number(rt: &impl Print, x: u64) -> io::Result<()> {
@@ -28,8 +28,8 @@ fn doubleword(rt: &impl Print, ctx: &[u8], at: u16) -> io::Result<()> {
 }
 
 // The eight doublewords of block number b, and after them the next one where blocks are 64 bytes apart.
-pub fn block(rt: &impl Print, label: &str, ctx: &[u8], spacing: usize, b: u8) -> io::Result<()> {
-    rt.print(label)?;
+pub fn block(rt: &impl Print, label: &[u8], ctx: &[u8], spacing: usize, b: u8) -> io::Result<()> {
+    rt.write_all(label)?;
     if spacing == 64 {
         let at = (b as u16) * 64;
         block_at(rt, ctx, at)?;

@@ -22,19 +22,19 @@ const MAX_PACKET_SIZE: Field = Field {
     width: 16,
 };
 
-fn reading(rt: &impl Print, label: &str, r: Reading) -> io::Result<()> {
+fn reading(rt: &impl Print, label: &[u8], r: Reading) -> io::Result<()> {
     show::text(rt, label)?;
     match r {
         Reading::Value(v) => show::number(rt, v)?,
-        Reading::NoContext => show::text(rt, " no context")?,
-        Reading::NoField => show::text(rt, " no field")?,
+        Reading::NoContext => show::text(rt, b" no context")?,
+        Reading::NoField => show::text(rt, b" no field")?,
     }
-    show::text(rt, "\n")
+    show::text(rt, b"\n")
 }
 
 fn field_of(
     rt: &impl Print,
-    label: &str,
+    label: &[u8],
     ctx: &[u8],
     spacing: usize,
     block: usize,
@@ -46,17 +46,17 @@ fn field_of(
 
 // After a claim of Dci 3; `other` is not the context's spacing.
 pub fn claimed(rt: &impl Print, ctx: &[u8], spacing: usize, other: usize) -> io::Result<()> {
-    show::text(rt, "read back\n")?;
-    field_of(rt, "route string:", ctx, spacing, 1, ROUTE_STRING)?;
-    field_of(rt, "context entries:", ctx, spacing, 1, CONTEXT_ENTRIES)?;
+    show::text(rt, b"read back\n")?;
+    field_of(rt, b"route string:", ctx, spacing, 1, ROUTE_STRING)?;
+    field_of(rt, b"context entries:", ctx, spacing, 1, CONTEXT_ENTRIES)?;
     field_of(
         rt,
-        "Dci 3, max packet size:",
+        b"Dci 3, max packet size:",
         ctx,
         spacing,
         4,
         MAX_PACKET_SIZE,
     )?;
-    field_of(rt, "block 33:", ctx, spacing, 33, MAX_PACKET_SIZE)?;
-    field_of(rt, "at the other spacing:", ctx, other, 1, CONTEXT_ENTRIES)
+    field_of(rt, b"block 33:", ctx, spacing, 33, MAX_PACKET_SIZE)?;
+    field_of(rt, b"at the other spacing:", ctx, other, 1, CONTEXT_ENTRIES)
 }

@@ -14,7 +14,7 @@ fn header_size(rt: &impl Print, speed: u8, byte: u8) -> io::Result<()> {
     if def::exponent_ok(speed, byte) {
         out::number(rt, def::header_packet_size(speed, byte) as u64)?;
     } else {
-        out::text(rt, " none")?;
+        out::text(rt, b" none")?;
     }
     Ok(())
 }
@@ -29,7 +29,7 @@ fn header_sizes(rt: &impl Print, speed: u8) -> io::Result<()> {
 }
 
 pub fn packet_sizes(rt: &impl Print) -> io::Result<()> {
-    out::text(rt, "first packet sizes at speeds 0 to 6:")?;
+    out::text(rt, b"first packet sizes at speeds 0 to 6:")?;
     first_size(rt, 0)?;
     first_size(rt, def::FULL)?;
     first_size(rt, def::LOW)?;
@@ -38,17 +38,17 @@ pub fn packet_sizes(rt: &impl Print) -> io::Result<()> {
     first_size(rt, def::SUPER_PLUS)?;
     first_size(rt, 6)?;
     out::end(rt)?;
-    out::text(rt, "speeds 0, 1, 5 and 6 are known:")?;
+    out::text(rt, b"speeds 0, 1, 5 and 6 are known:")?;
     out::truth(rt, def::speed_known(0))?;
     out::truth(rt, def::speed_known(1))?;
     out::truth(rt, def::speed_known(5))?;
     out::truth(rt, def::speed_known(6))?;
     out::end(rt)?;
-    out::text(rt, "packet sizes of header bytes 0, 8, 9, 64, 255:")?;
+    out::text(rt, b"packet sizes of header bytes 0, 8, 9, 64, 255:")?;
     header_sizes(rt, def::HIGH)?;
-    out::text(rt, "  at SuperSpeed:")?;
+    out::text(rt, b"  at SuperSpeed:")?;
     header_sizes(rt, def::SUPER)?;
-    out::text(rt, "  at SuperSpeedPlus:")?;
+    out::text(rt, b"  at SuperSpeedPlus:")?;
     header_sizes(rt, def::SUPER_PLUS)
 }
 
@@ -71,18 +71,18 @@ fn interval_line(rt: &impl Print, t: TransferType, speed: u8) -> io::Result<()> 
 }
 
 fn intervals_at(rt: &impl Print, speed: u8) -> io::Result<()> {
-    out::text(rt, "speed")?;
+    out::text(rt, b"speed")?;
     out::number(rt, speed as u64)?;
-    out::text(rt, ", interrupt:")?;
+    out::text(rt, b", interrupt:")?;
     interval_line(rt, TransferType::Interrupt, speed)?;
-    out::text(rt, "  isochronous:")?;
+    out::text(rt, b"  isochronous:")?;
     interval_line(rt, TransferType::Isochronous, speed)?;
-    out::text(rt, "  bulk:")?;
+    out::text(rt, b"  bulk:")?;
     interval_line(rt, TransferType::Bulk, speed)
 }
 
 pub fn intervals(rt: &impl Print) -> io::Result<()> {
-    out::text(rt, "intervals of bytes 0, 1, 2, 3, 16, 17, 255\n")?;
+    out::text(rt, b"intervals of bytes 0, 1, 2, 3, 16, 17, 255\n")?;
     intervals_at(rt, def::FULL)?;
     intervals_at(rt, def::LOW)?;
     intervals_at(rt, def::HIGH)?;
@@ -96,7 +96,7 @@ fn endpoint_line(rt: &impl Print, w: u32, speed: u8) -> io::Result<()> {
     let t = e.transfer_type;
     let dci = descriptor::endpoint_address_dci(e.address);
     let burst = descriptor_periodic::periodic_burst_size(t, e.packets_per_microframe, speed);
-    out::text(rt, "endpoint:")?;
+    out::text(rt, b"endpoint:")?;
     out::hex(rt, e.address as u64)?;
     out::number(rt, dci.0 as u64)?;
     out::number(rt, descriptor_periodic::endpoint_type(t, e.address) as u64)?;
@@ -116,7 +116,7 @@ fn endpoint_line(rt: &impl Print, w: u32, speed: u8) -> io::Result<()> {
 pub fn endpoints(rt: &impl Print) -> io::Result<()> {
     out::text(
         rt,
-        "address, Dci, EP type, interval, packet size, burst, payload\n",
+        b"address, Dci, EP type, interval, packet size, burst, payload\n",
     )?;
     endpoint_line(rt, super::list::endpoint(1, 1, 3, 64, 1, 4), def::HIGH)?;
     endpoint_line(rt, super::list::endpoint(1, 1, 3, 64, 0, 4), def::HIGH)?;
@@ -125,7 +125,7 @@ pub fn endpoints(rt: &impl Print) -> io::Result<()> {
     endpoint_line(rt, super::list::endpoint(1, 2, 2, 512, 3, 0), def::HIGH)?;
     endpoint_line(rt, super::list::endpoint(0, 15, 2, 512, 0, 0), def::HIGH)?;
     endpoint_line(rt, super::list::endpoint(1, 14, 3, 8, 0, 10), def::LOW)?;
-    out::text(rt, "Dcis of addresses 0x01, 0x81, 0x0f, 0x8f:")?;
+    out::text(rt, b"Dcis of addresses 0x01, 0x81, 0x0f, 0x8f:")?;
     out::number(rt, descriptor::endpoint_address_dci(0x01).0 as u64)?;
     out::number(rt, descriptor::endpoint_address_dci(0x81).0 as u64)?;
     out::number(rt, descriptor::endpoint_address_dci(0x0f).0 as u64)?;

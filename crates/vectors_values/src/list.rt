@@ -26,28 +26,28 @@ pub fn endpoint(input: u32, number: u32, kind: u32, size: u32, packets: u32, int
 }
 
 // Whether a list is valid, after its description.
-fn case(rt: &impl Print, label: &str, list: &[u32]) -> io::Result<()> {
+fn case(rt: &impl Print, label: &[u8], list: &[u32]) -> io::Result<()> {
     out::text(rt, label)?;
     out::truth(rt, descriptor_list::valid_list(list))?;
     out::end(rt)
 }
 
 pub fn valid(rt: &impl Print) -> io::Result<()> {
-    case(rt, "empty list:", &[0u32; 0])?;
+    case(rt, b"empty list:", &[0u32; 0])?;
     case(
         rt,
-        "a configuration, an alternate, an endpoint:",
+        b"a configuration, an alternate, an endpoint:",
         &[CONFIGURATION, ALTERNATE, BULK],
     )?;
-    case(rt, "a configuration alone:", &[CONFIGURATION])?;
+    case(rt, b"a configuration alone:", &[CONFIGURATION])?;
     case(
         rt,
-        "one address twice in an alternate:",
+        b"one address twice in an alternate:",
         &[CONFIGURATION, ALTERNATE, BULK, BULK],
     )?;
     case(
         rt,
-        "one alternate twice:",
+        b"one alternate twice:",
         &[CONFIGURATION, ALTERNATE, ALTERNATE],
     )
 }
@@ -58,44 +58,44 @@ pub fn refused(rt: &impl Print) -> io::Result<()> {
 }
 
 fn refused_endpoints(rt: &impl Print) -> io::Result<()> {
-    case(rt, "begins with an alternate:", &[ALTERNATE])?;
+    case(rt, b"begins with an alternate:", &[ALTERNATE])?;
     case(
         rt,
-        "endpoint after a configuration:",
+        b"endpoint after a configuration:",
         &[CONFIGURATION, ALTERNATE, CONFIGURATION, BULK],
     )?;
     case(
         rt,
-        "number 0:",
+        b"number 0:",
         &[CONFIGURATION, ALTERNATE, endpoint(0, 0, 2, 64, 0, 0)],
     )?;
     case(
         rt,
-        "type 0:",
+        b"type 0:",
         &[CONFIGURATION, ALTERNATE, endpoint(0, 1, 0, 64, 0, 0)],
     )?;
     case(
         rt,
-        "IN 15:",
+        b"IN 15:",
         &[CONFIGURATION, ALTERNATE, endpoint(1, 15, 2, 64, 0, 0)],
     )
 }
 
 fn refused_words(rt: &impl Print) -> io::Result<()> {
-    case(rt, "kind 3:", &[CONFIGURATION, 0xc000_0000])?;
+    case(rt, b"kind 3:", &[CONFIGURATION, 0xc000_0000])?;
     case(
         rt,
-        "unused bit of a configuration:",
+        b"unused bit of a configuration:",
         &[CONFIGURATION + 0x20_0000],
     )?;
     case(
         rt,
-        "unused bit of an alternate:",
+        b"unused bit of an alternate:",
         &[CONFIGURATION, ALTERNATE + 0x2000],
     )?;
     case(
         rt,
-        "unused bit of an endpoint:",
+        b"unused bit of an endpoint:",
         &[CONFIGURATION, ALTERNATE, BULK + 2],
     )
 }
@@ -148,31 +148,31 @@ pub fn limits(rt: &impl Print) -> io::Result<()> {
 fn word_limit(rt: &impl Print) -> io::Result<()> {
     let mut words = [ALTERNATE; 257];
     words[0] = CONFIGURATION;
-    case(rt, "256 words:", &words[0..256])?;
-    case(rt, "257 words:", &words)
+    case(rt, b"256 words:", &words[0..256])?;
+    case(rt, b"257 words:", &words)
 }
 
 fn configuration_limit(rt: &impl Print) -> io::Result<()> {
     let configurations = [CONFIGURATION; 9];
-    case(rt, "8 configurations:", &configurations[0..8])?;
-    case(rt, "9 configurations:", &configurations)
+    case(rt, b"8 configurations:", &configurations[0..8])?;
+    case(rt, b"9 configurations:", &configurations)
 }
 
 fn endpoint_limit(rt: &impl Print) -> io::Result<()> {
     let mut run = [BULK; 33];
     run[0] = CONFIGURATION;
     run[1] = ALTERNATE;
-    case(rt, "30 endpoints in an alternate:", &run[0..32])?;
-    case(rt, "31 endpoints in an alternate:", &run)
+    case(rt, b"30 endpoints in an alternate:", &run[0..32])?;
+    case(rt, b"31 endpoints in an alternate:", &run)
 }
 
 fn interface_limit(rt: &impl Print) -> io::Result<()> {
     let interfaces = INTERFACES;
-    case(rt, "32 interfaces:", &interfaces[0..33])?;
-    case(rt, "33 interfaces:", &interfaces)
+    case(rt, b"32 interfaces:", &interfaces[0..33])?;
+    case(rt, b"33 interfaces:", &interfaces)
 }
 
-fn find(rt: &impl Print, label: &str, list: &[u32], interface: u8, setting: u8) -> io::Result<()> {
+fn find(rt: &impl Print, label: &[u8], list: &[u32], interface: u8, setting: u8) -> io::Result<()> {
     out::text(rt, label)?;
     let found = descriptor_list::find_interface_endpoints(list, interface, setting);
     match found {
@@ -181,7 +181,7 @@ fn find(rt: &impl Print, label: &str, list: &[u32], interface: u8, setting: u8) 
             out::number(rt, count as u64)?;
         }
         Found::NotFound => {
-            out::text(rt, " not found")?;
+            out::text(rt, b" not found")?;
         }
     }
     out::end(rt)
@@ -199,20 +199,20 @@ pub fn lookup(rt: &impl Print) -> io::Result<()> {
         alternate(0, 1),
         alternate(7, 0),
     ];
-    find(rt, "interface 0, alternate 0:", &list, 0, 0)?;
+    find(rt, b"interface 0, alternate 0:", &list, 0, 0)?;
     find(
         rt,
-        "interface 0, alternate 1, the first of two:",
+        b"interface 0, alternate 1, the first of two:",
         &list,
         0,
         1,
     )?;
     find(
         rt,
-        "interface 7, alternate 0, of another configuration:",
+        b"interface 7, alternate 0, of another configuration:",
         &list,
         7,
         0,
     )?;
-    find(rt, "interface 7, alternate 1:", &list, 7, 1)
+    find(rt, b"interface 7, alternate 1:", &list, 7, 1)
 }

@@ -15,30 +15,30 @@ fn slot_words(rt: &impl Print, routes: [u64; 64]) -> io::Result<()> {
 
 fn registered(rt: &impl Print, r: Registered) -> io::Result<()> {
     match r {
-        Registered::Done => out::text(rt, " done;")?,
-        Registered::QueueFull => out::text(rt, " queue full;")?,
+        Registered::Done => out::text(rt, b" done;")?,
+        Registered::QueueFull => out::text(rt, b" queue full;")?,
     }
     Ok(())
 }
 
 fn replaced(rt: &impl Print, r: Replaced) -> io::Result<()> {
     match r {
-        Replaced::Done => out::text(rt, " done;")?,
-        Replaced::InvalidEndpoint => out::text(rt, " invalid endpoint;")?,
-        Replaced::QueueFull => out::text(rt, " queue full;")?,
+        Replaced::Done => out::text(rt, b" done;")?,
+        Replaced::InvalidEndpoint => out::text(rt, b" invalid endpoint;")?,
+        Replaced::QueueFull => out::text(rt, b" queue full;")?,
     }
     Ok(())
 }
 
 pub fn table(rt: &impl Print) -> io::Result<()> {
     let mut routes = [0u64; 64];
-    out::text(rt, "register Dci 1:")?;
+    out::text(rt, b"register Dci 1:")?;
     registered(
         rt,
         transfer::register_queue(&mut routes, SlotId(1), Dci::CTRL, 0x1000),
     )?;
     slot_words(rt, routes)?;
-    out::text(rt, "register Dci 1 again:")?;
+    out::text(rt, b"register Dci 1 again:")?;
     registered(
         rt,
         transfer::register_queue(&mut routes, SlotId(1), Dci::CTRL, 0x2000),
@@ -49,7 +49,7 @@ pub fn table(rt: &impl Print) -> io::Result<()> {
 // Replaces two endpoints by two others in a table where Dcis 1 to 3 are taken.
 fn replace(
     rt: &impl Print,
-    label: &str,
+    label: &[u8],
     old: [u8; 2],
     old_rings: [u64; 2],
     new: [u8; 2],
@@ -70,7 +70,7 @@ fn replace(
 pub fn replacements(rt: &impl Print) -> io::Result<()> {
     replace(
         rt,
-        "3 and 4 for 2 and 3:",
+        b"3 and 4 for 2 and 3:",
         [2, 3],
         [0x20, 0x30],
         [3, 4],
@@ -78,7 +78,7 @@ pub fn replacements(rt: &impl Print) -> io::Result<()> {
     )?;
     replace(
         rt,
-        "an old ring that is not there:",
+        b"an old ring that is not there:",
         [2, 3],
         [0x20, 0x40],
         [3, 4],
@@ -86,7 +86,7 @@ pub fn replacements(rt: &impl Print) -> io::Result<()> {
     )?;
     replace(
         rt,
-        "a new Dci that is taken:",
+        b"a new Dci that is taken:",
         [2, 2],
         [0x20, 0x20],
         [3, 4],
@@ -94,7 +94,7 @@ pub fn replacements(rt: &impl Print) -> io::Result<()> {
     )?;
     replace(
         rt,
-        "a new Dci that has its ring already:",
+        b"a new Dci that has its ring already:",
         [2, 2],
         [0x20, 0x20],
         [3, 4],
