@@ -3,8 +3,10 @@
 
 ghost use Rattle.std.specs.Prelude.{◌≡◌};
 ghost use Rattle.answer.specs.Answer.{number, code_of};
+ghost use Rattle.answer.specs.Answered.{answered_of};
 
-#[derive(Clone, Copy)]
+// No Result: 01 numbers the acceptance among the answers, as 0.
+#[derive(Clone, Copy, PartialEq, Eq)]
 pub enum Answer {
     Accepted,
     ContextLength,
@@ -30,14 +32,7 @@ pub enum Answer {
     OutdatedAsk,
 }
 
-// Whether a call may go on, or its refusal.
-#[derive(Clone, Copy)]
-pub enum Check {
-    Pass,
-    Refuse(Answer),
-}
-
-// The documents' number of an answer.
+// The documents' number of an answer. Not a `From`: an answer has two numbers, this one and its code.
 #[tactic(auto, unfolding(crate::specs::Answer::number))]
 pub fn answer_number(a: Answer) -> u8
     ensures { result ≡ number a }
@@ -69,11 +64,32 @@ pub fn answer_number(a: Answer) -> u8
 }
 
 // The code of a failed command, 0 of every other answer.
+#[tactic(auto, unfolding(crate::specs::Answer::code_of))]
 pub fn answer_code(a: Answer) -> u8
     ensures { result ≡ code_of a }
 {
     match a {
         Answer::Failed(code) => code,
         _ => 0,
+    }
+}
+
+// What a call returns to C: the answer's number, the code of 13, and how many words were logged.
+#[repr(C)]
+#[derive(Clone, Copy)]
+pub struct Answered {
+    pub answer: u32,
+    pub code: u32,
+    pub count: usize,
+}
+
+#[tactic(auto, unfolding(crate::specs::Answered::answered_of))]
+pub fn answered_of(a: Answer, count: usize) -> Answered
+    ensures { result ≡ answered_of a count }
+{
+    Answered {
+        answer: u32::from(answer_number(a)),
+        code: u32::from(answer_code(a)),
+        count,
     }
 }

@@ -16,15 +16,15 @@ use Rattle.command.specs.Course.{Course, ends, sends, on_sent, then, words, resu
 
 -- done is not cut
 pub done_cut : {P : Type 0} → Done ≡ Cut → P
-done_cut e = let z : ◌≡◌ {A = ℕ} 0 1 = cc in absurd (omega arith)
+done_cut e = absurd cc
 
 -- failed is not cut
 pub failed_cut : {P : Type 0} {code : ℕ} → Failed code ≡ Cut → P
-failed_cut e = let z : ◌≡◌ {A = ℕ} 0 1 = cc in absurd (omega arith)
+failed_cut e = absurd cc
 
 -- failed is not done
 pub failed_done : {P : Type 0} {code : ℕ} → Failed code ≡ Done → P
-failed_done e = let z : ◌≡◌ {A = ℕ} 0 1 = cc in absurd (omega arith)
+failed_done e = absurd cc
 
 module _ (o : List ℕ) (k : ℕ) where
   -- past the last outcome a command is cut

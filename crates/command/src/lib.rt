@@ -26,8 +26,9 @@ pub enum Command {
     Disable,
 }
 
-// How a command ended.
-#[derive(Clone, Copy)]
+// How a command ended. No Result: the three are of one rank, and a course goes on after a failed command too, so `?` would serve
+// nowhere and each match would be longer.
+#[derive(Clone, Copy, PartialEq, Eq)]
 pub enum Sent {
     Done,
     Failed(u8),
@@ -72,41 +73,48 @@ const FIRST: u32 = 0x10_0000;
 
 const SECOND: u32 = 0x1000;
 
-fn command_word(c: Command) -> u32
-    ensures { result ≡ command_word c }
-{
-    match c {
-        Command::Address => ADDRESS,
-        Command::Evaluate => EVALUATE,
-        Command::Configure => CONFIGURE,
-        Command::Stop(dci) => STOP + (dci.0 as u32) * FIRST,
-        Command::Resume(dci) => RESUME + (dci.0 as u32) * FIRST,
-        Command::SetInterface(interface, alternate) => SET_INTERFACE
-            + (interface as u32) * FIRST
-            + (alternate as u32) * SECOND,
-        Command::SetConfiguration(value) => SET_CONFIGURATION + (value as u32) * FIRST,
-        Command::ReadHeader => READ_HEADER,
-        Command::ReadConfiguration => READ_CONFIGURATION,
-        Command::ReadDevice => READ_DEVICE,
-        Command::ReadConfig(index) => READ_CONFIG + (index as u32) * FIRST,
-        Command::Disable => DISABLE,
+impl From<Command> for u32 {
+    ghost from_gives = { λ c word. word ≡ command_word c };
+
+    #[tactic(auto, unfolding(crate::specs::Command::command_word))]
+    fn from(c: Command) -> u32 {
+        match c {
+            Command::Address => ADDRESS,
+            Command::Evaluate => EVALUATE,
+            Command::Configure => CONFIGURE,
+            Command::Stop(dci) => STOP + (dci.0 as u32) * FIRST,
+            Command::Resume(dci) => RESUME + (dci.0 as u32) * FIRST,
+            Command::SetInterface(interface, alternate) => SET_INTERFACE
+                + (interface as u32) * FIRST
+                + (alternate as u32) * SECOND,
+            Command::SetConfiguration(value) => SET_CONFIGURATION + (value as u32) * FIRST,
+            Command::ReadHeader => READ_HEADER,
+            Command::ReadConfiguration => READ_CONFIGURATION,
+            Command::ReadDevice => READ_DEVICE,
+            Command::ReadConfig(index) => READ_CONFIG + (index as u32) * FIRST,
+            Command::Disable => DISABLE,
+        }
     }
 }
 
 // Logs command number n of a call, and reads its outcome.
+// The log, the outcomes and n go through the courses as three parameters: in a struct, with the log behind a `&mut`, each
+// contract would also have to say that it is the same log and that the outcomes are the same.
+#[tactic(auto, unfolding(crate::specs::Command::outcome_at))]
 pub fn send(log: &mut [u32], outcomes: &[u8], n: usize, c: Command) -> Sent
     requires { n < length log.old }
     ensures { (result ≡ outcome_at outcomes.now n) × (log.new ≡ set log.old n (command_word c)) }
 {
-    log[n] = command_word(c);
-    if outcomes.len() <= n {
-        return Sent::Cut;
+    log[n] = u32::from(c);
+    match outcomes.get(n) {
+        None => Sent::Cut,
+        Some(&0) => Sent::Done,
+        Some(&code) => Sent::Failed(code),
     }
-    let o = outcomes[n];
-    if o == 0 { Sent::Done } else { Sent::Failed(o) }
 }
 
 // A failed resume's code counts before the stop's.
+#[tactic(auto, unfolding(crate::specs::Sweep::or_code))]
 pub fn or_code(code: u8, s: Sent) -> Sent
     ensures { result ≡ or_code code s }
 {

@@ -182,24 +182,22 @@ module _ (dropped ctx ds : List ℕ) (i h flag : ℕ) (f : Flagged dropped ctx) 
   told : flag ≡ cond (some_dci (get_or ds i 0) dropped) 1 0
   told = e ∙ f (get_or ds i 0) (p i l).0 (p i l).1
 
-  -- it stays, and is above the highest so far
-  pub staying_above : flag ≡ 0 → h < get_or ds i 0 → max h (from i) ≡ max (get_or ds i 0) (from (i + 1))
+  -- it stays
+  pub staying_next : flag ≡ 0 → max h (from i) ≡ max (max h (get_or ds i 0)) (from (i + 1))
   unfolding highest_dci
-  staying_above z m = go (decided (some_dci (get_or ds i 0) dropped))
+  staying_next z = go (decided (some_dci (get_or ds i 0) dropped))
     where
-      go : Decided (some_dci (get_or ds i 0) dropped) → max h (from i) ≡ max (get_or ds i 0) (from (i + 1))
+      go : Decided (some_dci (get_or ds i 0) dropped) → max h (from i) ≡ max (max h (get_or ds i 0)) (from (i + 1))
       go (inl t) = absurd (omega (arith, z, rw t at told))
-      go (inr t) = rw (next, t) (omega (arith, m))
+      go (inr t) = rw (next, t) (omega arith)
 
-  -- it is not above it, or is dropped
-  pub staying_under : (get_or ds i 0 ≤ h) ⊎ (flag ≢ 0) → max h (from i) ≡ max h (from (i + 1))
-  unfolding highest_dci
-  staying_under m = go (decided (some_dci (get_or ds i 0) dropped)) m
+  -- it is dropped
+  pub dropped_next : flag ≢ 0 → max h (from i) ≡ max h (from (i + 1))
+  dropped_next n = go (decided (some_dci (get_or ds i 0) dropped))
     where
-      go : Decided (some_dci (get_or ds i 0) dropped) → (get_or ds i 0 ≤ h) ⊎ (flag ≢ 0) → max h (from i) ≡ max h (from (i + 1))
-      go (inl t) m = rw (next, t)
-      go (inr t) (inl u) = rw (next, t) (omega (arith, u))
-      go (inr t) (inr u) = absurd (u (rw t at told))
+      go : Decided (some_dci (get_or ds i 0) dropped) → max h (from i) ≡ max h (from (i + 1))
+      go (inl t) = rw (next, t)
+      go (inr t) = absurd (n (rw t at told))
 
 pub staying_done : (dropped ds : List ℕ) (i h : ℕ) → length ds ≤ i → 1 ≤ h → max h (highest_dci (staying dropped (drop i ds))) ≡ h
 unfolding staying highest_dci

@@ -2,12 +2,12 @@
 use Prim.Native.Nat.{ℕ, zero, suc, ◌+◌, ◌<◌, ◌≤◌, max}
 use mathlib.Core.Path.{◌≡◌, refl, ap, ◌∙◌}
 use mathlib.Core.Bool.{true, false, cond}
-use mathlib.Core.List.{List, [], ◌∷◌, ◌++◌, append_assoc, append-nil}
+use mathlib.Core.List.{List, [], ◌∷◌, ◌++◌}
 use native.Mathlib.Omega.{arith}
 use native.Mathlib.Numerals.{add-one}
 use lib.Dec.{eqb}
-use lib.ListN.{length, drop, get_or, set, replicate, length-replicate, replicate-append-replicate, drop_of_length-le}
-use lib.Seq.{drop-cons, drop-length, set_at}
+use lib.ListN.{length, drop, get_or, drop_of_length-le}
+use lib.Seq.{drop-cons}
 use Rattle.context_block.specs.Fields.{INTERFACE-NUMBER, ALTERNATE-SETTING, CONTEXT-ENTRIES}
 use Rattle.context_block.specs.FieldWrite.{◌:=◌}
 use Rattle.context_block.specs.Blocks.{changed, drop_flags, word_dci}
@@ -17,32 +17,6 @@ use Rattle.context.specs.Steps.{add_writes, add_all, highest_dci, word_dcis, con
 use Rattle.context.proofs.Laws.{written_append, in_block_append}
 
 -- One turn of each loop.
-
--- One more byte cleared.
-pub clear_next :
-    (l l₀ l' : List ℕ) (i : ℕ) →
-    i < length l₀ →
-    l ≡ replicate i 0 ++ drop i l₀ →
-    l' ≡ set l i 0 →
-    l' ≡ replicate (i + 1) 0 ++ drop (i + 1) l₀
-clear_next l l₀ l' i h e p =
-    rw (
-      p,
-      e,
-      drop-cons l₀ i 0,
-      set_at (replicate i 0) (get_or l₀ i 0) (drop (suc i) l₀) 0 i (length-replicate i 0),
-      ← replicate-append-replicate {A = ℕ} i 1 0,
-      append_assoc,
-      ← add-one i,
-    )
-
-pub clear_done :
-    (l l₀ : List ℕ) (i : ℕ) →
-    i ≤ length l₀ →
-    length l₀ ≤ i →
-    l ≡ replicate i 0 ++ drop i l₀ →
-    l ≡ replicate (length l₀) 0
-clear_done l l₀ i h k e = let q : i ≡ length l₀ = omega arith in e ∙ rw (q, drop-length, append-nil)
 
 get_d_second : (rs : List ℕ) (i : ℕ) → get_or rs (suc i) 0 ≡ get_or (drop 1 rs) i 0
 get_d_second [] i = refl

@@ -1,21 +1,25 @@
 -- Flags of endpoint words, bit by bit and word by word.
-use Prim.Native.Nat.{ℕ, zero, suc, ◌+◌, ◌-◌, ◌*◌, ◌/◌, ◌%◌, ◌^◌, ◌<◌, ◌≤◌}
+use Prim.Native.Nat.{ℕ, zero, suc, ◌+◌, ◌*◌, ◌/◌, ◌%◌, ◌^◌, ◌<◌}
 use mathlib.Core.Path.{◌≡◌, refl, sym, ◌∙◌}
 use mathlib.Core.Logic.{inl, inr}
-use mathlib.Core.Bool.{Bool, true, false, cond, not, ◌&&◌, ◌||◌}
-use mathlib.Core.List.{List, [], ◌∷◌}
-use native.Mathlib.Nat.{mod-eq_of_lt, div-eq_of_lt, add-mod_right, add-div_right, add-zero, one-mul}
+use mathlib.Core.Bool.{Bool, true, false, cond, ◌||◌}
+use mathlib.Core.List.{List, [], ◌∷◌, ◌++◌}
+use mir.Syntax.{w32}
+use native.Mathlib.Nat.{mod-eq_of_lt, mod-lt, div-eq_of_lt, add-mod_right, add-div_right, add-zero}
 use native.Mathlib.Numerals.{add-one}
 use native.Mathlib.Omega.{arith}
-use borrow.Author.Tests.{ltb-true, ltb-false, lt-ltb, le-ltb, eqb-true, eqb-false}
-use lib.Dec.{eqb, ltb}
-use lib.Seq.{drop-cons}
-use lib.ListN.{length, get_or, drop, drop_of_length-le}
-use lib.Pow.{pow_pos, pow-add, shl_exact}
+use native.Mathlib.Decide.{ℕ_discrete}
+use borrow.Author.Tests.{eqb-true, eqb-false, eq-eqb, ne_eqb}
+use lib.Bits.{bit_or}
+use lib.Dec.{eqb}
+use lib.Seq.{take-suc}
+use lib.ListN.{length, get_or, take}
+use lib.Pow.{pow_pos, pow-add}
+use Rattle.std.proofs.lemmas.Nat.{or_lt}
+use Rattle.std.proofs.lemmas.Nat.Bits.{bit_at_set_same, bit_at_set_other}
 use Rattle.laws.proofs.Cases.{Decided, decided}
-use Rattle.laws.proofs.Bits.{cut_above}
-use Rattle.context_block.specs.Blocks.{word_dci}
-use Rattle.context_block.specs.Blocks.{some_dci}
+use Rattle.laws.proofs.Bits.{cut_above, same_bits}
+use Rattle.context_block.specs.Blocks.{word_dci, some_dci}
 use Rattle.context_block.specs.Flags.{flags_below, flags_of, FlagsPromise}
 
 -- A flag above a number: below the next power, its own bit, the bits under it.
@@ -55,82 +59,40 @@ pub flags_promise : FlagsPromise
 unfolding flags_of
 flags_promise words d h = flag_bit 32 words d h
 
--- one word more sets the bit of its Dci
-module _ (w : ℕ) (ws : List ℕ) where
-  more : ℕ → ℕ
-  more n = cond (ltb (word_dci w) n && not (some_dci (word_dci w) ws)) (2 ^ word_dci w) 0
+-- A further word has its Dci.
+some_more : (ws : List ℕ) (w d : ℕ) → some_dci d (ws ++ (w ∷ [])) ≡ (eqb (word_dci w) d || some_dci d ws)
+unfolding some_dci
+some_more [] w d = refl
+some_more (v ∷ ws) w d = rw (some_more ws w d) (turned (eqb (word_dci v) d) (eqb (word_dci w) d) (some_dci d ws))
+  where
+    turned : (a b c : Bool) → (a || (b || c)) ≡ (b || (a || c))
+    turned true true c = refl
+    turned true false c = refl
+    turned false b c = refl
 
-  both : (x p : ℕ) (b : Bool) → x + 0 + p ≡ x + cond b p 0 + cond (not b) p 0
-  both x p true = omega arith
-  both x p false = omega arith
+-- One word more sets the bit of its Dci.
+pub flag_added : (x w r : ℕ) (ws : List ℕ) → r ≡ word_dci w → r < 32 → x ≡ flags_of ws → bit_or x (1 * 2 ^ r % 2 ^ 32) ≡ flags_of (ws ++ (w ∷ []))
+unfolding flags_of
+flag_added x w r ws q small e =
+    sym (mod-eq_of_lt low) ∙ same_bits _ _ 32 bit ∙ mod-eq_of_lt (flags_small 32 (ws ++ (w ∷ [])))
+  where
+    low : bit_or x (1 * 2 ^ r % 2 ^ 32) < 2 ^ 32
+    low = or_lt 32 x _ (rw e (flags_small 32 ws)) (mod-lt _ (pow_pos 32))
 
-  flags_more : (n : ℕ) → flags_below n (w ∷ ws) ≡ flags_below n ws + more n
-  unfolding flags_below some_dci more
-  flags_more zero = rw (le-ltb (word_dci w) 0 (omega arith))
-  flags_more (suc n) = go (decided (eqb (word_dci w) n)) (flags_more n)
-    where
-      go : Decided (eqb (word_dci w) n) → flags_below n (w ∷ ws) ≡ flags_below n ws + more n →
-          flags_below n (w ∷ ws) + cond (eqb (word_dci w) n || some_dci n ws) (2 ^ n) 0
-          ≡ flags_below n ws + cond (some_dci n ws) (2 ^ n) 0 + more (suc n)
-      go (inl e) i =
-          let q : word_dci w ≡ n = eqb-true (word_dci w) n e in
-          let a : ltb (word_dci w) n ≡ false = le-ltb (word_dci w) n (omega (arith, q)) in
-          let b : ltb (word_dci w) (suc n) ≡ true = lt-ltb (word_dci w) (suc n) (omega (arith, q)) in
-          rw (i, e, a, b, q) (both (flags_below n ws) (2 ^ n) (some_dci n ws))
-      go (inr e) i =
-          let b : ltb (word_dci w) (suc n) ≡ ltb (word_dci w) n = same (decided (ltb (word_dci w) n)) in
-          rw (i, e, b) (omega arith)
-        where
-          same : Decided (ltb (word_dci w) n) → ltb (word_dci w) (suc n) ≡ ltb (word_dci w) n
-          same (inl p) = rw p (lt-ltb (word_dci w) (suc n) (omega (arith, ltb-true (word_dci w) n p)))
-          same (inr p) = rw p (le-ltb (word_dci w) (suc n) (omega (arith, ltb-false (word_dci w) n p, eqb-false (word_dci w) n e)))
+    bit : (k : ℕ) → k < 32 → bit_or x (1 * 2 ^ r % 2 ^ 32) / 2 ^ k % 2 ≡ flags_of (ws ++ (w ∷ [])) / 2 ^ k % 2
+    bit k h = go (ℕ_discrete r k)
+      where
+        go : Dec (r ≡ k) → bit_or x (1 * 2 ^ r % 2 ^ 32) / 2 ^ k % 2 ≡ flags_of (ws ++ (w ∷ [])) / 2 ^ k % 2
+        go (yes s) = rw (flags_promise (ws ++ (w ∷ [])) k h, some_more ws w k, ← q, eq-eqb r k s, ← s) (bit_at_set_same w32 x r small)
+        go (no n) =
+            rw (flags_promise (ws ++ (w ∷ [])) k h, some_more ws w k, ← q, ne_eqb r k n, bit_at_set_other w32 x r small k (λ e. n (sym e)), e)
+            (flags_promise ws k h)
 
--- The flag of a Dci as the code makes it.
-abbrev flag : ℕ → ℕ
-flag r = 1 * 2 ^ r % 2 ^ 32
-
-flag_is : (r : ℕ) → r < 32 → flag r ≡ 2 ^ r
-flag_is r h = shl_exact {a = 1} 1 r 32 (omega arith) (omega arith) ∙ one-mul (2 ^ r)
-
-pub flag_some : (r : ℕ) → r < 32 → 0 < flag r
-flag_some r h = rw (flag_is r h) (pow_pos r)
-
--- One turn of a walk from the end.
-module _ (w : ℕ) (ws : List ℕ) (x r : ℕ) (q : r ≡ word_dci w) (small : r < 32) (e : x ≡ flags_of ws) where
-  bit_here : x / flag r % 2 ≡ cond (some_dci (word_dci w) ws) 1 0
-  bit_here = rw (flag_is r small, e, ← q) (flags_promise ws r small)
-
-  one_more : flags_of (w ∷ ws) ≡ x + cond (not (some_dci (word_dci w) ws)) (flag r) 0
-  unfolding flags_of more
-  one_more = flags_more w ws 32 ∙ rw (← q, lt-ltb r 32 small, e, flag_is r small)
-
-  pub flag_set : x / flag r % 2 ≡ 0 → x + flag r ≡ flags_of (w ∷ ws)
-  flag_set z = go (decided (some_dci (word_dci w) ws))
-    where
-      go : Decided (some_dci (word_dci w) ws) → x + flag r ≡ flags_of (w ∷ ws)
-      go (inl t) = let o : x / flag r % 2 ≡ 1 = bit_here ∙ rw t in absurd (omega (arith, z, o))
-      go (inr t) = rw (one_more, t)
-
-  pub flag_kept : (x / flag r % 2 ≡ 0 → ⊥) → x ≡ flags_of (w ∷ ws)
-  flag_kept n = go (decided (some_dci (word_dci w) ws))
-    where
-      go : Decided (some_dci (word_dci w) ws) → x ≡ flags_of (w ∷ ws)
-      go (inl t) = rw (one_more, t) (omega arith)
-      go (inr t) = absurd (n (bit_here ∙ rw t))
-
-  pub flag_room : x / flag r % 2 ≡ 0 → x + flag r < 2 ^ 32
-  unfolding flags_of
-  flag_room z = rw (flag_set z) (flags_small 32 (w ∷ ws))
-
-no_flags : 0 ≡ flags_of []
+pub no_flags : 0 ≡ flags_of []
 unfolding flags_of flags_below some_dci
 no_flags = refl
 
-pub flags_end : (l : List ℕ) → 0 ≡ flags_of (drop (length l) l)
-flags_end l = let h : length l ≤ length l = omega arith in rw (drop_of_length-le l h) no_flags
-
-pub flags_back : (x : ℕ) (l : List ℕ) (i : ℕ) → 0 < i → i ≤ length l → x ≡ flags_of (get_or l (i - 1) 0 ∷ drop i l) → x ≡ flags_of (drop (i - 1) l)
-flags_back x l i h g e = let z : suc (i - 1) ≡ i = omega arith in let k : i - 1 < length l = omega arith in rw (drop-cons l (i - 1) 0 k, z) e
-
-pub flags_all : (x : ℕ) (l : List ℕ) (i : ℕ) → i ≤ 0 → x ≡ flags_of (drop i l) → x ≡ flags_of l
-flags_all x l i h e = let z : i ≡ 0 = omega arith in rw z at e
+-- A turn of the walk.
+pub flag_next : (x r : ℕ) (ws : List ℕ) (i : ℕ) → i < length ws → r ≡ word_dci (get_or ws i 0) → r < 32 → x ≡ flags_of (take i ws)
+    → bit_or x (1 * 2 ^ r % 2 ^ 32) ≡ flags_of (take (i + 1) ws)
+flag_next x r ws i l q small e = rw (add-one i, take-suc ws i 0 l) (flag_added x (get_or ws i 0) r (take i ws) q small e)

@@ -9,6 +9,7 @@ ghost use Rattle.context_block.specs.Flags.{flags_of};
 use def::Dci;
 
 // The Dci of an endpoint word.
+#[tactic(auto, using(descriptor::proofs::Laws::dci_small), unfolding(crate::specs::Blocks::word_dci))]
 pub fn word_dci(w: u32) -> Dci
     ensures { (result.0 ≡ word_dci w) × (result.0 < 32) }
 {
@@ -21,14 +22,8 @@ pub fn word_flags(words: &[u32]) -> u32
     ensures { result ≡ flags_of words.now }
 {
     let mut flags = 0;
-    let mut i = words.len();
-    while 0 < i {
-        i -= 1;
-        let dci = word_dci(words[i]);
-        let flag = 1 << dci.0;
-        if flags / flag % 2 == 0 {
-            flags += flag;
-        }
+    for w in words {
+        flags |= 1 << word_dci(*w).0;
     }
     flags
 }

@@ -9,9 +9,10 @@ use native.Mathlib.Decide.{ℕ_discrete}
 use native.Mathlib.Nat.{mod-lt, mod-eq_of_lt, mul_assoc, add-mul, add_comm, sub_self, div-one, div-add-mod, add-zero}
 use borrow.Author.Tests.{eqb-true, eqb-false, leb-true, leb-false, not-true, not-false, eq-eqb, le-leb}
 use lib.Dec.{eqb, leb, lit<}
-use lib.ListN.{length, get_or, set, length-set, get_or-append}
-use lib.Pow.{pow-add, pow_pos, high, low, shr-shr, mod-pow-add}
+use lib.ListN.{length, take, drop, get_or, set, length-set, get_or-append}
+use lib.Pow.{pow-add, pow_pos, high, low, shr-shr, mod-pow-add, shr_lt}
 use lib.Seq.{get_or-set_same, get_or-set_other, set_comm, lt-length-set, set-append_left, ext_get_or}
+use Rattle.std.proofs.Math.Arith.{digits_lt}
 use Rattle.laws.proofs.Bits.{cut_above, same_bits}
 use Rattle.laws.proofs.Cases.{or_cases, or_none}
 use Rattle.laws.proofs.Tests.{and_left, and_right, not_both}
@@ -57,6 +58,24 @@ module _ (d l w v : ℕ) where
       ∙ ap (λ (x : ℕ). x / 2 ^ (l' - l) % 2 ^ w') (low (d / 2 ^ (l + w)) w (mod-lt v (pow_pos w)))
       ∙ cut_above v w (l' - l) w' i
 
+  -- a doubleword stays one
+  below : l + w ≤ 32 → d < 2 ^ 32 → with_bits d l w v < 2 ^ 32
+  unfolding with_bits
+  below h k =
+      let e : 32 ≡ (32 - (l + w)) + (l + w) = omega arith in
+      let top : d / 2 ^ (l + w) < 2 ^ (32 - (l + w)) = shr_lt (32 - (l + w)) (l + w) (rw (← e) k) in
+      let run : v % 2 ^ w * 2 ^ l + d % 2 ^ l < 2 ^ (l + w) =
+      rw (add_comm l w, pow-add 2 w l) (digits_lt (mod-lt v (pow_pos w)) (mod-lt d (pow_pos l))) in
+      let whole : d / 2 ^ (l + w) * 2 ^ (l + w) + (v % 2 ^ w * 2 ^ l + d % 2 ^ l) < 2 ^ (32 - (l + w)) * 2 ^ (l + w) = digits_lt top run in
+      let size : 2 ^ 32 ≡ 2 ^ (32 - (l + w)) * 2 ^ (l + w) = ap (λ (x : ℕ). 2 ^ x) e ∙ pow-add 2 (32 - (l + w)) (l + w) in
+      omega (arith, whole, size)
+
+-- as the code has the powers
+pub bits_below : (d l w v end scale span : ℕ) → l + w ≤ 32 → d < 2 ^ 32 → end ≡ 2 ^ (l + w) → scale ≡ 2 ^ l → span ≡ 2 ^ w
+    → d / end * end + v % span * scale + d % scale < 2 ^ 32
+unfolding with_bits
+bits_below d l w v end scale span h k e s p = rw (e, s, p) (below d l w v h k)
+
 -- Doublewords of a block.
 
 turned : (a b c d : ℕ) → a + b + c + d ≡ d + (c + (b + a))
@@ -70,6 +89,26 @@ by_bytes x =
     (mod-pow-add x 8 24
     ∙ ap (λ (y : ℕ). x / 2 ^ 24 % 2 ^ 8 * 2 ^ 24 + y)
     (mod-pow-add x 8 16 ∙ ap (λ (y : ℕ). x / 2 ^ 16 % 2 ^ 8 * 2 ^ 16 + y) (mod-pow-add x 8 8)))
+
+four_set : (b : List ℕ) (i a0 a1 a2 a3 : ℕ) → i + 4 ≤ length b →
+    set (set (set (set b i a0) (suc i) a1) (suc (suc i)) a2) (suc (suc (suc i))) a3 ≡ take i b ++ (a0 ∷ a1 ∷ a2 ∷ a3 ∷ drop (suc (suc (suc (suc i)))) b)
+four_set [] i a0 a1 a2 a3 h = absurd (omega arith)
+four_set (x ∷ []) zero a0 a1 a2 a3 h = absurd (omega arith)
+four_set (x ∷ y ∷ []) zero a0 a1 a2 a3 h = absurd (omega arith)
+four_set (x ∷ y ∷ z ∷ []) zero a0 a1 a2 a3 h = absurd (omega arith)
+four_set (x ∷ y ∷ z ∷ u ∷ b) zero a0 a1 a2 a3 h = refl
+four_set (x ∷ b) (suc i) a0 a1 a2 a3 h = ap (λ (m : List ℕ). x ∷ m) (four_set b i a0 a1 a2 a3 (omega arith))
+
+-- A doubleword pasted in by its bytes.
+pub word_pasted : (b : List ℕ) (w x : ℕ) → 4 * w + 4 ≤ length b →
+    put_word b w x ≡ take (4 * w) b ++ (x % 2 ^ 8 ∷ x / 2 ^ 8 % 2 ^ 8 ∷ x / 2 ^ 16 % 2 ^ 8 ∷ x / 2 ^ 24 % 2 ^ 8 ∷ drop (4 * w + 4) b)
+unfolding put_word
+word_pasted b w x h =
+    let e1 : 4 * w + 1 ≡ suc (4 * w) = omega arith in
+    let e2 : 4 * w + 2 ≡ suc (suc (4 * w)) = omega arith in
+    let e3 : 4 * w + 3 ≡ suc (suc (suc (4 * w))) = omega arith in
+    let e4 : 4 * w + 4 ≡ suc (suc (suc (suc (4 * w)))) = omega arith in
+    rw (e1, e2, e3, e4) (four_set b (4 * w) _ _ _ _ h)
 
 byte_set : (b : List ℕ) (i x : ℕ) → ((k : ℕ) → get_or b k 0 < 256) → x < 256 → (k : ℕ) → get_or (set b i x) k 0 < 256
 byte_set [] i x h l k = h k

@@ -29,6 +29,10 @@ with_bits d low width v = d / 2 ^ (low + width) * 2 ^ (low + width) + v % 2 ^ wi
 unfoldable pub write_field : List ℕ → Field → ℕ → List ℕ
 write_field b f v = put_word b f.word (with_bits (word_at b f.word) f.low f.width v)
 
+-- The bit at a place of a doubleword.
+abbrev pub bit : ℕ → ℕ → Field
+bit word low = record { word = word; low = low; width = 1 }
+
 -- A field that lies in a block.
 abbrev pub InBlock : Field → Type 0
 InBlock f = (f.word < 8) × (f.low + f.width ≤ 32)

@@ -1,6 +1,8 @@
 // Fields of a 32-byte block of little-endian doublewords (what the setters of the crate xhci do for the original).
 #![tactic(auto)]
 
+mod named;
+
 ghost use Rattle.std.specs.Prelude.{◌≡◌, ◌+◌, ◌*◌, ◌<◌, ◌≤◌, ◌^◌, length};
 ghost use Rattle.context_field.specs.Field.{word_at, read_field, write_field, InBlock};
 
@@ -11,22 +13,15 @@ pub struct Field {
     pub width: usize,
 }
 
-fn wide(x: u8) -> u64
-    ensures { (result ≡ x) × (result < 256) }
-{
-    x as u64
-}
-
 // The doubleword at an index.
+#[tactic(auto, unfolding(crate::specs::Field::word_at))]
 fn word_at(block: &[u8], word: usize) -> u64
     requires { 4 * word + 4 ≤ length block.now }
     ensures { (result ≡ word_at block.now word) × (result < 2 ^ 32) }
 {
     let at = 4 * word;
-    wide(block[at])
-        + wide(block[at + 1]) * 256
-        + wide(block[at + 2]) * 65536
-        + wide(block[at + 3]) * 16777216
+    let bytes = [block[at], block[at + 1], block[at + 2], block[at + 3]];
+    u64::from(u32::from_le_bytes(bytes))
 }
 
 // 2 to the k.
@@ -38,14 +33,12 @@ fn power(k: usize) -> u64
 }
 
 // What a field holds.
+#[tactic(auto, unfolding(crate::specs::Field::read_field))]
 pub fn read_field(block: &[u8], f: Field) -> u64
     requires { (32 ≤ length block.now) × InBlock f }
     ensures { result ≡ read_field block.now f }
 {
-    let word = f.word;
-    let scale = power(f.low);
-    let span = power(f.width);
-    word_at(block, word) / scale % span
+    word_at(block, f.word) / power(f.low) % power(f.width)
 }
 
 // Makes a field the low bits of a value, as many as it has.
@@ -59,8 +52,5 @@ pub fn put_field(block: &mut [u8], f: Field, value: u64)
     let span = power(f.width);
     let x = d / end * end + value % span * scale + d % scale;
     let at = 4 * f.word;
-    block[at] = (x % 256) as u8;
-    block[at + 1] = (x / 256 % 256) as u8;
-    block[at + 2] = (x / 65536 % 256) as u8;
-    block[at + 3] = (x / 16777216 % 256) as u8;
+    block[at..at + 4].copy_from_slice(&(x as u32).to_le_bytes());
 }

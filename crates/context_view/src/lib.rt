@@ -11,9 +11,9 @@ ghost use Rattle.context_view.specs.View.{is_context, is_field, field_in, endpoi
 use context_field::Field;
 use def::Dci;
 
-#[derive(Clone, Copy)]
-pub enum Reading {
-    Value(u64),
+// Why nothing is read.
+#[derive(Clone, Copy, PartialEq, Eq)]
+pub enum NoReading {
     // The bytes are no context of this spacing.
     NoContext,
     // No block of a context has this field.
@@ -26,77 +26,29 @@ pub struct InputHandler<'a> {
     pub spacing: usize,
 }
 
-// Fields by the names of xHCI 1.2, section 6.2: crates/context_block/specs/Fields.antt.
-const DROP_FLAGS: Field = Field {
-    word: 0,
-    low: 2,
-    width: 30,
-};
-
-const ADD_FLAGS: Field = Field {
-    word: 1,
-    low: 0,
-    width: 32,
-};
-
-const ROUTE_STRING: Field = Field {
-    word: 0,
-    low: 0,
-    width: 20,
-};
-
-const CONTEXT_ENTRIES: Field = Field {
-    word: 0,
-    low: 27,
-    width: 5,
-};
-
-const EP_TYPE: Field = Field {
-    word: 1,
-    low: 3,
-    width: 3,
-};
-
-const MAX_PACKET_SIZE: Field = Field {
-    word: 1,
-    low: 16,
-    width: 16,
-};
-
 const CONTROL: usize = 0;
 
 const SLOT: usize = 1;
 
+#[tactic(auto, unfolding(crate::specs::View::is_context))]
 fn is_context(len: usize, spacing: usize) -> bool
     ensures { result ≡ is_context spacing len }
 {
-    if spacing == 32 {
-        return len == 1056;
+    match spacing {
+        32 => len == 1056,
+        64 => len == 2112,
+        _ => false,
     }
-    if spacing == 64 {
-        return len == 2112;
-    }
-    false
 }
 
+#[tactic(auto, unfolding(crate::specs::View::is_field))]
 fn is_field(block: usize, f: Field) -> bool
     ensures { result ≡ is_field block f }
 {
-    let word = f.word;
-    let low = f.low;
-    let width = f.width;
-    if block >= 33 {
-        return false;
-    }
-    if word >= 8 {
-        return false;
-    }
-    if low > 32 {
-        return false;
-    }
-    width <= 32 - low
+    block < 33 && f.word < 8 && f.low <= 32 && f.width <= 32 - f.low
 }
 
+#[tactic(auto, unfolding(context::specs::Place::read_at, context::specs::Place::block_at))]
 fn field_at(ctx: &[u8], spacing: usize, block: usize, f: Field) -> u64
     requires { (spacing * block + 32 ≤ length ctx.now) × InBlock f }
     ensures { result ≡ read_at spacing ctx.now block f }
@@ -107,104 +59,69 @@ fn field_at(ctx: &[u8], spacing: usize, block: usize, f: Field) -> u64
 }
 
 // A field of a block.
-fn field_in(ctx: &[u8], spacing: usize, block: usize, f: Field) -> Reading
+#[tactic(auto, unfolding(crate::specs::View::field_in))]
+fn field_in(ctx: &[u8], spacing: usize, block: usize, f: Field) -> Result<u64, NoReading>
     ensures { result ≡ field_in ctx.now spacing block f }
 {
     if !is_context(ctx.len(), spacing) {
-        return Reading::NoContext;
+        return Err(NoReading::NoContext);
     }
     if !is_field(block, f) {
-        return Reading::NoField;
+        return Err(NoReading::NoField);
     }
-    Reading::Value(field_at(ctx, spacing, block, f))
-}
-
-fn drop_flags(ctx: &[u8], spacing: usize) -> Reading
-    ensures { result ≡ field_in ctx.now spacing CONTROL DROP-FLAGS }
-{
-    field_in(ctx, spacing, CONTROL, DROP_FLAGS)
-}
-
-fn add_flags(ctx: &[u8], spacing: usize) -> Reading
-    ensures { result ≡ field_in ctx.now spacing CONTROL ADD-FLAGS }
-{
-    field_in(ctx, spacing, CONTROL, ADD_FLAGS)
-}
-
-fn route_string(ctx: &[u8], spacing: usize) -> Reading
-    ensures { result ≡ field_in ctx.now spacing SLOT ROUTE-STRING }
-{
-    field_in(ctx, spacing, SLOT, ROUTE_STRING)
-}
-
-fn context_entries(ctx: &[u8], spacing: usize) -> Reading
-    ensures { result ≡ field_in ctx.now spacing SLOT CONTEXT-ENTRIES }
-{
-    field_in(ctx, spacing, SLOT, CONTEXT_ENTRIES)
+    Ok(field_at(ctx, spacing, block, f))
 }
 
 // A field of an endpoint's block. A Dci of 0 names no endpoint.
-fn endpoint_field(ctx: &[u8], spacing: usize, dci: Dci, f: Field) -> Reading
+#[tactic(auto, unfolding(crate::specs::View::endpoint_field_in))]
+fn endpoint_field(ctx: &[u8], spacing: usize, dci: Dci, f: Field) -> Result<u64, NoReading>
     ensures { result ≡ endpoint_field_in ctx.now spacing dci.0 f }
 {
-    let d = dci.0;
-    if d == 0 {
-        return Reading::NoField;
+    if dci.0 == 0 {
+        return Err(NoReading::NoField);
     }
-    field_in(ctx, spacing, d as usize + 1, f)
-}
-
-fn endpoint_type(ctx: &[u8], spacing: usize, dci: Dci) -> Reading
-    ensures { result ≡ endpoint_field_in ctx.now spacing dci.0 EP-TYPE }
-{
-    endpoint_field(ctx, spacing, dci, EP_TYPE)
-}
-
-fn max_packet_size(ctx: &[u8], spacing: usize, dci: Dci) -> Reading
-    ensures { result ≡ endpoint_field_in ctx.now spacing dci.0 MAX-PACKET-SIZE }
-{
-    endpoint_field(ctx, spacing, dci, MAX_PACKET_SIZE)
+    field_in(ctx, spacing, dci.0 as usize + 1, f)
 }
 
 impl<'a> InputHandler<'a> {
-    pub fn drop_flags(self) -> Reading
+    pub fn drop_flags(self) -> Result<u64, NoReading>
         ensures { result ≡ field_in self.entry.ctx.now self.entry.spacing CONTROL DROP-FLAGS }
     {
-        drop_flags(self.ctx, self.spacing)
+        field_in(self.ctx, self.spacing, CONTROL, Field::DROP_FLAGS)
     }
 
-    pub fn add_flags(self) -> Reading
+    pub fn add_flags(self) -> Result<u64, NoReading>
         ensures { result ≡ field_in self.entry.ctx.now self.entry.spacing CONTROL ADD-FLAGS }
     {
-        add_flags(self.ctx, self.spacing)
+        field_in(self.ctx, self.spacing, CONTROL, Field::ADD_FLAGS)
     }
 
-    pub fn route_string(self) -> Reading
+    pub fn route_string(self) -> Result<u64, NoReading>
         ensures { result ≡ field_in self.entry.ctx.now self.entry.spacing SLOT ROUTE-STRING }
     {
-        route_string(self.ctx, self.spacing)
+        field_in(self.ctx, self.spacing, SLOT, Field::ROUTE_STRING)
     }
 
-    pub fn context_entries(self) -> Reading
+    pub fn context_entries(self) -> Result<u64, NoReading>
         ensures { result ≡ field_in self.entry.ctx.now self.entry.spacing SLOT CONTEXT-ENTRIES }
     {
-        context_entries(self.ctx, self.spacing)
+        field_in(self.ctx, self.spacing, SLOT, Field::CONTEXT_ENTRIES)
     }
 
-    pub fn endpoint_type(self, dci: Dci) -> Reading
+    pub fn endpoint_type(self, dci: Dci) -> Result<u64, NoReading>
         ensures { result ≡ endpoint_field_in self.entry.ctx.now self.entry.spacing dci.0 EP-TYPE }
     {
-        endpoint_type(self.ctx, self.spacing, dci)
+        endpoint_field(self.ctx, self.spacing, dci, Field::EP_TYPE)
     }
 
-    pub fn max_packet_size(self, dci: Dci) -> Reading
+    pub fn max_packet_size(self, dci: Dci) -> Result<u64, NoReading>
         ensures { result ≡ endpoint_field_in self.entry.ctx.now self.entry.spacing dci.0 MAX-PACKET-SIZE }
     {
-        max_packet_size(self.ctx, self.spacing, dci)
+        endpoint_field(self.ctx, self.spacing, dci, Field::MAX_PACKET_SIZE)
     }
 
     // A field of a block: 0 is control, 1 the slot, Dci + 1 an endpoint.
-    pub fn field(self, block: usize, f: Field) -> Reading
+    pub fn field(self, block: usize, f: Field) -> Result<u64, NoReading>
         ensures { result ≡ field_in self.entry.ctx.now self.entry.spacing block f }
     {
         field_in(self.ctx, self.spacing, block, f)
@@ -212,9 +129,8 @@ impl<'a> InputHandler<'a> {
 }
 
 // The same without a view.
-pub fn input_field(ctx: &[u8], spacing: usize, block: usize, f: Field) -> Reading
+pub fn input_field(ctx: &[u8], spacing: usize, block: usize, f: Field) -> Result<u64, NoReading>
     ensures { result ≡ field_in ctx.now spacing block f }
 {
-    let view = InputHandler { ctx, spacing };
-    view.field(block, f)
+    InputHandler { ctx, spacing }.field(block, f)
 }

@@ -8,13 +8,6 @@ use context_block_writer::{control, endpoint, slot};
 use context_field::Field;
 use hub::Translator;
 
-// The add flag of the control endpoint.
-const CONTROL_ADD_FLAG: Field = Field {
-    word: 1,
-    low: 1,
-    width: 1,
-};
-
 // What Address is given, from all zero.
 pub fn address_context(
     ctx: &mut [u8],
@@ -28,23 +21,17 @@ pub fn address_context(
     requires { Spaced spacing (length ctx.old) }
     ensures { ctx.new ≡ address_context spacing speed route translator root_port ring ctx.old }
 {
-    let mut i = 0;
-    while i < ctx.len() {
-        ctx[i] = 0;
-        i += 1;
-    }
-    context_field::put_field(ctx, control::ADD_FLAGS, 3);
-    let slot_end = spacing + 32;
+    ctx.fill(0);
+    context_field::put_field(ctx, Field::ADD_FLAGS, 3);
     slot::address_slot(
-        &mut ctx[spacing..slot_end],
+        &mut ctx[spacing..spacing + 32],
         speed,
         route,
         translator,
         root_port,
     );
     let start = spacing * 2;
-    let end = start + 32;
-    endpoint::address_endpoint(&mut ctx[start..end], speed, ring);
+    endpoint::address_endpoint(&mut ctx[start..start + 32], speed, ring);
 }
 
 // What the Evaluate of the control endpoint's packet size is given, from the header's byte.
@@ -54,9 +41,8 @@ pub fn setup_max_packet(ctx: &mut [u8], spacing: usize, speed: u8, byte: u8)
     ensures { ctx.new ≡ written spacing (max_packet_writes speed byte) ctx.old }
 {
     control::perper_change(ctx);
-    context_field::put_field(ctx, CONTROL_ADD_FLAG, 1);
+    context_field::put_field(ctx, Field::add_flag(1), 1);
     let size = def::header_packet_size(speed, byte);
-    let start = spacing * 2;
-    let end = start + 32;
-    context_field::put_field(&mut ctx[start..end], endpoint::MAX_PACKET_SIZE, size as u64);
+    let at = spacing * 2;
+    context_field::put_field(&mut ctx[at..at + 32], Field::MAX_PACKET_SIZE, size as u64);
 }

@@ -8,11 +8,12 @@ ghost use Rattle.context.specs.Place.{in_block, CONTROL, SLOT, written, Spaced};
 ghost use Rattle.context.specs.Steps.{add_all, highest_dci, word_dcis, staying, configure_writes};
 ghost use Rattle.context.specs.Promises.{EndpointDcis, Flagged};
 
-use context_block_writer::{control, endpoint, slot};
+use context_block_writer::{control, endpoint};
 use context_field::Field;
 use def::Dci;
 
 // The flags cleared, and the interface and alternate setting of the command.
+#[tactic(auto, using(context_block_writer::proofs::Laws::control_written), unfolding(context_block::specs::FieldWrite::fields_written, context_block::specs::FieldWrite::inside, context_block::specs::FieldWrite::all_inside, context_block::specs::Blocks::changed))]
 pub fn begin_configure(ctx: &mut [u8], interface: u8, alternate: u8)
     requires { 32 ≤ length ctx.old }
     ensures { (spacing : ℕ) →
@@ -20,8 +21,8 @@ pub fn begin_configure(ctx: &mut [u8], interface: u8, alternate: u8)
         (in_block CONTROL (changed ++ ((INTERFACE-NUMBER := interface) ∷ (ALTERNATE-SETTING := alternate) ∷ []))) ctx.old }
 {
     control::perper_change(ctx);
-    context_field::put_field(ctx, control::INTERFACE_NUMBER, interface as u64);
-    context_field::put_field(ctx, control::ALTERNATE_SETTING, alternate as u64);
+    context_field::put_field(ctx, Field::INTERFACE_NUMBER, interface as u64);
+    context_field::put_field(ctx, Field::ALTERNATE_SETTING, alternate as u64);
 }
 
 // The drop flags of some endpoint words.
@@ -29,16 +30,9 @@ pub fn drop_endpoints(ctx: &mut [u8], words: &[u32])
     requires { 32 ≤ length ctx.old }
     ensures { (spacing : ℕ) → ctx.new ≡ written spacing (in_block CONTROL (drop_flags words.now)) ctx.old }
 {
-    let mut i = 0;
-    while i < words.len() {
-        let dci = context_block::word_dci(words[i]);
-        let drop_flag = Field {
-            word: 0,
-            low: dci.0 as usize,
-            width: 1,
-        };
-        context_field::put_field(ctx, drop_flag, 1);
-        i += 1;
+    for w in words {
+        let dci = context_block::word_dci(*w);
+        context_field::put_field(ctx, Field::drop_flag(dci.0), 1);
     }
 }
 
@@ -47,18 +41,16 @@ fn ring_of(dcis: &[u8], rings: &[u64], dci: Dci) -> u64
     ensures { result ≡ ring_for dci.0 (queues dcis.now rings.now) 0 }
 {
     let mut ring = 0;
-    let mut i = 0;
-    while i < dcis.len() {
-        let at = i;
-        i += 1;
-        if dcis[at] == dci.0 {
-            ring = if at < rings.len() { rings[at] } else { 0 };
+    for (i, d) in dcis.iter().enumerate() {
+        if *d == dci.0 {
+            ring = rings.get(i).copied().unwrap_or(0);
         }
     }
     ring
 }
 
-// The flags and blocks of added endpoint words, in their order, with the rings that the queues have for them.
+// The flags and blocks of added endpoint words, in their order, with the rings that the queues have for them. Dcis and rings are two
+// slices, as the record's queues are two arrays (document 01), and may differ in length.
 pub fn add_endpoints(
     ctx: &mut [u8],
     spacing: usize,
@@ -70,22 +62,13 @@ pub fn add_endpoints(
     requires { Spaced spacing (length ctx.old) }
     ensures { ctx.new ≡ written spacing (add_all speed (queues dcis.now rings.now) words.now) ctx.old }
 {
-    let mut i = 0;
-    while i < words.len() {
-        let e = descriptor::endpoint_descriptor(words[i]);
+    for w in words {
+        let e = descriptor::endpoint_descriptor(*w);
         let dci = descriptor::endpoint_address_dci(e.address);
         let ring = ring_of(dcis, rings, dci);
-        let low = dci.0 as usize;
-        let add_flag = Field {
-            word: 1,
-            low: low,
-            width: 1,
-        };
-        context_field::put_field(ctx, add_flag, 1);
-        let start = spacing * (low + 1);
-        let end = start + 32;
-        endpoint::put_endpoint(&mut ctx[start..end], e, speed, ring);
-        i += 1;
+        context_field::put_field(ctx, Field::add_flag(dci.0), 1);
+        let start = spacing * (dci.0 as usize + 1);
+        endpoint::put_endpoint(&mut ctx[start..start + 32], e, speed, ring);
     }
 }
 
@@ -95,18 +78,10 @@ pub fn highest_staying(ctx: &[u8], dcis: &[u8]) -> u8
     ensures { (1 ≤ result) × ((dropped : List ℕ) → Flagged dropped ctx.now → result ≡ highest_dci (staying dropped dcis.now)) }
 {
     let mut highest = 1;
-    let mut i = 0;
-    while i < dcis.len() {
-        let dci = dcis[i];
-        let drop_flag = Field {
-            word: 0,
-            low: dci as usize,
-            width: 1,
-        };
-        let flag = context_field::read_field(ctx, drop_flag);
-        i += 1;
-        if highest < dci && flag == 0 {
-            highest = dci;
+    for dci in dcis {
+        let flag = context_field::read_field(ctx, Field::drop_flag(*dci));
+        if flag == 0 {
+            highest = highest.max(*dci);
         }
     }
     highest
@@ -118,13 +93,8 @@ pub fn highest_added(least: u8, words: &[u32]) -> u8
     ensures { result ≡ max least (highest_dci (word_dcis words.now)) }
 {
     let mut highest = least;
-    let mut i = 0;
-    while i < words.len() {
-        let dci = context_block::word_dci(words[i]);
-        i += 1;
-        if highest < dci.0 {
-            highest = dci.0;
-        }
+    for w in words {
+        highest = highest.max(context_block::word_dci(*w).0);
     }
     highest
 }
@@ -133,15 +103,15 @@ pub fn finish_configure(ctx: &mut [u8], spacing: usize, entries: u8)
     requires { Spaced spacing (length ctx.old) }
     ensures { ctx.new ≡ written spacing (in_block SLOT ((CONTEXT-ENTRIES := entries) ∷ [])) ctx.old }
 {
-    let end = spacing + 32;
     context_field::put_field(
-        &mut ctx[spacing..end],
-        slot::CONTEXT_ENTRIES,
+        &mut ctx[spacing..spacing + 32],
+        Field::CONTEXT_ENTRIES,
         entries as u64,
     );
 }
 
-// What Configure is given: the dropped words' flags, the added words' flags and blocks, and the entries.
+// What Configure is given: the dropped words' flags, the added words' flags and blocks, and the entries. A struct of these parameters
+// would be made for this call alone.
 pub fn prepare_configure_context(
     ctx: &mut [u8],
     spacing: usize,

@@ -4,6 +4,7 @@ use mathlib.Core.Path.{◌≡◌, refl}
 use mathlib.Core.Bool.{Bool, true, false, not, cond, ◌&&◌, ◌||◌}
 use mathlib.Core.List.{List}
 use lib.ListN.{length, get_or}
+use Rattle.std.specs.Prelude.{Result, Ok, Err, is_some}
 use Rattle.answer.specs.declared.Answer.TheVariants as answer
 use Rattle.command.specs.declared.Command.{Command}
 use Rattle.command.specs.declared.Command.TheVariants as command
@@ -18,27 +19,26 @@ use Rattle.command.proofs.Sweeps.{stop_each_lem, resume_each}
 use Rattle.context_block.specs.Blocks.{some_dci}
 use Rattle.context.specs.Place.{Spaced}
 use Rattle.record_endpoint.specs.EndpointMap.{queue_dcis}
-use Rattle.transfer.specs.declared.Replaced.{Replaced}
-use Rattle.transfer.specs.declared.Replaced.TheVariants as replace
+use Rattle.transfer.specs.declared.RouteError.{RouteError}
 use Rattle.transfer.specs.Routes.{replaced}
 use Rattle.course_steps.specs.End.{End, settings_kept, answer_of}
 use Rattle.theorem_controller.specs.Controller.{configured, enabled_after}
 use Rattle.theorem_controller.proofs.Followed.{followed, Follows, follows_result}
 use Rattle.theorem_controller.proofs.Laws.{configured_writes, configured_undone, follows_stop, follows_resume, follows_configure, follows_other, Told, told_accepted, told_failed, told_broken, told_cut}
-use Rattle.course_claim.specs.Claim.{Claim, claim_context, undo_context, claim_published, claim_publish, claim_switch_back, claim_undone, claim_undo, claim_switch, claim_resume, claim_configure, claim_course}
+use Rattle.course_claim.specs.Claim.{Claim, undo_alternate, claim_context, undo_context, claim_published, claim_publish, claim_switch_back, claim_undone, claim_undo, claim_switch, claim_resume, claim_configure, claim_course}
 
 module _ (P : Command → Type 0) (a : Claim) where
   -- What holds of every command that it can send.
   pub record OfEach : Type 0 where
     pub configure : P command.Configure
     pub switch : P (command.SetInterface a.args.interface a.args.alternate)
-    pub back : P (command.SetInterface a.args.interface a.args.old_alternate)
+    pub back : P (command.SetInterface a.args.interface (undo_alternate a))
     pub stop : (k : ℕ) → P (stop_command (get_or (queue_dcis a.old) k 0))
     pub resume : (k : ℕ) → P (resume_command (get_or (queue_dcis a.old) k 0))
 
   undone_sends : OfEach → (code : ℕ) (ctx routes : List ℕ) → EachCommand P (claim_undone a code ctx routes)
   unfolding claim_undone claim_switch_back EachCommand
-  undone_sends p code ctx routes = go a.args.held
+  undone_sends p code ctx routes = go (is_some a.args.held_alternate)
     where
       go : (held : Bool) →
           EachCommand P
@@ -73,7 +73,7 @@ module _ (P : Command → Type 0) (a : Claim) where
           (p.configure, each_outcome (EachCommand P) _ _ _ (switch_sends p next routes) (λ code. resume_sends p code next routes) tt)
 
 -- the operands of its commands are bytes
-pub claim_operands : (a : Claim) (ctx routes : List ℕ) → a.args.interface < 256 → a.args.alternate < 256 → a.args.old_alternate < 256 →
+pub claim_operands : (a : Claim) (ctx routes : List ℕ) → a.args.interface < 256 → a.args.alternate < 256 → undo_alternate a < 256 →
     ((k : ℕ) → get_or (queue_dcis a.old) k 0 < 256) → EachCommand ByteOperands (claim_course a ctx routes)
 unfolding ByteOperands
 claim_operands a ctx routes i n o d =
@@ -109,13 +109,13 @@ module _ (a : Claim) (routes : List ℕ) (d : ℕ) (two : 2 ≤ d) (h : d < 32) 
   undone_follows : (now : ℕ → Bool) (code : ℕ) (ctx : List ℕ) → (AsHeld → now d ≡ enabled d) →
       Follows enabled_after Says now (claim_undone a code ctx routes)
   unfolding claim_undone claim_switch_back Follows Says operation
-  undone_follows now code ctx u = go a.args.held
+  undone_follows now code ctx u = go (is_some a.args.held_alternate)
     where
       go : (held : Bool) →
           Follows enabled_after Says now
           (cond held (claim_switch_back a code ctx routes) (ends (settings_kept (answer.Failed code) (length a.old) ctx routes)))
       go true =
-          follows_other Says now (command.SetInterface a.args.interface a.args.old_alternate) refl ctx _ _ _ (told_failed u) (λ later. told_broken) told_cut
+          follows_other Says now (command.SetInterface a.args.interface (undo_alternate a)) refl ctx _ _ _ (told_failed u) (λ later. told_broken) told_cut
       go false = told_failed u
 
   switch_follows : (ctx : List ℕ) → Spaced a.args.spacing (length ctx) →
@@ -132,12 +132,11 @@ module _ (a : Claim) (routes : List ℕ) (d : ℕ) (two : 2 ≤ d) (h : d < 32) 
       told_cut)
       told_cut
     where
-      published : (r : Replaced) →
+      published : (r : Result Unit RouteError) →
           Told (enabled d) made AsHeld (claim_published r a (claim_context a ctx) routes).answer
           (configured (claim_context a ctx) enabled d)
-      published replace.Done = told_accepted (claim_configured ctx sp)
-      published replace.InvalidEndpoint = told_broken
-      published replace.QueueFull = told_broken
+      published (Ok _) = told_accepted (claim_configured ctx sp)
+      published (Err _) = told_broken
 
   claim_follows : (ctx : List ℕ) → Spaced a.args.spacing (length ctx) → Follows enabled_after Says enabled (claim_course a ctx routes)
   unfolding claim_course claim_configure claim_resume answer_of or_code Follows Says

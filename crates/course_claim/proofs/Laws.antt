@@ -8,6 +8,7 @@ use native.Mathlib.Nat.{add-zero}
 use native.Mathlib.Omega.{arith}
 use lib.ListN.{length, get_or, length-append}
 use lib.Seq.{get_or-append_seam}
+use Rattle.std.specs.Prelude.{Result, Ok, Err, is_some}
 use Rattle.answer.specs.declared.Answer.{Answer}
 use Rattle.answer.specs.declared.Answer.TheVariants as answer
 use Rattle.command.specs.declared.Command.{Command}
@@ -22,24 +23,11 @@ use Rattle.command.proofs.Done.{result_sends, AllDone, stop_all_done}
 use Rattle.command.proofs.Laws.{words_then, result_then}
 use Rattle.command.proofs.Sweeps.{words_length_resume, words_length_stop, active_stop, active_resume, stop_done, CutSweep, stop_cuts, resume_cuts, stop_uncut, resume_uncut, sweep_uncut}
 use Rattle.record_endpoint.specs.EndpointMap.{queue_dcis}
-use Rattle.transfer.specs.declared.Replaced.{Replaced}
-use Rattle.transfer.specs.declared.Replaced.TheVariants as replace
+use Rattle.transfer.specs.declared.RouteError.{RouteError}
 use Rattle.transfer.specs.Routes.{replaced, with_replaced}
-use Rattle.course_steps.specs.End.{End, settings_kept, settings_moved, answer_of}
+use Rattle.course_steps.specs.End.{published, End, settings_kept, settings_moved, answer_of}
 use Rattle.course_steps.proofs.Laws.{length_dcis}
 use Rattle.course_claim.specs.Claim.{Claim, claim_context, undo_context, claim_published, claim_publish, claim_switch_back, claim_undone, claim_undo, claim_switch, claim_resume, claim_configure, claim_course}
-
-broken_failed : {P : Type 0} {code : ℕ} → answer.InterfaceBroken ≡ answer.Failed code → P
-broken_failed e = let z : ◌≡◌ {A = ℕ} 0 1 = cc in absurd (omega arith)
-
-cut_failed : {P : Type 0} {code : ℕ} → answer.Cut ≡ answer.Failed code → P
-cut_failed e = let z : ◌≡◌ {A = ℕ} 0 1 = cc in absurd (omega arith)
-
-broken_cut : {P : Type 0} → answer.InterfaceBroken ≡ answer.Cut → P
-broken_cut e = let z : ◌≡◌ {A = ℕ} 0 1 = cc in absurd (omega arith)
-
-accepted_cut : {P : Type 0} → answer.Accepted ≡ answer.Cut → P
-accepted_cut e = let z : ◌≡◌ {A = ℕ} 0 1 = cc in absurd (omega arith)
 
 -- The answers of a claim that is not accepted.
 abbrev pub Refused : Answer → Type 0
@@ -47,7 +35,7 @@ Refused x = ((code : ℕ) × (x ≡ answer.Failed code)) ⊎ (x ≡ answer.Inter
 
 -- How a claim can end.
 pub data ClaimEnd (a : Claim) (ctx routes : List ℕ) : End → Type 0 where
-  accepted : replaced routes a.args.slot.0 a.old a.pending ≡ replace.Done →
+  accepted : replaced routes a.args.slot.0 a.old a.pending ≡ Ok tt →
       ClaimEnd a ctx routes (settings_moved answer.Accepted (claim_context a ctx) (with_replaced routes a.args.slot.0 a.old a.pending))
   -- after a failed stop all old endpoints are active
   stop_failed : {code : ℕ} → ClaimEnd a ctx routes (settings_kept (answer.Failed code) (length a.old) ctx routes)
@@ -59,14 +47,14 @@ pub data ClaimEnd (a : Claim) (ctx routes : List ℕ) : End → Type 0 where
   -- the same, not undone
   broken : ClaimEnd a ctx routes (settings_kept answer.InterfaceBroken 0 (undo_context a (claim_context a ctx)) routes)
   -- routes that do not allow it
-  unrouted : (replaced routes a.args.slot.0 a.old a.pending ≡ replace.Done → ⊥) →
+  unrouted : (replaced routes a.args.slot.0 a.old a.pending ≡ Ok tt → ⊥) →
       ClaimEnd a ctx routes (settings_kept answer.InterfaceBroken 0 (claim_context a ctx) routes)
   cut : {active : ℕ} {at : List ℕ} → active ≤ length a.old → ClaimEnd a ctx routes (settings_kept answer.Cut active at routes)
 
 -- Routes and settings are moved exactly if the claim is accepted.
 pub record Moved (a : Claim) (routes : List ℕ) (e : End) : Type 0 where
   pub by_answer : (e.moved ≡ true) ↔ (e.answer ≡ answer.Accepted)
-  pub allowed : e.moved ≡ true → replaced routes a.args.slot.0 a.old a.pending ≡ replace.Done
+  pub allowed : e.moved ≡ true → replaced routes a.args.slot.0 a.old a.pending ≡ Ok tt
   pub routed : e.moved ≡ true → e.routes ≡ with_replaced routes a.args.slot.0 a.old a.pending
   pub kept : e.moved ≡ false → e.routes ≡ routes
 
@@ -76,9 +64,9 @@ record Claimed (a : Claim) (routes : List ℕ) (e : End) : Type 0 where
   pub few_active : e.active ≤ length a.old
 
 refused_accepted : {P : Type 0} (x : Answer) → Refused x → x ≡ answer.Accepted → P
-refused_accepted x (inl f) e = let z : ◌≡◌ {A = ℕ} 0 1 = cc f.1 in absurd (omega arith)
-refused_accepted x (inr (inl b)) e = let z : ◌≡◌ {A = ℕ} 0 1 = cc in absurd (omega arith)
-refused_accepted x (inr (inr c)) e = let z : ◌≡◌ {A = ℕ} 0 1 = cc in absurd (omega arith)
+refused_accepted x (inl f) e = absurd (cc f.1)
+refused_accepted x (inr (inl b)) e = absurd cc
+refused_accepted x (inr (inr c)) e = absurd cc
 
 module _ (a : Claim) (ctx routes : List ℕ) where
   stayed : {x : Answer} {active : ℕ} {at : List ℕ} → Refused x → active ≤ length a.old →
@@ -158,28 +146,27 @@ module _ (a : Claim) (ctx routes o : List ℕ) where
   unfolding claim_publish claim_published
   publish_phase n = go (replaced routes a.args.slot.0 a.old a.pending) refl
     where
-      go : (r : Replaced) → replaced routes a.args.slot.0 a.old a.pending ≡ r →
+      go : (r : Result Unit RouteError) → replaced routes a.args.slot.0 a.old a.pending ≡ r →
           Phase a ctx routes o 0 n (ends (claim_published r a (claim_context a ctx) routes))
-      go replace.Done e = phase_ends (accepted e) accepted_cut
-      go replace.InvalidEndpoint e = phase_ends (unrouted (λ d. let z : ◌≡◌ {A = ℕ} 0 1 = cc in omega arith)) broken_cut
-      go replace.QueueFull e = phase_ends (unrouted (λ d. let z : ◌≡◌ {A = ℕ} 0 1 = cc in omega arith)) broken_cut
+      go (Ok _) e = phase_ends (accepted e) (λ e. absurd cc)
+      go (Err _) e = phase_ends (unrouted (λ d. cc)) (λ e. absurd cc)
 
   undone_phase : (n code : ℕ) → Phase a ctx routes o 1 n (claim_undone a code (undo_context a (claim_context a ctx)) routes)
   unfolding claim_undone claim_switch_back
-  undone_phase n code = go a.args.held
+  undone_phase n code = go (is_some a.args.held_alternate)
     where
       go : (held : Bool) →
           Phase a ctx routes o 1 n
           (cond held (claim_switch_back a code (undo_context a (claim_context a ctx)) routes)
           (ends (settings_kept (answer.Failed code) (length a.old) (undo_context a (claim_context a ctx)) routes)))
-      go true = phase_sends (phase_ends undone (λ e. cut_failed (sym e))) (λ later. phase_ends broken broken_cut)
-      go false = phase_ends undone (λ e. cut_failed (sym e))
+      go true = phase_sends (phase_ends undone (λ e. absurd cc)) (λ later. phase_ends broken (λ e. absurd cc))
+      go false = phase_ends undone (λ e. absurd cc)
 
   switch_phase : (n : ℕ) → Phase a ctx routes o 3 n (claim_switch a (claim_context a ctx) routes)
   unfolding claim_switch claim_undo
   switch_phase n =
       phase_sends (more (publish_phase (n + 1)) (omega arith))
-      (λ code. phase_sends (undone_phase (n + 1 + 1) code) (λ later. phase_ends broken broken_cut))
+      (λ code. phase_sends (undone_phase (n + 1 + 1) code) (λ later. phase_ends broken (λ e. absurd cc)))
 
   resume_phase : (n code : ℕ) → Phase a ctx routes o (length a.old) n (claim_resume a code (claim_context a ctx) routes)
   unfolding claim_resume answer_of or_code
@@ -199,8 +186,8 @@ module _ (a : Claim) (ctx routes o : List ℕ) where
       go sent.Cut h = cut h
 
       only : (s : Sent) → answer_of (or_code code s) ≡ answer.Cut → s ≡ sent.Cut
-      only sent.Done e = cut_failed (sym e)
-      only (sent.Failed later) e = cut_failed (sym e)
+      only sent.Done e = absurd cc
+      only (sent.Failed later) e = absurd cc
       only sent.Cut e = refl
 
   configure_phase : (n : ℕ) → Phase a ctx routes o (max (length a.old) 3 + 1) n (claim_configure a ctx routes)
@@ -222,7 +209,7 @@ module _ (a : Claim) (ctx routes o : List ℕ) where
       let p =
       on_sent_lem (λ (c : Course End). (m : ℕ) × Phase a ctx routes o m (n + k) c × (k + m ≤ length a.old + max (length a.old) 3 + 1)) r.sent _ _ _
       (λ e. (max (length a.old) 3 + 1, configure_phase (n + k), omega (arith, stop_done o ctx dcis n e)))
-      (λ code e. (0, phase_ends stop_failed (λ e. cut_failed (sym e)), omega arith))
+      (λ code e. (0, phase_ends stop_failed (λ (e : answer.Failed code ≡ answer.Cut). absurd cc), omega arith))
       (λ e. (
         0,
         phase_ends (cut {active = r.active} (omega (arith, active_stop o ctx dcis n)))
@@ -277,14 +264,14 @@ module _ (a : Claim) (ctx routes o : List ℕ) where
       result o n (claim_undo a code at routes) ≡ settings_kept (answer.Failed code) (length a.old) (undo_context a at) routes
   unfolding claim_undo claim_undone claim_switch_back result
   undo_end n code later at =
-      on_sent_lem (P (n + 1)) (outcome_at o n) _ _ _ (λ e. go a.args.held) (λ c e f. broken_failed f) (λ e f. cut_failed f)
+      on_sent_lem (P (n + 1)) (outcome_at o n) _ _ _ (λ e. go (is_some a.args.held_alternate)) (λ c e f. absurd cc) (λ e f. absurd cc)
     where
       P : ℕ → Course End → Type 0
       P k c = (result o k c).answer ≡ answer.Failed later →
           result o k c ≡ settings_kept (answer.Failed code) (length a.old) (undo_context a at) routes
 
       go : (held : Bool) → P (n + 1) (cond held (claim_switch_back a code (undo_context a at) routes) (ends (settings_kept (answer.Failed code) (length a.old) (undo_context a at) routes)))
-      go true = on_sent_lem (P (n + 1 + 1)) (outcome_at o (n + 1)) _ _ _ (λ e f. refl) (λ c e f. broken_failed f) (λ e f. cut_failed f)
+      go true = on_sent_lem (P (n + 1 + 1)) (outcome_at o (n + 1)) _ _ _ (λ e f. refl) (λ c e f. absurd cc) (λ e f. absurd cc)
       go false = λ e. refl
 
   -- and after a failed SetInterface, if that is undone
@@ -299,7 +286,7 @@ module _ (a : Claim) (ctx routes o : List ℕ) where
       let p = claim_configured n e d ∙ result_sends o m _ _ _ (sent.Failed code) f in
       p ∙ undo_end (m + 1) code later (claim_context a ctx) (rw p at h)
 
-  publish_done : (n : ℕ) (at : List ℕ) → replaced routes a.args.slot.0 a.old a.pending ≡ replace.Done →
+  publish_done : (n : ℕ) (at : List ℕ) → replaced routes a.args.slot.0 a.old a.pending ≡ Ok tt →
       result o n (claim_publish a at routes) ≡
       settings_moved answer.Accepted at (with_replaced routes a.args.slot.0 a.old a.pending)
   unfolding claim_publish claim_published result
@@ -307,7 +294,7 @@ module _ (a : Claim) (ctx routes o : List ℕ) where
 
   -- with every outcome done and routes that allow it, it is accepted
   pub claim_accepted : (n : ℕ) → AllDone o n (length a.old + 2) →
-      replaced routes a.args.slot.0 a.old a.pending ≡ replace.Done →
+      replaced routes a.args.slot.0 a.old a.pending ≡ Ok tt →
       result o n (claim_course a ctx routes) ≡
       settings_moved answer.Accepted (claim_context a ctx) (with_replaced routes a.args.slot.0 a.old a.pending)
   unfolding claim_switch stop_endpoints on_sent
@@ -334,8 +321,8 @@ module _ (a : Claim) (ctx routes o : List ℕ) where
       (get_or (ws ++ words o (n + length ws) c) i 0 ≡ command_word command.Configure))
       (result o n (stop_endpoints ctx dcis)).sent _ _ _
       (λ e b. (length ws, simp length-append (omega arith), get_or-append_seam ws _ _ 0))
-      (λ code e b. let z : ◌≡◌ {A = ℕ} 0 1 = cc in absurd (omega arith))
-      (λ e b. let z : ◌≡◌ {A = ℕ} 0 1 = cc in absurd (omega arith)))
+      (λ code e b. absurd cc)
+      (λ e b. absurd cc))
 
 -- A cut leaves a claim with the context of the command that was cut; the answer is Cut.
 module _ (a : Claim) (routes : List ℕ) (P : List ℕ → End → Type 0) (p : (at : List ℕ) (active : ℕ) → P at (settings_kept answer.Cut active at routes)) where
@@ -352,7 +339,7 @@ module _ (a : Claim) (routes : List ℕ) (P : List ℕ → End → Type 0) (p : 
 
   undone_cuts : (code : ℕ) (ctx : List ℕ) → CutsTo P (claim_undone a code ctx routes)
   unfolding claim_undone claim_switch_back
-  undone_cuts code ctx = go a.args.held
+  undone_cuts code ctx = go (is_some a.args.held_alternate)
     where
       go : (held : Bool) → CutsTo P (cond held (claim_switch_back a code ctx routes) (ends (settings_kept (answer.Failed code) (length a.old) ctx routes)))
       go true = cuts_sends _ ctx _ _ (cuts_ends _) (λ later. cuts_ends _)
@@ -392,3 +379,10 @@ module _ (a : Claim) (ctx routes : List ℕ) where
   claim_cut o n =
       cut_last (λ at e. e.answer ≡ answer.Cut) o n (claim_course a ctx routes)
       (claim_cuts_to a routes (λ at e. e.answer ≡ answer.Cut) (λ at active. refl) ctx)
+
+-- what a shared step leaves of the routes
+pub published_lem : (a : Claim) (ctx routes : List ℕ) (r : Result Unit RouteError) →
+    published r answer.InterfaceBroken a.args.slot.0 a.old a.pending ctx routes ≡ claim_published r a ctx routes
+unfolding published claim_published
+published_lem a ctx routes (Ok _) = refl
+published_lem a ctx routes (Err _) = refl

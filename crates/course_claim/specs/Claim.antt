@@ -1,5 +1,6 @@
 -- The course of a claim after its checks: `_claim_interface` of the original.
-use Rattle.std.specs.Prelude.{ℕ, cond, List, length}
+use Rattle.std.specs.Prelude.{ℕ, cond, List, length, Result, Ok, Err, is_some}
+use Rattle.std.specs.Option.{unwrap_or}
 use Rattle.answer.specs.declared.Answer.TheVariants as answer
 use Rattle.command.specs.declared.Command.TheVariants as command
 use Rattle.command.specs.Course.{Course, ends, sends, on_sent, then}
@@ -7,8 +8,7 @@ use Rattle.command.specs.Sweep.{stop_endpoints, resume_stopped_endpoints, or_cod
 use Rattle.context.specs.Place.{written}
 use Rattle.context.specs.Steps.{configure_writes}
 use Rattle.record_endpoint.specs.EndpointMap.{queue_dcis}
-use Rattle.transfer.specs.declared.Replaced.{Replaced}
-use Rattle.transfer.specs.declared.Replaced.TheVariants as replace
+use Rattle.transfer.specs.declared.RouteError.{RouteError}
 use Rattle.transfer.specs.Routes.{Queue, replaced, with_replaced}
 use Rattle.course_steps.specs.End.{End, settings_kept, settings_moved, answer_of}
 use Rattle.course_steps.specs.Arrays.{dcis_in, queues_in}
@@ -26,6 +26,10 @@ pub record Claim : Type 0 where
   -- every endpoint of the record
   pub dcis : List ℕ
 
+-- The alternate setting to which a claim is undone, 0 where the interface holds none.
+abbrev pub undo_alternate : Claim → ℕ
+undo_alternate a = unwrap_or a.args.held_alternate 0
+
 -- The context of the Configure that drops the old endpoints and adds the new ones, and of the one that undoes it.
 unfoldable pub claim_context : Claim → List ℕ → List ℕ
 claim_context a ctx =
@@ -36,14 +40,13 @@ claim_context a ctx =
 unfoldable pub undo_context : Claim → List ℕ → List ℕ
 undo_context a ctx =
     written a.args.spacing
-    (configure_writes a.args.speed a.args.interface a.args.old_alternate a.new_words a.old_words a.old a.dcis)
+    (configure_writes a.args.speed a.args.interface (undo_alternate a) a.new_words a.old_words a.old a.dcis)
     ctx
 
 -- Old routes out, new routes in; routes that do not allow it break the interface.
-unfoldable pub claim_published : Replaced → Claim → List ℕ → List ℕ → End
-claim_published replace.Done a ctx routes = settings_moved answer.Accepted ctx (with_replaced routes a.args.slot.0 a.old a.pending)
-claim_published replace.InvalidEndpoint a ctx routes = settings_kept answer.InterfaceBroken 0 ctx routes
-claim_published replace.QueueFull a ctx routes = settings_kept answer.InterfaceBroken 0 ctx routes
+unfoldable pub claim_published : Result Unit RouteError → Claim → List ℕ → List ℕ → End
+claim_published (Ok _) a ctx routes = settings_moved answer.Accepted ctx (with_replaced routes a.args.slot.0 a.old a.pending)
+claim_published (Err _) a ctx routes = settings_kept answer.InterfaceBroken 0 ctx routes
 
 unfoldable pub claim_publish : Claim → List ℕ → List ℕ → Course End
 claim_publish a ctx routes = ends (claim_published (replaced routes a.args.slot.0 a.old a.pending) a ctx routes)
@@ -51,7 +54,7 @@ claim_publish a ctx routes = ends (claim_published (replaced routes a.args.slot.
 -- The device back at its old setting, after the controller is.
 unfoldable pub claim_switch_back : Claim → ℕ → List ℕ → List ℕ → Course End
 claim_switch_back a code ctx routes =
-    sends (command.SetInterface a.args.interface a.args.old_alternate) ctx
+    sends (command.SetInterface a.args.interface (undo_alternate a)) ctx
     (λ s.
     on_sent s
     (ends (settings_kept (answer.Failed code) (length a.old) ctx routes))
@@ -60,7 +63,7 @@ claim_switch_back a code ctx routes =
 
 unfoldable pub claim_undone : Claim → ℕ → List ℕ → List ℕ → Course End
 claim_undone a code ctx routes =
-    cond a.args.held (claim_switch_back a code ctx routes) (ends (settings_kept (answer.Failed code) (length a.old) ctx routes))
+    cond (is_some a.args.held_alternate) (claim_switch_back a code ctx routes) (ends (settings_kept (answer.Failed code) (length a.old) ctx routes))
 
 -- After a failed SetInterface: new endpoints dropped, old ones added again.
 unfoldable pub claim_undo : Claim → ℕ → List ℕ → List ℕ → Course End

@@ -3,19 +3,17 @@
 
 ghost use Rattle.std.specs.Prelude.{◌≡◌, List, ℕ, ◌+◌, ◌≤◌, length};
 ghost use Rattle.command.specs.Command.{LOG-ROOM};
-ghost use Rattle.record_endpoint.specs.Order.{PLACES};
 ghost use Rattle.command.specs.Course.{played};
 ghost use Rattle.course_steps.specs.Arrays.{course_leaves, queues_in, Room};
-ghost use Rattle.course_claim.specs.Claim.{claim_of, claim_publish, claim_undone, claim_undo, claim_switch, claim_configure, claim_course};
+ghost use Rattle.course_claim.specs.Claim.{claim_of, claim_undone, claim_undo, claim_switch, claim_configure, claim_course};
 
 use answer::Answer;
 use command::{Command, Sent};
 use course_steps::CourseEnd;
 use def::SlotId;
 use record_endpoint::Queues;
-use transfer::Replaced;
 
-// What is claimed: the interface, the alternate to be held, and the one that it holds, 0 where it holds none.
+// What is claimed: the interface, the alternate to be held, and the one that it holds, if any.
 #[derive(Clone, Copy)]
 pub struct ClaimArgs {
     pub slot: SlotId,
@@ -23,8 +21,7 @@ pub struct ClaimArgs {
     pub speed: u8,
     pub interface: u8,
     pub alternate: u8,
-    pub held: bool,
-    pub old_alternate: u8,
+    pub held_alternate: Option<u8>,
 }
 
 // The same with the endpoints of the old setting, those of the one to be held, and all of the record.
@@ -36,20 +33,6 @@ pub struct ClaimPlan {
     pub all: Queues,
 }
 
-fn publish(routes: &mut [u64], n: usize, a: ClaimPlan) -> CourseEnd
-    requires { (a.old.count ≤ PLACES) × (a.pending.count ≤ PLACES) }
-    ensures { (old new o ctx log : List ℕ) → course_leaves result ctx routes.new log ≡ played o n (claim_publish (claim_of a old new) ctx routes.old) log }
-{
-    let args = a.args;
-    let r = course_steps::publish_endpoint_routes(routes, args.slot, a.old, a.pending);
-    match r {
-        Replaced::Done => course_steps::settings_moved(Answer::Accepted, n),
-        Replaced::InvalidEndpoint | Replaced::QueueFull => {
-            course_steps::settings_kept(Answer::InterfaceBroken, n, 0)
-        }
-    }
-}
-
 // The device back at its old setting, if it held one, after the controller is.
 fn switch_back(log: &mut [u32], outcomes: &[u8], n: usize, a: ClaimPlan, code: u8) -> CourseEnd
     requires { (length (queues_in a.old) ≡ a.old.count) × (n + 1 ≤ length log.old) }
@@ -57,20 +40,19 @@ fn switch_back(log: &mut [u32], outcomes: &[u8], n: usize, a: ClaimPlan, code: u
         course_leaves result ctx routes log.new
         ≡ played outcomes.now n (claim_undone (claim_of a old new) code ctx routes) log.old }
 {
-    if !a.args.held {
+    let Some(alternate) = a.args.held_alternate else {
         return course_steps::settings_kept(Answer::Failed(code), n, a.old.count);
-    }
-    let s = command::send(
+    };
+    let next = n + 1;
+    match command::send(
         log,
         outcomes,
         n,
-        Command::SetInterface(a.args.interface, a.args.old_alternate),
-    );
-    let count = n + 1;
-    match s {
-        Sent::Done => course_steps::settings_kept(Answer::Failed(code), count, a.old.count),
-        Sent::Failed(_) => course_steps::settings_kept(Answer::InterfaceBroken, count, 0),
-        Sent::Cut => course_steps::settings_kept(Answer::Cut, count, 0),
+        Command::SetInterface(a.args.interface, alternate),
+    ) {
+        Sent::Done => course_steps::settings_kept(Answer::Failed(code), next, a.old.count),
+        Sent::Failed(_) => course_steps::settings_kept(Answer::InterfaceBroken, next, 0),
+        Sent::Cut => course_steps::settings_kept(Answer::Cut, next, 0),
     }
 }
 
@@ -92,20 +74,20 @@ fn rollback_interface_configuration(
         ≡ played outcomes.now n
         (claim_undo (claim_of a old_words.now new_words.now) code ctx.old routes) log.old }
 {
+    let alternate = a.args.held_alternate.unwrap_or(0);
     course_steps::prepare_configure(
         ctx,
         a.args.spacing,
         a.args.speed,
         a.args.interface,
-        a.args.old_alternate,
+        alternate,
         new_words,
         old_words,
         a.old,
         a.all,
     );
-    let s = command::send(log, outcomes, n, Command::Configure);
     let next = n + 1;
-    match s {
+    match command::send(log, outcomes, n, Command::Configure) {
         Sent::Done => switch_back(log, outcomes, next, a, code),
         Sent::Failed(_) => course_steps::settings_kept(Answer::InterfaceBroken, next, 0),
         Sent::Cut => course_steps::settings_kept(Answer::Cut, next, 0),
@@ -123,22 +105,23 @@ fn switch(
     new_words: &[u32],
 ) -> CourseEnd
     requires room { Room a.args.spacing (length ctx.old) a.old a.all }
-    requires count_bound { a.pending.count ≤ PLACES }
     requires n_in_bounds { n + 3 ≤ length log.old }
     ensures { course_leaves result ctx.new routes.new log.new
         ≡ played outcomes.now n
         (claim_switch (claim_of a old_words.now new_words.now) ctx.old routes.old)
         log.old }
 {
-    let s = command::send(
+    let next = n + 1;
+    match command::send(
         log,
         outcomes,
         n,
         Command::SetInterface(a.args.interface, a.args.alternate),
-    );
-    let next = n + 1;
-    match s {
-        Sent::Done => publish(routes, next, a),
+    ) {
+        Sent::Done => {
+            let refused = Answer::InterfaceBroken;
+            course_steps::publish(routes, a.args.slot, a.old, a.pending, next, refused)
+        }
         Sent::Failed(code) => rollback_interface_configuration(
             ctx, log, outcomes, next, a, old_words, new_words, code,
         ),
@@ -158,7 +141,6 @@ fn configure(
     new_words: &[u32],
 ) -> CourseEnd
     requires room { Room a.args.spacing (length ctx.old) a.old a.all }
-    requires count_bound { a.pending.count ≤ PLACES }
     requires count_in_bounds { n + a.old.count + 4 ≤ length log.old }
     ensures { course_leaves result ctx.new routes.new log.new
         ≡ played outcomes.now n
@@ -176,16 +158,12 @@ fn configure(
         a.pending,
         a.all,
     );
-    let s = command::send(log, outcomes, n, Command::Configure);
     let next = n + 1;
-    match s {
+    match command::send(log, outcomes, n, Command::Configure) {
         Sent::Done => switch(ctx, routes, log, outcomes, next, a, old_words, new_words),
-        Sent::Failed(code) => {
-            let back = course_steps::resume_stopped_endpoints(log, outcomes, next, a.old);
-            let resumed = back.sent;
-            let answer = course_steps::answer_of(command::or_code(code, resumed));
-            course_steps::settings_kept(answer, back.count, back.active)
-        }
+        Sent::Failed(code) => course_steps::resume(log, outcomes, next, a.old, |sent| {
+            course_steps::answer_of(command::or_code(code, sent))
+        }),
         Sent::Cut => course_steps::settings_kept(Answer::Cut, next, 0),
     }
 }
@@ -201,7 +179,6 @@ pub fn claim_interface(
     new_words: &[u32],
 ) -> CourseEnd
     requires room { Room a.args.spacing (length ctx.old) a.old a.all }
-    requires count_bound { a.pending.count ≤ PLACES }
     requires in_bounds { LOG-ROOM ≤ length log.old }
     ensures { course_leaves result ctx.new routes.new log.new
         ≡ played outcomes.now 0
@@ -209,11 +186,15 @@ pub fn claim_interface(
         log.old }
 {
     let stop = course_steps::stop_endpoints(log, outcomes, 0, a.old);
-    let s = stop.sent;
-    let count = stop.count;
-    match s {
-        Sent::Done => configure(ctx, routes, log, outcomes, count, a, old_words, new_words),
-        Sent::Failed(code) => course_steps::settings_kept(Answer::Failed(code), count, a.old.count),
-        Sent::Cut => course_steps::settings_kept(Answer::Cut, count, stop.active),
+    match stop.sent {
+        Sent::Done => configure(
+            ctx, routes, log, outcomes, stop.count, a, old_words, new_words,
+        ),
+        Sent::Failed(code) => course_steps::settings_kept(
+            Answer::Failed(code),
+            stop.count,
+            a.old.count,
+        ),
+        Sent::Cut => course_steps::settings_kept(Answer::Cut, stop.count, stop.active),
     }
 }

@@ -5,7 +5,6 @@ ghost use Rattle.std.specs.Prelude.{◌≡◌, List, ℕ, ◌+◌, ◌<◌, ◌�
 ghost use Rattle.command.specs.Command.{LOG-ROOM};
 ghost use Rattle.command.specs.Course.{played};
 ghost use Rattle.command.specs.Sweep.{stop_each};
-ghost use Rattle.record_endpoint.specs.Order.{PLACES};
 ghost use Rattle.course_steps.specs.Arrays.{dcis_in, course_leaves};
 ghost use Rattle.course_disconnect.specs.Disconnect.{stops_leave, disable, disconnect_course};
 
@@ -15,39 +14,21 @@ use course_steps::CourseEnd;
 use def::{Dci, SlotId};
 use record_endpoint::Queues;
 
-// Whether stopping was cut, and how many words the log has.
-#[derive(Clone, Copy)]
-pub struct Stops {
-    pub cut: bool,
-    pub count: usize,
-}
-
-// Stops the endpoints of some queues in order, past failures.
-fn stop_each(log: &mut [u32], outcomes: &[u8], n: usize, q: Queues) -> Stops
-    requires { (q.count ≤ PLACES) × (n + q.count ≤ length log.old) }
+// Stops some endpoints in order, past failures: how many words the log has then, as an error where a Stop was cut.
+// Only a cut ends it, and a failed command ends the loop of course_steps, so the two are no twins.
+fn stop_each(log: &mut [u32], outcomes: &[u8], n: usize, dcis: &[u8]) -> Result<usize, usize>
+    requires { n + length dcis.now ≤ length log.old }
     ensures { (ctx : List ℕ) →
         stops_leave result log.new ≡
-        played outcomes.now n (stop_each ctx (dcis_in q)) log.old }
+        played outcomes.now n (stop_each ctx dcis.now) log.old }
 {
-    let mut i = 0;
-    while i < q.count {
-        let at = n + i;
-        match command::send(log, outcomes, at, Command::Stop(Dci(q.dcis[i]))) {
-            Sent::Cut => {
-                return Stops {
-                    cut: true,
-                    count: at + 1,
-                };
-            }
-            _ => {
-                i += 1;
-            }
+    for (i, dci) in dcis.iter().enumerate() {
+        match command::send(log, outcomes, n + i, Command::Stop(Dci(*dci))) {
+            Sent::Cut => return Err(n + i + 1),
+            _ => {}
         }
     }
-    Stops {
-        cut: false,
-        count: n + i,
-    }
+    Ok(n + dcis.len())
 }
 
 // The outcome of Disable decides.
@@ -63,9 +44,8 @@ fn disable(
         course_leaves result ctx routes.new log.new ≡
         played outcomes.now n (disable slot.0 ctx routes.old) log.old }
 {
-    let s = command::send(log, outcomes, n, Command::Disable);
     let next = n + 1;
-    match s {
+    match command::send(log, outcomes, n, Command::Disable) {
         Sent::Done => {
             transfer::clear_slot(routes, slot);
             course_steps::settings_moved(Answer::Accepted, next)
@@ -83,20 +63,17 @@ pub fn disconnect(
     slot: SlotId,
     q: Queues,
 ) -> CourseEnd
-    requires { (q.count ≤ PLACES) × (LOG-ROOM ≤ length log.old) }
+    requires { LOG-ROOM ≤ length log.old }
     ensures { (ctx : List ℕ) →
         course_leaves result ctx routes.new log.new ≡
         played outcomes.now 0
         (disconnect_course slot.0 (dcis_in q) ctx routes.old) log.old }
 {
-    match command::send(log, outcomes, 0, Command::Stop(Dci(1))) {
+    match command::send(log, outcomes, 0, Command::Stop(Dci::CTRL)) {
         Sent::Cut => course_steps::settings_kept(Answer::Cut, 1, 0),
-        _ => {
-            let stops = stop_each(log, outcomes, 1, q);
-            if stops.cut {
-                return course_steps::settings_kept(Answer::Cut, stops.count, 0);
-            }
-            disable(routes, log, outcomes, stops.count, slot)
-        }
+        _ => match stop_each(log, outcomes, 1, &q.dcis[..q.count]) {
+            Ok(n) => disable(routes, log, outcomes, n, slot),
+            Err(n) => course_steps::settings_kept(Answer::Cut, n, 0),
+        },
     }
 }

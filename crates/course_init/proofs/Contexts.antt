@@ -16,7 +16,7 @@ use Rattle.hub.specs.Chain.{chain_ok}
 use Rattle.hub.specs.Route.{route_string}
 use Rattle.hub.specs.Translator.{translator_of}
 use Rattle.hub.proofs.Laws.{route_fits, translator_bytes}
-use Rattle.transfer.specs.declared.Replaced.TheVariants as replace
+use Rattle.std.specs.Prelude.{Ok}
 use Rattle.transfer.specs.Routes.{old_match, new_free, cleared, published, moved, replaced, with_replaced}
 use Rattle.answer.specs.declared.Answer.TheVariants as answer
 use Rattle.answer.specs.Answer.{number, is_accepted}
@@ -55,8 +55,8 @@ module _ (a : BringUp) (spacing : ℕ) (ctx routes : List ℕ) where
   -- The contexts of Address, of the addressed Evaluate, and of the set configuration.
   unfoldable pub addressed : List ℕ
   addressed =
-      address_context spacing a.speed (route_string a.hubs a.has_parent a.parent a.port)
-      (translator_of a.speed a.hubs a.has_parent a.parent a.port) a.root_port (control_ring a) ctx
+      address_context spacing a.speed (route_string a.hubs a.parent a.port)
+      (translator_of a.speed a.hubs a.parent a.port) a.root_port (control_ring a) ctx
 
   unfoldable pub sized : List ℕ
   sized = written spacing (max_packet_writes a.speed a.packet) addressed
@@ -114,7 +114,7 @@ module _ (a : BringUp) (spacing : ℕ) (ctx routes : List ℕ) where
   unfoldable pub ended_here : List ℕ → Brought
   ended_here at = brought answer.Cut (record { configured = true; value = a.value; list = a.list }) at routes
 
-  none_replaced : replaced routes a.slot [] [] ≡ replace.Done
+  none_replaced : replaced routes a.slot [] [] ≡ Ok (tt {0})
   unfolding replaced old_match new_free
   none_replaced = refl
 
@@ -180,16 +180,16 @@ no_dcis i l = absurd (omega arith)
 module _ (a : BringUp) (spacing : ℕ) (ctx routes : List ℕ) (sp : Spaced spacing (length ctx)) where
   -- Address: the device's place
   pub bring_up_address_reads :
-      speed_known a.speed ≡ true → chain_ok a.hubs a.has_parent a.parent ≡ true → a.port < 2 ^ 8 → a.root_port < 2 ^ 8 →
+      speed_known a.speed ≡ true → chain_ok a.hubs a.parent ≡ true → a.port < 2 ^ 8 → a.root_port < 2 ^ 8 →
       control_ring a < 2 ^ 64 →
-      AddressReads spacing a.speed (route_string a.hubs a.has_parent a.parent a.port)
-      (translator_of a.speed a.hubs a.has_parent a.parent a.port) a.root_port (control_ring a) (addressed a spacing ctx routes)
+      AddressReads spacing a.speed (route_string a.hubs a.parent a.port)
+      (translator_of a.speed a.hubs a.parent a.port) a.root_port (control_ring a) (addressed a spacing ctx routes)
   unfolding addressed
   bring_up_address_reads known chain port root_port ring =
-      let t = translator_bytes a.speed a.hubs a.has_parent a.parent a.port port in
-      address_promise spacing a.speed (route_string a.hubs a.has_parent a.parent a.port)
-      (translator_of a.speed a.hubs a.has_parent a.parent a.port) a.root_port (control_ring a) ctx sp (speed_fits a.speed known)
-      (route_fits a.hubs a.has_parent a.parent a.port chain) t.0 t.1 root_port ring
+      let t = translator_bytes a.speed a.hubs a.parent a.port port in
+      address_promise spacing a.speed (route_string a.hubs a.parent a.port)
+      (translator_of a.speed a.hubs a.parent a.port) a.root_port (control_ring a) ctx sp (speed_fits a.speed known)
+      (route_fits a.hubs a.parent a.port chain) t.0 t.1 root_port ring
 
   addressed_length : length (addressed a spacing ctx routes) ≡ length ctx
   unfolding addressed address_context

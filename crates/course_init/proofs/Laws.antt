@@ -10,7 +10,7 @@ use lib.ListN.{length, length-append}
 use Rattle.laws.proofs.Tests.{not_both}
 use Rattle.def.specs.Speed.{exponent_ok}
 use Rattle.descriptor_list.specs.Valid.{configurations}
-use Rattle.transfer.specs.declared.Replaced.TheVariants as replace
+use Rattle.std.specs.Prelude.{Ok}
 use Rattle.transfer.specs.Routes.{old_match, new_free, cleared, published, replaced, moved, with_replaced}
 use Rattle.answer.specs.declared.Answer.TheVariants as answer
 use Rattle.answer.specs.Answer.{number}
@@ -65,7 +65,7 @@ module _ (a : BringUp) (routes : List ℕ) where
   step_facts o n c read ctx next h =
       step_end (EndFacts a routes) o n c read ctx routes next h (λ code. failed_facts code read ctx) (cut_facts read ctx)
 
-  none_replaced : (slot : ℕ) → replaced routes slot [] [] ≡ replace.Done
+  none_replaced : (slot : ℕ) → replaced routes slot [] [] ≡ Ok (tt {0})
   unfolding replaced old_match new_free
   none_replaced slot = refl
 

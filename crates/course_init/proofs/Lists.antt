@@ -39,9 +39,6 @@ pub record Counted (list : List ℕ) (k left i : ℕ) : Type 0 where
   pub rest : first_configurations k list ≡ take i list ++ first_configurations left (drop i list)
 
 module _ (list : List ℕ) (k : ℕ) where
-  pub counted_start : Counted list k k 0
-  counted_start = record { inside = omega arith; rest = refl }
-
   module _ (left i : ℕ) (h : i < length list) (c : Counted list k left i) where
     behind : (x : List ℕ) → take i list ++ (get_or list i 0 ∷ x) ≡ take (i + 1) list ++ x
     behind x = rw (add-one i, take-suc list i 0 h, append_assoc)
@@ -70,10 +67,11 @@ none_left zero = refl
 none_left (suc k) = refl
 
 module _ (list : List ℕ) (k left i : ℕ) (c : Counted list k left i) where
-  -- where the list ends, the words behind are those
-  pub counted_end : length list ≤ i → first_configurations k list ≡ take i list
+  -- where the list ends, all its words are those
+  pub counted_end : length list ≤ i → first_configurations k list ≡ take (length list) list
   counted_end h =
-      c.rest ∙ rw (drop_of_length-le list h, none_left left, append-nil)
+      let e : i ≡ length list = omega (arith, c.inside) in
+      c.rest ∙ rw (drop_of_length-le list h, none_left left, append-nil, e)
 
   -- and where a configuration too many begins
   pub counted_enough : i < length list → eqb (kind (get_or list i 0)) CONFIGURATION ≡ true → left ≡ 0 →

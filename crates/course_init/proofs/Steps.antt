@@ -9,6 +9,7 @@ use borrow.Author.Rules.{rules}
 use borrow.Author.Tests.{eq-eqb, ne_eqb}
 use types.Run.{OneOf, miss}
 use denote.Enum.Declared.{tag_of}
+use Rattle.std.specs.Prelude.{Some, None}
 use lib.Dec.{eqb}
 use lib.ListN.{length, get_or, set}
 use Rattle.laws.proofs.Tests.{not_both}
@@ -31,7 +32,7 @@ use Rattle.hub.specs.Route.{route_string}
 use Rattle.hub.specs.Translator.{translator_of}
 use Rattle.context.specs.Place.{written, Spaced}
 use Rattle.context.specs.Steps.{address_context, max_packet_writes}
-use Rattle.record_endpoint.specs.declared.pending.Queues.{Queues}
+use Rattle.record_endpoint.specs.declared.queues.Queues.{Queues}
 use Rattle.course_steps.specs.End.{End, answer_of}
 use Rattle.course_steps.specs.Arrays.{dcis_in, queues_in, Room}
 use Rattle.course_set_configuration.specs.SetConfiguration.{set_course}
@@ -45,7 +46,7 @@ use Rattle.course_init.proofs.Lists.{valid_none, first_all, some_words, none_of}
 pub first_room : (s ctx : ℕ) (old : Queues) → Spaced s ctx → old.count ≡ 0 → queues_in old ≡ [] → Room s ctx old old
 unfolding dcis_in
 first_room s ctx old r n l =
-    record { spaced = r; few = rw n (omega arith); full = ap length l ∙ sym n; few_all = rw n (omega arith); dcis = rw n (λ i l. absurd (omega arith)) }
+    record { spaced = r; full = ap length l ∙ sym n; dcis = rw n (λ i l. absurd (omega arith)) }
 
 -- room in a context of the same length
 pub spaced_same : {s m n : ℕ} → Spaced s m → n ≡ m → Spaced s n
@@ -125,14 +126,14 @@ module _
   module _ (ctx routes : List ℕ) (next : Course Brought) (r : InitEnd) (rest : Played Brought) (h : NotDone s) where
     -- where nothing was read yet
     pub stopped_before : (list : List ℕ) → valid_list list ≡ true →
-        r ≡ record { answer = answer_of s; count = n + 1; configured = false; value = 0; configurations = 0 } →
+        r ≡ record { answer = answer_of s; count = n + 1; value = None; configurations = 0 } →
         played o n (step c nothing_read ctx routes next) log ≡ or_ended r list ctx routes left rest
     unfolding or_ended nothing_read
     stopped_before list v e = stopped nothing_read ctx routes next h ∙ rw (e, not_done s h, valid_none list v)
 
     -- where the value was read, and k configurations
     pub stopped_after : (a : BringUp) (k : ℕ) →
-        r ≡ record { answer = answer_of s; count = n + 1; configured = true; value = a.value; configurations = k } →
+        r ≡ record { answer = answer_of s; count = n + 1; value = Some a.value; configurations = k } →
         played o n (step c (read_up_to a k) ctx routes next) log ≡ or_ended r a.list ctx routes left rest
     unfolding or_ended read_up_to
     stopped_after a k e = stopped (read_up_to a k) ctx routes next h ∙ rw (e, not_done s h)
@@ -140,7 +141,7 @@ module _
 -- a header that is refused
 pub header_refused : (o list ctx routes log : List ℕ) (x : Answer) (r : InitEnd) (rest : Played Brought) (course : Course Brought) →
     valid_list list ≡ true → is_accepted x ≡ false →
-    r ≡ record { answer = x; count = 2; configured = false; value = 0; configurations = 0 } →
+    r ≡ record { answer = x; count = 2; value = None; configurations = 0 } →
     course ≡ ends (brought x nothing_read ctx routes) →
     played o 2 course log ≡ or_ended r list ctx routes log rest
 unfolding or_ended nothing_read number
@@ -148,7 +149,7 @@ header_refused o list ctx routes log x r rest course v n e f = rw (f, e, n, play
 
 -- it is no acceptance
 pub none_refused : {A : Type 0} (x : Answer) (r : InitEnd) → is_accepted x ≡ false →
-    r ≡ record { answer = x; count = 2; configured = false; value = 0; configurations = 0 } → is_accepted r.answer ≡ true → A
+    r ≡ record { answer = x; count = 2; value = None; configurations = 0 } → is_accepted r.answer ≡ true → A
 none_refused x r n e t = not_both (is_accepted x) (ap (λ (q : InitEnd). is_accepted q.answer) (sym e) ∙ t) n
 
 -- Configuration descriptors, of which i are read.
@@ -172,13 +173,13 @@ module _ (a : BringUp) (spacing : ℕ) (ctx routes o log : List ℕ) where
 
       -- or no more
       pub configs_stopped : (r : InitEnd) (rest : Played Brought) → NotDone s →
-          r ≡ record { answer = answer_of s; count = 6 + i; configured = true; value = a.value; configurations = i } →
+          r ≡ record { answer = answer_of s; count = 6 + i; value = Some a.value; configurations = i } →
           played o (5 + i) (bring_up_configs a spacing (k - i) i ctx routes) log ≡ or_ended r a.list ctx routes left rest
       configs_stopped r rest d e =
           let n : 6 + i ≡ 5 + i + 1 = omega arith in
           rw (configs_step h)
           (stopped_after o log (5 + i) (command.ReadConfig i) s left sent-as ctx routes _ r rest d a i
-          (e ∙ ap (λ (x : ℕ). record { answer = answer_of s; count = x; configured = true; value = a.value; configurations = i }) n))
+          (e ∙ ap (λ (x : ℕ). record { answer = answer_of s; count = x; value = Some a.value; configurations = i }) n))
 
     configs_end : k ≤ i → bring_up_configs a spacing (k - i) i ctx routes ≡ bring_up_set a spacing ctx routes
     unfolding bring_up_configs
@@ -192,7 +193,7 @@ module _ (a : BringUp) (spacing : ℕ) (ctx routes o log : List ℕ) where
 
   -- all of them are read
   pub rest_read : (log₀ : List ℕ) (i : ℕ) (r : InitEnd) → i ≤ configurations a.list → configurations a.list ≤ i → (i ≡ 0 → log ≡ log₀) →
-      r ≡ record { answer = answer.Accepted; count = 5 + i; configured = true; value = a.value; configurations = i } →
+      r ≡ record { answer = answer.Accepted; count = 5 + i; value = Some a.value; configurations = i } →
       played o 5 (bring_up_configs a spacing (configurations a.list) 0 ctx routes) log₀
       ≡ played o (5 + i) (bring_up_configs a spacing (configurations a.list - i) i ctx routes) log →
       played o 5 (bring_up_rest a spacing ctx routes) log₀ ≡ or_ended r a.list ctx routes log (after_read r o a spacing ctx routes log)
@@ -205,7 +206,7 @@ module _ (a : BringUp) (spacing : ℕ) (ctx routes o log : List ℕ) where
           (bring_up_configs a spacing (configurations a.list) 0 ctx routes))
           log₀
           ≡ cond b
-          (leaves_read (record { answer = answer.Accepted; count = 5 + i; configured = true; value = a.value; configurations = i }) a.list
+          (leaves_read (record { answer = answer.Accepted; count = 5 + i; value = Some a.value; configurations = i }) a.list
           ctx routes log)
           (played o (5 + i) (bring_up_set a spacing ctx routes) log)
       go true t = let n : i ≡ 0 = omega (arith, m, none_of a.list t) in rw (z n, n, played_ends)
@@ -268,8 +269,8 @@ module _
     (a : BringUp) (spacing : ℕ) (o ctx routes log : List ℕ) (ctx₁ log₁ : List ℕ) (r : InitEnd)
     (addressed :
     ctx₁
-    ≡ address_context spacing a.speed (route_string a.hubs a.has_parent a.parent a.port)
-    (translator_of a.speed a.hubs a.has_parent a.parent a.port) a.root_port (control_ring a) ctx)
+    ≡ address_context spacing a.speed (route_string a.hubs a.parent a.port)
+    (translator_of a.speed a.hubs a.parent a.port) a.root_port (control_ring a) ctx)
     (header :
     played o 0 (step command.Address nothing_read ctx₁ routes (bring_up_header a spacing ctx₁ routes)) log
     ≡ or_ended r a.list ctx₁ routes log₁ (played o 2 (bring_up_packet a spacing ctx₁ routes) log₁)) where

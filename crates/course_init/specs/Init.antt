@@ -87,7 +87,7 @@ bring_up_header a spacing ctx routes =
 -- The device is addressed, over a context of all zero.
 unfoldable pub bring_up_address : BringUp → ℕ → List ℕ → List ℕ → Course Brought
 bring_up_address a spacing ctx routes =
-    let route = route_string a.hubs a.has_parent a.parent a.port in
-    let translator = translator_of a.speed a.hubs a.has_parent a.parent a.port in
+    let route = route_string a.hubs a.parent a.port in
+    let translator = translator_of a.speed a.hubs a.parent a.port in
     let next = address_context spacing a.speed route translator a.root_port (control_ring a) ctx in
     step command.Address nothing_read next routes (bring_up_header a spacing next routes)

@@ -1,5 +1,5 @@
 -- What a bring-up is told of the device, and what it has read of it when it ends: 01, "Course of each call", "Values read and parsed descriptors are inputs".
-use Rattle.std.specs.Prelude.{ℕ, zero, suc, Bool, true, false, cond, List, [], ◌∷◌, eqb}
+use Rattle.std.specs.Prelude.{ℕ, zero, suc, Bool, true, false, cond, List, [], ◌∷◌, eqb, Option, is_some, unwrap_or}
 use Rattle.descriptor.specs.Word.{kind, CONFIGURATION}
 use Rattle.answer.specs.declared.Answer.{Answer}
 use Rattle.command.specs.Course.{Played}
@@ -13,8 +13,7 @@ pub record BringUp : Type 0 where
   pub max_slots : ℕ
   pub speed : ℕ
   pub hubs : List ℕ
-  pub has_parent : Bool
-  pub parent : ℕ
+  pub parent : Option ℕ
   pub port : ℕ
   pub root_port : ℕ
   -- the rings given to the slot
@@ -38,7 +37,6 @@ bring_up_of a rings hubs list =
       max_slots = a.max_slots;
       speed = a.speed;
       hubs = hubs;
-      has_parent = a.has_parent;
       parent = a.parent;
       port = a.port;
       root_port = a.root_port;
@@ -86,7 +84,7 @@ leaves_read r list ctx routes log =
       end =
           record {
             answer = r.answer;
-            read = record { configured = r.configured; value = r.value; list = first_configurations r.configurations list };
+            read = record { configured = is_some r.value; value = unwrap_or r.value 0; list = first_configurations r.configurations list };
             ctx = ctx;
             routes = routes;
           };

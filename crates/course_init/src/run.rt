@@ -1,5 +1,5 @@
 // A bring-up: what it reads takes the log alone, and says how far it got.
-ghost use Rattle.std.specs.Prelude.{◌≡◌, true, false, List, ℕ, ◌<◌, ◌≤◌, length};
+ghost use Rattle.std.specs.Prelude.{◌≡◌, true, List, ℕ, ◌<◌, ◌≤◌, length};
 ghost use Rattle.def.specs.Speed.{exponent_ok};
 ghost use Rattle.command.specs.Command.{LOG-ROOM};
 ghost use Rattle.descriptor_list.specs.Valid.{valid_list};
@@ -18,7 +18,7 @@ use command::{Command, Sent};
 use context_writer::address_context;
 use course_set_configuration::{SettingsArgs, run_set_configuration};
 use def::SlotId;
-use record_settings::HELD_ROOM;
+use record_settings::Settings;
 
 // The device's place, and what is read from it: `header` bytes with the packet size, and the configuration value.
 #[derive(Clone, Copy)]
@@ -26,8 +26,7 @@ pub struct BringUpArgs {
     pub slot: SlotId,
     pub max_slots: usize,
     pub speed: u8,
-    pub has_parent: bool,
-    pub parent: usize,
+    pub parent: Option<usize>,
     pub port: u8,
     pub root_port: u8,
     pub header: usize,
@@ -35,51 +34,42 @@ pub struct BringUpArgs {
     pub value: u8,
 }
 
-// How a bring-up ended: the configuration value, if it was read, and how many configurations were.
+// How a bring-up ended: the configuration value, if it was read or set, and how many configurations were read.
 #[derive(Clone, Copy)]
 pub struct InitEnd {
     pub answer: Answer,
     pub count: usize,
-    pub configured: bool,
-    pub value: u8,
+    pub value: Option<u8>,
     pub configurations: usize,
+}
+
+// How it stands where nothing was read.
+fn unread(answer: Answer, count: usize) -> InitEnd
+    ensures { result ≡ record { answer = answer; count = count; value = None; configurations = 0 } }
+{
+    InitEnd {
+        answer,
+        count,
+        value: None,
+        configurations: 0,
+    }
 }
 
 // How it stands after a command before anything was read.
 fn before_reading(s: Sent, count: usize) -> InitEnd
-    ensures { result ≡ record { answer = answer_of s; count = count; configured = false; value = 0; configurations = 0 } }
+    ensures { result ≡ record { answer = answer_of s; count = count; value = None; configurations = 0 } }
 {
-    InitEnd {
-        answer: course_steps::answer_of(s),
-        count,
-        configured: false,
-        value: 0,
-        configurations: 0,
-    }
-}
-
-// How it stands after a header that is refused.
-fn header_refused(answer: Answer) -> InitEnd
-    ensures { result ≡ record { answer = answer; count = 2; configured = false; value = 0; configurations = 0 } }
-{
-    InitEnd {
-        answer,
-        count: 2,
-        configured: false,
-        value: 0,
-        configurations: 0,
-    }
+    unread(course_steps::answer_of(s), count)
 }
 
 // How it stands after a command once the value was read.
 fn after_reading(s: Sent, count: usize, value: u8, configurations: usize) -> InitEnd
-    ensures { result ≡ record { answer = answer_of s; count = count; configured = true; value = value; configurations = configurations } }
+    ensures { result ≡ record { answer = answer_of s; count = count; value = Some value; configurations = configurations } }
 {
     InitEnd {
         answer: course_steps::answer_of(s),
         count,
-        configured: true,
-        value,
+        value: Some(value),
         configurations,
     }
 }
@@ -103,8 +93,8 @@ pub fn address(
         ≡ played outcomes.now 0
         (bring_up_address (bring_up_of a rings hubs.now list.now) spacing ctx.old routes.old) log.old }
 {
-    let path = hub::route_string(hubs, a.has_parent, a.parent, a.port);
-    let translator = hub::transaction_translator(a.speed, hubs, a.has_parent, a.parent, a.port);
+    let path = hub::route_string(hubs, a.parent, a.port);
+    let translator = hub::transaction_translator(a.speed, hubs, a.parent, a.port);
     address_context(ctx, spacing, a.speed, path, translator, a.root_port, ring);
     let addressed = read_header(log, outcomes, a);
     let answer = addressed.answer;
@@ -134,24 +124,18 @@ fn read_header(log: &mut [u32], outcomes: &[u8], a: BringUpArgs) -> InitEnd
         (played outcomes.now 2 (bring_up_packet (bring_up_of a rings hubs list) spacing ctx routes) log.new) }
 {
     let address = command::send(log, outcomes, 0, Command::Address);
-    match address {
-        Sent::Done => {}
-        _ => {
-            return before_reading(address, 1);
-        }
-    }
+    let Sent::Done = address else {
+        return before_reading(address, 1);
+    };
     let header = command::send(log, outcomes, 1, Command::ReadHeader);
-    match header {
-        Sent::Done => {}
-        _ => {
-            return before_reading(header, 2);
-        }
-    }
+    let Sent::Done = header else {
+        return before_reading(header, 2);
+    };
     if a.header != 8 {
-        return header_refused(Answer::ShortHeader);
+        return unread(Answer::ShortHeader, 2);
     }
     if !def::exponent_ok(a.speed, a.packet) {
-        return header_refused(Answer::PacketExponent);
+        return unread(Answer::PacketExponent, 2);
     }
     before_reading(header, 2)
 }
@@ -169,26 +153,17 @@ fn read_descriptors(log: &mut [u32], outcomes: &[u8], a: BringUpArgs, list: &[u3
         (after_read result outcomes.now (bring_up_of a rings hubs list.now) spacing ctx routes log.new) }
 {
     let packet = command::send(log, outcomes, 2, Command::Evaluate);
-    match packet {
-        Sent::Done => {}
-        _ => {
-            return before_reading(packet, 3);
-        }
-    }
+    let Sent::Done = packet else {
+        return before_reading(packet, 3);
+    };
     let value = command::send(log, outcomes, 3, Command::ReadConfiguration);
-    match value {
-        Sent::Done => {}
-        _ => {
-            return before_reading(value, 4);
-        }
-    }
+    let Sent::Done = value else {
+        return before_reading(value, 4);
+    };
     let device = command::send(log, outcomes, 4, Command::ReadDevice);
-    match device {
-        Sent::Done => {}
-        _ => {
-            return after_reading(device, 5, a.value, 0);
-        }
-    }
+    let Sent::Done = device else {
+        return after_reading(device, 5, a.value, 0);
+    };
     read_configs(log, outcomes, a, list)
 }
 
@@ -203,18 +178,13 @@ fn read_configs(log: &mut [u32], outcomes: &[u8], a: BringUpArgs, list: &[u32]) 
         (after_read result outcomes.now (bring_up_of a rings hubs list.now) spacing ctx routes log.new) }
 {
     let all = descriptor_list::count_configurations(list);
-    let mut i = 0;
-    while i < all {
+    for i in 0..all {
         let s = command::send(log, outcomes, 5 + i, Command::ReadConfig(i as u8));
-        match s {
-            Sent::Done => {}
-            _ => {
-                return after_reading(s, 6 + i, a.value, i);
-            }
-        }
-        i += 1;
+        let Sent::Done = s else {
+            return after_reading(s, 6 + i, a.value, i);
+        };
     }
-    after_reading(Sent::Done, 5 + i, a.value, i)
+    after_reading(Sent::Done, 5 + all, a.value, all)
 }
 
 // Sets the first configuration; no interface holds a setting yet.
@@ -235,15 +205,12 @@ fn set_first(
         (bring_up_set (bring_up_of a rings hubs list.now) spacing ctx.old routes.old) log.old }
 {
     let value = descriptor::configuration_value(list[0]);
-    let slot = a.slot;
     let settings = SettingsArgs {
-        slot,
+        slot: a.slot,
         spacing,
         speed: a.speed,
         value,
-        interfaces: [0; HELD_ROOM],
-        alternates: [0; HELD_ROOM],
-        held: 0,
+        held: Settings::NONE,
         old: course_steps::no_queues(),
     };
     let e = run_set_configuration(ctx, routes, log, outcomes, read.count, settings, list);
@@ -251,12 +218,11 @@ fn set_first(
     let mut r = InitEnd {
         answer,
         count: e.count,
-        configured: true,
-        value: a.value,
+        value: Some(a.value),
         configurations: read.configurations,
     };
     if let Answer::Accepted = answer {
-        r.value = value;
+        r.value = Some(value);
     }
     r
 }

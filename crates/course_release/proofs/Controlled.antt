@@ -4,6 +4,7 @@ use mathlib.Core.Path.{◌≡◌, refl, ◌∙◌}
 use mathlib.Core.Bool.{Bool, not, ◌&&◌}
 use mathlib.Core.List.{List, []}
 use lib.ListN.{length, get_or}
+use Rattle.std.specs.Prelude.{Result, Ok, Err}
 use Rattle.answer.specs.declared.Answer.TheVariants as answer
 use Rattle.command.specs.declared.Command.{Command}
 use Rattle.command.specs.declared.Command.TheVariants as command
@@ -18,8 +19,7 @@ use Rattle.command.proofs.Sweeps.{stop_each_lem, resume_each}
 use Rattle.context_block.specs.Blocks.{some_dci}
 use Rattle.context.specs.Place.{Spaced}
 use Rattle.record_endpoint.specs.EndpointMap.{queue_dcis}
-use Rattle.transfer.specs.declared.Replaced.{Replaced}
-use Rattle.transfer.specs.declared.Replaced.TheVariants as replace
+use Rattle.transfer.specs.declared.RouteError.{RouteError}
 use Rattle.transfer.specs.Routes.{replaced}
 use Rattle.course_steps.specs.End.{End, configure_failed}
 use Rattle.theorem_controller.specs.Controller.{configured, enabled_after}
@@ -85,12 +85,11 @@ module _ (a : Release) (ctx routes : List ℕ) (sp : Spaced a.spacing (length ct
       (λ code e. told_failed (λ u. refl))
       (λ e. told_cut))
     where
-      published : (r : Replaced) →
+      published : (r : Result Unit RouteError) →
           Told (enabled d) made (Unit {0}) (release_published r a (release_context a ctx) routes).answer
           (configured (release_context a ctx) enabled d)
-      published replace.Done = told_accepted release_configured
-      published replace.InvalidEndpoint = told_invalid
-      published replace.QueueFull = told_invalid
+      published (Ok _) = told_accepted release_configured
+      published (Err _) = told_invalid
 
       resumed : (code : ℕ) (s : Sent) → Told (enabled d) made (Unit {0}) (configure_failed code s) (enabled d)
       resumed code sent.Done = told_failed (λ u. refl)

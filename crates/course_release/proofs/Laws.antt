@@ -6,6 +6,7 @@ use mathlib.Core.List.{List, []}
 use mathlib.Core.Logic.{◌⊎◌, inl, inr}
 use native.Mathlib.Omega.{arith}
 use lib.ListN.{length, length-append}
+use Rattle.std.specs.Prelude.{Result, Ok, Err}
 use Rattle.answer.specs.declared.Answer.{Answer}
 use Rattle.answer.specs.declared.Answer.TheVariants as answer
 use Rattle.answer.specs.Answer.{number}
@@ -18,10 +19,9 @@ use Rattle.command.proofs.Cuts.{on_sent_lem, each_outcome}
 use Rattle.command.proofs.Laws.{words_then, result_then}
 use Rattle.command.proofs.Sweeps.{words_length_resume, words_length_stop, stop_done, stop_cuts, resume_cuts, sweep_cut_ends}
 use Rattle.record_endpoint.specs.EndpointMap.{queue_dcis}
-use Rattle.transfer.specs.declared.Replaced.{Replaced}
-use Rattle.transfer.specs.declared.Replaced.TheVariants as replace
+use Rattle.transfer.specs.declared.RouteError.{RouteError}
 use Rattle.transfer.specs.Routes.{replaced, with_replaced}
-use Rattle.course_steps.specs.End.{End, settings_kept, configure_failed}
+use Rattle.course_steps.specs.End.{published, End, settings_kept, configure_failed}
 use Rattle.course_steps.proofs.Laws.{length_dcis}
 use Rattle.course_release.specs.Release.{Release, release_context, release_published, release_publish, release_resume, release_configure, release_course}
 
@@ -81,7 +81,7 @@ release_cuts a ctx routes =
 pub record Gone (a : Release) (routes : List ℕ) (e : End) : Type 0 where
   pub accepted : e.answer ≡ answer.Accepted
   pub moved : e.moved ≡ true
-  pub there : replaced routes a.slot a.old [] ≡ replace.Done
+  pub there : replaced routes a.slot a.old [] ≡ Ok tt
   pub left : e.routes ≡ with_replaced routes a.slot a.old []
 
 -- Answered 13 or more: the routes are as they were.
@@ -102,12 +102,11 @@ Says a routes e = Gone a routes e ⊎ Stayed routes e
 stayed : (a : Release) (x : Answer) (n : ℕ) (ctx routes : List ℕ) → 13 ≤ number x → Says a routes (settings_kept x n ctx routes)
 stayed a x n ctx routes h = inr (record { refused = h; kept = refl; left = refl })
 
-published_says : (a : Release) (ctx routes : List ℕ) (r : Replaced) → replaced routes a.slot a.old [] ≡ r →
+published_says : (a : Release) (ctx routes : List ℕ) (r : Result Unit RouteError) → replaced routes a.slot a.old [] ≡ r →
     Says a routes (release_published r a ctx routes)
 unfolding release_published number
-published_says a ctx routes replace.Done e = inl (record { accepted = refl; moved = refl; there = e; left = refl })
-published_says a ctx routes replace.InvalidEndpoint e = stayed a answer.InvalidEndpoint 0 ctx routes (omega arith)
-published_says a ctx routes replace.QueueFull e = stayed a answer.InvalidEndpoint 0 ctx routes (omega arith)
+published_says a ctx routes (Ok _) e = inl (record { accepted = refl; moved = refl; there = e; left = refl })
+published_says a ctx routes (Err _) e = stayed a answer.InvalidEndpoint 0 ctx routes (omega arith)
 
 failed_number : (code : ℕ) (s : Sent) → 13 ≤ number (configure_failed code s)
 unfolding configure_failed number
@@ -143,16 +142,14 @@ OneAnswer a routes x =
     (x ≡ answer.Accepted)
     ⊎ ((code : ℕ) × (x ≡ answer.Failed code))
     ⊎ (x ≡ answer.Cut)
-    ⊎ ((x ≡ answer.InvalidEndpoint) × (replaced routes a.slot a.old [] ≡ replace.Done → ⊥))
+    ⊎ ((x ≡ answer.InvalidEndpoint) × (replaced routes a.slot a.old [] ≡ Ok tt → ⊥))
 
-published_answers : (a : Release) (ctx routes : List ℕ) (r : Replaced) → replaced routes a.slot a.old [] ≡ r →
+published_answers : (a : Release) (ctx routes : List ℕ) (r : Result Unit RouteError) → replaced routes a.slot a.old [] ≡ r →
     OneAnswer a routes (release_published r a ctx routes).answer
 unfolding release_published
-published_answers a ctx routes replace.Done e = inl refl
-published_answers a ctx routes replace.InvalidEndpoint e =
-    inr (inr (inr (refl, λ d. let z : ◌≡◌ {A = ℕ} 0 1 = cc in omega arith)))
-published_answers a ctx routes replace.QueueFull e =
-    inr (inr (inr (refl, λ d. let z : ◌≡◌ {A = ℕ} 0 1 = cc in omega arith)))
+published_answers a ctx routes (Ok _) e = inl refl
+published_answers a ctx routes (Err _) e =
+    inr (inr (inr (refl, λ d. cc)))
 
 failed_answers : (a : Release) (routes : List ℕ) (code : ℕ) (s : Sent) → OneAnswer a routes (configure_failed code s)
 unfolding configure_failed
@@ -181,3 +178,10 @@ module _ (a : Release) (routes o : List ℕ) where
       (λ e. configure_answers ctx m)
       (λ code e. inr (inl (code, refl)))
       (λ e. inr (inr (inl refl))))
+
+-- what a shared step leaves of the routes
+pub published_lem : (a : Release) (ctx routes : List ℕ) (r : Result Unit RouteError) →
+    published r answer.InvalidEndpoint a.slot a.old [] ctx routes ≡ release_published r a ctx routes
+unfolding published release_published
+published_lem a ctx routes (Ok _) = refl
+published_lem a ctx routes (Err _) = refl

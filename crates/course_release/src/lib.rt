@@ -3,17 +3,15 @@
 
 ghost use Rattle.std.specs.Prelude.{◌≡◌, List, ℕ, ◌+◌, ◌≤◌, length};
 ghost use Rattle.command.specs.Command.{LOG-ROOM};
-ghost use Rattle.record_endpoint.specs.Order.{PLACES};
 ghost use Rattle.command.specs.Course.{played};
 ghost use Rattle.course_steps.specs.Arrays.{course_leaves, Room};
-ghost use Rattle.course_release.specs.Release.{release_of, release_publish, release_configure, release_course};
+ghost use Rattle.course_release.specs.Release.{release_of, release_configure, release_course};
 
 use answer::Answer;
 use command::{Command, Sent};
 use course_steps::CourseEnd;
 use def::SlotId;
 use record_endpoint::Queues;
-use transfer::Replaced;
 
 // The interface's setting (alternate 0 where it holds none), its endpoints, and all endpoints of the record.
 #[derive(Clone, Copy)]
@@ -25,20 +23,6 @@ pub struct ReleaseArgs {
     pub alternate: u8,
     pub old: Queues,
     pub all: Queues,
-}
-
-fn publish(routes: &mut [u64], n: usize, a: ReleaseArgs) -> CourseEnd
-    requires { a.old.count ≤ PLACES }
-    ensures { (words o ctx log : List ℕ) → course_leaves result ctx routes.new log ≡ played o n (release_publish (release_of a words) ctx routes.old) log }
-{
-    let none = course_steps::no_queues();
-    let r = course_steps::publish_endpoint_routes(routes, a.slot, a.old, none);
-    match r {
-        Replaced::Done => course_steps::settings_moved(Answer::Accepted, n),
-        Replaced::InvalidEndpoint | Replaced::QueueFull => {
-            course_steps::settings_kept(Answer::InvalidEndpoint, n, 0)
-        }
-    }
 }
 
 // Where the Configure fails, the endpoints are resumed; its code is the answer, even if a resume fails.
@@ -65,20 +49,23 @@ fn configure(
         a.interface,
         a.alternate,
         words,
-        &[0u32; 0],
+        &[],
         none,
         a.all,
     );
-    let s = command::send(log, outcomes, n, Command::Configure);
     let next = n + 1;
-    match s {
-        Sent::Done => publish(routes, next, a),
-        Sent::Failed(code) => {
-            let back = course_steps::resume_stopped_endpoints(log, outcomes, next, a.old);
-            let resumed = back.sent;
-            let answer = course_steps::configure_failed(code, resumed);
-            course_steps::settings_kept(answer, back.count, back.active)
-        }
+    match command::send(log, outcomes, n, Command::Configure) {
+        Sent::Done => course_steps::publish(
+            routes,
+            a.slot,
+            a.old,
+            none,
+            next,
+            Answer::InvalidEndpoint,
+        ),
+        Sent::Failed(code) => course_steps::resume(log, outcomes, next, a.old, |sent| {
+            course_steps::configure_failed(code, sent)
+        }),
         Sent::Cut => course_steps::settings_kept(Answer::Cut, next, 0),
     }
 }
@@ -99,8 +86,7 @@ pub fn release_interface(
         log.old }
 {
     let stop = course_steps::stop_endpoints(log, outcomes, 0, a.old);
-    let s = stop.sent;
-    match s {
+    match stop.sent {
         Sent::Done => configure(ctx, routes, log, outcomes, stop.count, a, words),
         Sent::Failed(code) => course_steps::settings_kept(
             Answer::Failed(code),

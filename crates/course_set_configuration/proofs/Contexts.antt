@@ -5,6 +5,7 @@ use mathlib.Core.List.{List, []}
 use native.Mathlib.Omega.{arith}
 use lib.Dec.{lit<}
 use lib.ListN.{length}
+use Rattle.std.specs.Prelude.{Ok}
 use Rattle.answer.specs.declared.Answer.TheVariants as answer
 use Rattle.command.specs.declared.Command.TheVariants as command
 use Rattle.command.specs.declared.Sent.TheVariants as sent
@@ -17,7 +18,6 @@ use Rattle.context.specs.Promises.{Endpoints, EndpointDcis, ConfigureReads, Conf
 use Rattle.context.proofs.Laws.{written_length}
 use Rattle.context.proofs.Promises.{configure_promise, configuration_promise}
 use Rattle.record_endpoint.specs.EndpointMap.{queue_dcis}
-use Rattle.transfer.specs.declared.Replaced.TheVariants as replace
 use Rattle.transfer.specs.Routes.{ring_for, replaced, with_replaced}
 use Rattle.course_steps.specs.End.{settings_kept, settings_moved}
 use Rattle.course_steps.proofs.Empty.{no_endpoints_lem, no_ring}
@@ -76,7 +76,7 @@ module _ (a : Settings) (ctx routes o : List ℕ) (m : ℕ) where
       let two : n + 1 + 1 ≡ n + 2 = omega arith in
       rw two at (comes_then o (set_switched h) (comes_sends o (n + 1) _ _ _ (sent.Failed code) f))
 
-  pub set_to_evaluate : AllDone o m (length a.old + 2) → replaced routes a.slot a.old [] ≡ replace.Done →
+  pub set_to_evaluate : AllDone o m (length a.old + 2) → replaced routes a.slot a.old [] ≡ Ok tt →
       Comes o m (set_course a ctx routes) (m + length a.old + 2)
       (set_evaluate a (drop_context a ctx) (with_replaced routes a.slot a.old []))
   unfolding set_switch set_publish set_published on_sent
@@ -104,7 +104,7 @@ module _ (a : Settings) (ctx routes o : List ℕ) where
       let z : 0 + length a.old ≡ length a.old = omega arith in
       cut_here o _ (length a.old + 2) _ _ _ _ (rw z at (set_to_restore a ctx routes o 0 code h (rw z f))) e refl
 
-  pub set_at_evaluate : AllDone o 0 (length a.old + 2) → replaced routes a.slot a.old [] ≡ replace.Done →
+  pub set_at_evaluate : AllDone o 0 (length a.old + 2) → replaced routes a.slot a.old [] ≡ Ok tt →
       outcome_at o (length a.old + 2) ≡ sent.Cut →
       CutHere o (set_course a ctx routes) (length a.old + 2) command.Evaluate
       (settings_moved answer.Cut (value_context a (drop_context a ctx)) (with_replaced routes a.slot a.old []))

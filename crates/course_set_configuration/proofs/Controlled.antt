@@ -4,6 +4,7 @@ use mathlib.Core.Path.{◌≡◌, refl, ◌∙◌}
 use mathlib.Core.Bool.{Bool, true, false, not, ◌&&◌}
 use mathlib.Core.List.{List}
 use lib.ListN.{length}
+use Rattle.std.specs.Prelude.{Result, Ok, Err}
 use Rattle.laws.proofs.Tests.{not_both}
 use Rattle.answer.specs.declared.Answer.TheVariants as answer
 use Rattle.command.specs.declared.Command.TheVariants as command
@@ -15,8 +16,7 @@ use Rattle.command.proofs.Operations.{operation}
 use Rattle.context_block.specs.Blocks.{some_dci}
 use Rattle.context.specs.Place.{Spaced}
 use Rattle.record_endpoint.specs.EndpointMap.{queue_dcis}
-use Rattle.transfer.specs.declared.Replaced.{Replaced}
-use Rattle.transfer.specs.declared.Replaced.TheVariants as replace
+use Rattle.transfer.specs.declared.RouteError.{RouteError}
 use Rattle.course_steps.specs.End.{End, configure_failed}
 use Rattle.theorem_controller.specs.Controller.{configured, enabled_after}
 use Rattle.theorem_controller.proofs.Followed.{followed, Follows, follows_result}
@@ -51,14 +51,13 @@ module _ (a : Settings) (ctx routes : List ℕ) (sp : Spaced a.spacing (length c
   set_restored_lem u =
       configured_undone a.spacing ctx sp d two h _ _ _ _ _ _ _ _ _ enabled u (λ e. not_both false e refl)
 
-  published_follows : (r : Replaced) → Follows enabled_after Says (configured dropped enabled) (set_published r a dropped routes)
+  published_follows : (r : Result Unit RouteError) → Follows enabled_after Says (configured dropped enabled) (set_published r a dropped routes)
   unfolding set_published set_evaluate Follows Says operation
-  published_follows replace.Done =
+  published_follows (Ok _) =
       follows_other Says (configured dropped enabled) command.Evaluate refl (value_context a dropped) _ _ _ (told_accepted set_dropped)
       (λ code. told_broken)
       told_cut
-  published_follows replace.InvalidEndpoint = told_invalid
-  published_follows replace.QueueFull = told_invalid
+  published_follows (Err _) = told_invalid
 
   restore_follows : (code : ℕ) → Follows enabled_after Says (configured dropped enabled) (set_restore a code dropped routes)
   unfolding set_restore set_restored Follows Says

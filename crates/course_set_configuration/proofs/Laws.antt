@@ -6,6 +6,7 @@ use mathlib.Core.List.{List, []}
 use mathlib.Core.Logic.{◌⊎◌, inl, inr}
 use native.Mathlib.Omega.{arith}
 use lib.ListN.{length, get_or, length-append}
+use Rattle.std.specs.Prelude.{Result, Ok, Err}
 use Rattle.laws.proofs.Tests.{not_both}
 use Rattle.answer.specs.declared.Answer.{Answer}
 use Rattle.answer.specs.declared.Answer.TheVariants as answer
@@ -23,8 +24,7 @@ use Rattle.command.proofs.Laws.{words_then, result_then}
 use Rattle.command.proofs.Operations.{ByteOperands, operation, EachCommand, each_then}
 use Rattle.command.proofs.Sweeps.{words_length_resume, words_length_stop, stop_done, stop_cuts, resume_cuts, sweep_cut_ends, stop_each_lem, resume_each}
 use Rattle.record_endpoint.specs.EndpointMap.{queue_dcis}
-use Rattle.transfer.specs.declared.Replaced.{Replaced}
-use Rattle.transfer.specs.declared.Replaced.TheVariants as replace
+use Rattle.transfer.specs.declared.RouteError.{RouteError}
 use Rattle.transfer.specs.Routes.{replaced, with_replaced}
 use Rattle.course_steps.specs.End.{End, settings_kept, settings_moved, configure_failed}
 use Rattle.course_steps.proofs.Laws.{length_dcis}
@@ -77,11 +77,10 @@ module _ (a : Settings) (routes o : List ℕ) where
   unfolding set_publish set_published set_evaluate words
   publish_words ctx n = go (replaced routes a.slot a.old [])
     where
-      go : (r : Replaced) → length (words o n (set_published r a ctx routes)) ≤ length a.old + 1
-      go replace.Done =
+      go : (r : Result Unit RouteError) → length (words o n (set_published r a ctx routes)) ≤ length a.old + 1
+      go (Ok _) =
           sent_words o (n + 1) (length a.old) (outcome_at o n) _ _ _ (none_sent _) (λ code. none_sent _) (none_sent _)
-      go replace.InvalidEndpoint = none_sent _
-      go replace.QueueFull = none_sent _
+      go (Err _) = none_sent _
 
   switch_words : (ctx : List ℕ) (n : ℕ) → length (words o n (set_switch a ctx routes)) ≤ length a.old + 1 + 1
   unfolding set_switch words
@@ -119,11 +118,10 @@ module _ (a : Settings) where
   evaluate_cuts ctx routes =
       (refl, each_outcome (CutEnds (λ e. e.ctx)) _ _ _ tt (λ code. tt) tt)
 
-  published_cuts : (r : Replaced) (ctx routes : List ℕ) → CutEnds (λ e. e.ctx) (set_published r a ctx routes)
+  published_cuts : (r : Result Unit RouteError) (ctx routes : List ℕ) → CutEnds (λ e. e.ctx) (set_published r a ctx routes)
   unfolding set_published CutsTo
-  published_cuts replace.Done ctx routes = evaluate_cuts ctx (with_replaced routes a.slot a.old [])
-  published_cuts replace.InvalidEndpoint ctx routes = tt
-  published_cuts replace.QueueFull ctx routes = tt
+  published_cuts (Ok _) ctx routes = evaluate_cuts ctx (with_replaced routes a.slot a.old [])
+  published_cuts (Err _) ctx routes = tt
 
   resume_ends : (code : ℕ) (ctx routes : List ℕ) → CutEnds (λ e. e.ctx) (set_resume a code ctx routes)
   unfolding set_resume CutsTo EndsWith
@@ -184,11 +182,10 @@ module _ (P : Command → Type 0) (a : Settings) where
   unfolding set_evaluate EachCommand
   evaluate_sends p ctx routes = (p, each_outcome (EachCommand P) _ _ _ tt (λ code. tt) tt)
 
-  published_sends : P command.Evaluate → (r : Replaced) (ctx routes : List ℕ) → EachCommand P (set_published r a ctx routes)
+  published_sends : P command.Evaluate → (r : Result Unit RouteError) (ctx routes : List ℕ) → EachCommand P (set_published r a ctx routes)
   unfolding set_published EachCommand
-  published_sends p replace.Done ctx routes = evaluate_sends p ctx (with_replaced routes a.slot a.old [])
-  published_sends p replace.InvalidEndpoint ctx routes = tt
-  published_sends p replace.QueueFull ctx routes = tt
+  published_sends p (Ok _) ctx routes = evaluate_sends p ctx (with_replaced routes a.slot a.old [])
+  published_sends p (Err _) ctx routes = tt
 
   -- What holds of every command that it can send.
   pub record OfEach : Type 0 where
@@ -226,13 +223,13 @@ pub data SetEnd (a : Settings) (routes : List ℕ) : Bool → End → Type 0 whe
   failed : (code active : ℕ) (ctx : List ℕ) → SetEnd a routes false (settings_kept (answer.Failed code) active ctx routes)
   broken : (active : ℕ) (ctx : List ℕ) → SetEnd a routes false (settings_kept answer.InterfaceBroken active ctx routes)
   cut : (active : ℕ) (ctx : List ℕ) → SetEnd a routes false (settings_kept answer.Cut active ctx routes)
-  invalid : (ctx : List ℕ) → (replaced routes a.slot a.old [] ≡ replace.Done → ⊥) →
+  invalid : (ctx : List ℕ) → (replaced routes a.slot a.old [] ≡ Ok tt → ⊥) →
       SetEnd a routes true (settings_kept answer.InvalidEndpoint 0 ctx routes)
-  accepted : (ctx : List ℕ) → replaced routes a.slot a.old [] ≡ replace.Done →
+  accepted : (ctx : List ℕ) → replaced routes a.slot a.old [] ≡ Ok tt →
       SetEnd a routes true (settings_moved answer.Accepted ctx (with_replaced routes a.slot a.old []))
-  broken_late : (ctx : List ℕ) → replaced routes a.slot a.old [] ≡ replace.Done →
+  broken_late : (ctx : List ℕ) → replaced routes a.slot a.old [] ≡ Ok tt →
       SetEnd a routes true (settings_moved answer.InterfaceBroken ctx (with_replaced routes a.slot a.old []))
-  cut_late : (ctx : List ℕ) → replaced routes a.slot a.old [] ≡ replace.Done →
+  cut_late : (ctx : List ℕ) → replaced routes a.slot a.old [] ≡ Ok tt →
       SetEnd a routes true (settings_moved answer.Cut ctx (with_replaced routes a.slot a.old []))
 
 module _ (a : Settings) (routes o : List ℕ) where
@@ -261,14 +258,13 @@ module _ (a : Settings) (routes o : List ℕ) where
       on_sent_lem (λ (c : Course End). SetEnd a routes false (result o (n + 1) c)) (outcome_at o n) _ _ _
       (λ e. restored_end (restore_context a ctx) (n + 1) code) (λ later e. broken 0 _) (λ e. cut 0 _)
 
-  published_end : (ctx : List ℕ) (n : ℕ) (r : Replaced) → replaced routes a.slot a.old [] ≡ r →
+  published_end : (ctx : List ℕ) (n : ℕ) (r : Result Unit RouteError) → replaced routes a.slot a.old [] ≡ r →
       SetEnd a routes true (result o n (set_published r a ctx routes))
   unfolding set_published set_evaluate result
-  published_end ctx n replace.Done e =
+  published_end ctx n (Ok _) e =
       on_sent_lem (λ (c : Course End). SetEnd a routes true (result o (n + 1) c)) (outcome_at o n) _ _ _ (λ s. accepted _ e)
       (λ code s. broken_late _ e) (λ s. cut_late _ e)
-  published_end ctx n replace.InvalidEndpoint e = invalid ctx (λ d. let z : ◌≡◌ {A = ℕ} 0 1 = cc in omega arith)
-  published_end ctx n replace.QueueFull e = invalid ctx (λ d. let z : ◌≡◌ {A = ℕ} 0 1 = cc in omega arith)
+  published_end ctx n (Err _) e = invalid ctx (λ d. cc)
 
   switch_end : (ctx : List ℕ) (n : ℕ) →
       SetEnd a routes (done_in SET-CONFIGURATION o n (set_switch a ctx routes)) (result o n (set_switch a ctx routes))
@@ -316,10 +312,10 @@ module _ (a : Settings) (routes o : List ℕ) where
 
 -- Of an end: the old routes are out exactly if SetConfiguration is done and the routes allow it.
 pub record Routed (a : Settings) (routes : List ℕ) (switched : Bool) (e : End) : Type 0 where
-  pub out : switched ≡ true → replaced routes a.slot a.old [] ≡ replace.Done → e.moved ≡ true
+  pub out : switched ≡ true → replaced routes a.slot a.old [] ≡ Ok tt → e.moved ≡ true
   pub gone : e.moved ≡ true →
       (switched ≡ true)
-      × (replaced routes a.slot a.old [] ≡ replace.Done)
+      × (replaced routes a.slot a.old [] ≡ Ok tt)
       × (e.routes ≡ with_replaced routes a.slot a.old [])
   pub kept : e.moved ≡ false → e.routes ≡ routes
 
@@ -338,7 +334,7 @@ pub record Answered (a : Settings) (routes : List ℕ) (e : End) : Type 0 where
   pub accepted : e.answer ≡ answer.Accepted → e.moved ≡ true
   pub failed : (code : ℕ) → e.answer ≡ answer.Failed code → e.moved ≡ false
   pub invalid : e.answer ≡ answer.InvalidEndpoint →
-      (e.moved ≡ false) × (replaced routes a.slot a.old [] ≡ replace.Done → ⊥)
+      (e.moved ≡ false) × (replaced routes a.slot a.old [] ≡ Ok tt → ⊥)
 
 -- answers are told apart by their numbers
 other : {P : Type 0} (x y : Answer) → number x < number y → x ≡ y → P
@@ -349,12 +345,12 @@ false_true e = not_both true refl (sym e)
 
 module _ (a : Settings) (routes : List ℕ) where
   stay : {s : Bool} {e : End} → e.moved ≡ false → e.routes ≡ routes →
-      (s ≡ true → replaced routes a.slot a.old [] ≡ replace.Done → ⊥) → Routed a routes s e
+      (s ≡ true → replaced routes a.slot a.old [] ≡ Ok tt → ⊥) → Routed a routes s e
   stay m r n =
       record { out = λ s d. absurd (n s d); gone = λ t. false_true (sym m ∙ t); kept = λ f. r }
 
   move : {e : End} → e.moved ≡ true → e.routes ≡ with_replaced routes a.slot a.old [] →
-      replaced routes a.slot a.old [] ≡ replace.Done → Routed a routes true e
+      replaced routes a.slot a.old [] ≡ Ok tt → Routed a routes true e
   move m r d = record { out = λ s e. m; gone = λ t. (refl, d, r); kept = λ f. false_true (sym f ∙ m) }
 
   routed : (s : Bool) (e : End) → SetEnd a routes s e → Routed a routes s e
@@ -418,7 +414,7 @@ set_switched a routes o ctx n v d = done_logged SET-CONFIGURATION o n (set_cours
 
 -- where the old routes are there, they are out exactly if the log has a done SetConfiguration
 pub set_out : (a : Settings) (routes o ctx : List ℕ) (n : ℕ) → a.value < 256 →
-    ((k : ℕ) → get_or (queue_dcis a.old) k 0 < 256) → replaced routes a.slot a.old [] ≡ replace.Done →
+    ((k : ℕ) → get_or (queue_dcis a.old) k 0 < 256) → replaced routes a.slot a.old [] ≡ Ok tt →
     done_word SET-CONFIGURATION o n (words o n (set_course a ctx routes)) ≡ (result o n (set_course a ctx routes)).moved
 set_out a routes o ctx n v d r =
     let m = set_moved a routes o ctx n in
@@ -434,7 +430,7 @@ unfolding result
 done_end o n x = refl
 
 module _ (a : Settings) (routes o : List ℕ) where
-  configure_accepted : (ctx : List ℕ) (n : ℕ) → AllDone o n 3 → replaced routes a.slot a.old [] ≡ replace.Done →
+  configure_accepted : (ctx : List ℕ) (n : ℕ) → AllDone o n 3 → replaced routes a.slot a.old [] ≡ Ok tt →
       result o n (set_configure a ctx routes)
       ≡ settings_moved answer.Accepted (value_context a (drop_context a ctx)) (with_replaced routes a.slot a.old [])
   unfolding set_configure set_switch set_publish set_published set_evaluate on_sent
@@ -447,7 +443,7 @@ module _ (a : Settings) (routes o : List ℕ) where
 
   -- with every outcome done and the old routes there, it is accepted and they are out
   pub set_accepted : (ctx : List ℕ) (n : ℕ) → AllDone o n (length a.old + 3) →
-      replaced routes a.slot a.old [] ≡ replace.Done →
+      replaced routes a.slot a.old [] ≡ Ok tt →
       result o n (set_course a ctx routes)
       ≡ settings_moved answer.Accepted (value_context a (drop_context a ctx)) (with_replaced routes a.slot a.old [])
   unfolding set_course on_sent

@@ -18,7 +18,7 @@ use Rattle.context.proofs.Steps.{highest_least, configure_steps}
 use Rattle.context.proofs.Entries.{flagged_after, entries_made}
 use Rattle.course_steps.specs.Arrays.{dcis_in, rings_in, queues_in}
 use Rattle.course_steps.proofs.Laws.{dcis_in_lem}
-use Rattle.record_settings.specs.Held.{held_in, setting_words, held_words}
+use Rattle.record_settings.specs.Held.{held_in, held_by, setting_words, held_words}
 use Rattle.course_set_configuration.specs.declared.run.SettingsArgs.{SettingsArgs}
 use Rattle.course_set_configuration.specs.SetConfiguration.{settings_of, drop_context, restore_context}
 
@@ -142,23 +142,23 @@ module _ (s speed : ℕ) (words dcis ctx : List ℕ) where
 
 -- The context of a Configure, where the held settings' words are dropped or added one setting after the other.
 module _
-    (a : SettingsArgs) (list ctx begun done left : List ℕ) (i entries : ℕ) (h : a.held ≤ i) (spaced : Spaced a.spacing (length ctx))
+    (a : SettingsArgs) (list ctx begun done left : List ℕ) (i entries : ℕ) (h : a.held.count ≤ i) (spaced : Spaced a.spacing (length ctx))
     (begins :
     begun
     ≡ written a.spacing (in_block CONTROL (changed ++ ((INTERFACE-NUMBER := 0) ∷ (ALTERNATE-SETTING := 0) ∷ []))) ctx)
     (finishes : left ≡ written a.spacing (in_block SLOT ((CONTEXT-ENTRIES := entries) ∷ [])) done) (least : 1 ≤ entries) where
   abbrev words : List ℕ
-  words = held_words list (held_in a.held a.interfaces a.alternates)
+  words = held_words list (held_by a.held)
 
   -- all dropped
   pub dropped :
       written a.spacing (in_block CONTROL (drop_flags words)) begun
-      ≡ written a.spacing (in_block CONTROL (drop_flags (words_from list a.interfaces a.alternates a.held i))) done →
+      ≡ written a.spacing (in_block CONTROL (drop_flags (words_from list a.held.interfaces a.held.alternates a.held.count i))) done →
       ((dropped : List ℕ) → Flagged dropped done → entries ≡ highest_dci (staying dropped (dcis_in a.old))) →
       left ≡ drop_context (settings_of a list) ctx
   unfolding drop_context highest_dci word_dcis
   dropped d e =
-      let all = d ∙ drop_end list a.interfaces a.alternates a.held i h a.spacing done in
+      let all = d ∙ drop_end list a.held.interfaces a.held.alternates a.held.count i h a.spacing done in
       let flags = flagged_after a.spacing 0 0 words ctx begun done spaced begins (sym all) in
       let made = entries_made words (dcis_in a.old) [] entries entries (e words flags) (omega (arith, least)) in
       rw (drop_steps, dcis_in_lem, ← begins, all, ← made) finishes
@@ -166,15 +166,15 @@ module _
   -- all added again
   pub added : (ds rs : List ℕ) (first : ℕ) →
       written a.spacing (add_all a.speed (queues ds rs) words) begun
-      ≡ written a.spacing (add_all a.speed (queues ds rs) (words_from list a.interfaces a.alternates a.held i)) done →
+      ≡ written a.spacing (add_all a.speed (queues ds rs) (words_from list a.held.interfaces a.held.alternates a.held.count i)) done →
       ((dropped : List ℕ) → Flagged dropped begun → first ≡ highest_dci (staying dropped ds)) →
       max first (highest_dci (word_dcis words))
-      ≡ max entries (highest_dci (word_dcis (words_from list a.interfaces a.alternates a.held i))) →
+      ≡ max entries (highest_dci (word_dcis (words_from list a.held.interfaces a.held.alternates a.held.count i))) →
       ds ≡ dcis_in a.old → rs ≡ rings_in a.old → left ≡ restore_context (settings_of a list) ctx
   unfolding restore_context queues_in
   added ds rs first w e m d r =
-      let all = w ∙ add_end list a.interfaces a.alternates a.held i h a.spacing a.speed (queues ds rs) done in
+      let all = w ∙ add_end list a.held.interfaces a.held.alternates a.held.count i h a.spacing a.speed (queues ds rs) done in
       let flags = flagged_after a.spacing 0 0 [] ctx begun begun spaced begins (sym (none_dropped a.spacing begun)) in
-      let most = m ∙ compare_end list a.interfaces a.alternates a.held i h entries least in
+      let most = m ∙ compare_end list a.held.interfaces a.held.alternates a.held.count i h entries least in
       let made = entries_made [] ds words first entries (e [] flags) (sym most) in
       rw (restore_steps, dcis_in_lem, ← d, ← r, ← begins, all, ← made) finishes

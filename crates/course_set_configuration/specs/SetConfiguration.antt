@@ -1,5 +1,5 @@
 -- The course of a set configuration after its checks: `_set_configuration` of the original.
-use Rattle.std.specs.Prelude.{ℕ, List, []}
+use Rattle.std.specs.Prelude.{ℕ, List, [], Result, Ok, Err}
 use Rattle.answer.specs.declared.Answer.TheVariants as answer
 use Rattle.command.specs.declared.Command.TheVariants as command
 use Rattle.command.specs.Course.{Course, ends, sends, on_sent, then}
@@ -7,12 +7,11 @@ use Rattle.command.specs.Sweep.{stop_endpoints, resume_stopped_endpoints}
 use Rattle.context.specs.Place.{written}
 use Rattle.context.specs.Steps.{configure_writes, configuration_writes}
 use Rattle.record_endpoint.specs.EndpointMap.{queue_dcis}
-use Rattle.transfer.specs.declared.Replaced.{Replaced}
-use Rattle.transfer.specs.declared.Replaced.TheVariants as replace
+use Rattle.transfer.specs.declared.RouteError.{RouteError}
 use Rattle.transfer.specs.Routes.{Queue, replaced, with_replaced}
 use Rattle.course_steps.specs.End.{End, settings_kept, settings_moved, configure_failed}
 use Rattle.course_steps.specs.Arrays.{queues_in}
-use Rattle.record_settings.specs.Held.{held_in, held_words}
+use Rattle.record_settings.specs.Held.{held_by, held_words}
 use Rattle.course_set_configuration.specs.declared.run.SettingsArgs.{SettingsArgs}
 
 -- What a set configuration works on: the settings of all interfaces that hold one.
@@ -46,10 +45,9 @@ set_evaluate a ctx routes =
     (λ code. ends (settings_moved answer.InterfaceBroken next routes))
     (ends (settings_moved answer.Cut next routes)))
 
-unfoldable pub set_published : Replaced → Settings → List ℕ → List ℕ → Course End
-set_published replace.Done a ctx routes = set_evaluate a ctx (with_replaced routes a.slot a.old [])
-set_published replace.InvalidEndpoint a ctx routes = ends (settings_kept answer.InvalidEndpoint 0 ctx routes)
-set_published replace.QueueFull a ctx routes = ends (settings_kept answer.InvalidEndpoint 0 ctx routes)
+unfoldable pub set_published : Result Unit RouteError → Settings → List ℕ → List ℕ → Course End
+set_published (Ok _) a ctx routes = set_evaluate a ctx (with_replaced routes a.slot a.old [])
+set_published (Err _) a ctx routes = ends (settings_kept answer.InvalidEndpoint 0 ctx routes)
 
 unfoldable pub set_publish : Settings → List ℕ → List ℕ → Course End
 set_publish a ctx routes = set_published (replaced routes a.slot a.old []) a ctx routes
@@ -115,6 +113,6 @@ settings_of a list =
       spacing = a.spacing;
       speed = a.speed;
       value = a.value;
-      words = held_words list (held_in a.held a.interfaces a.alternates);
+      words = held_words list (held_by a.held);
       old = queues_in a.old;
     }

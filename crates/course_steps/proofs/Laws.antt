@@ -20,7 +20,7 @@ use Rattle.command.proofs.Phases.{swept_on}
 use Rattle.command.proofs.Sweeps.{stop_done_count, resume_count}
 use Rattle.context.specs.Place.{Spaced}
 use Rattle.context.specs.Promises.{EndpointDcis}
-use Rattle.record_endpoint.specs.declared.pending.Queues.{Queues}
+use Rattle.record_endpoint.specs.declared.queues.Queues.{Queues}
 use Rattle.record_endpoint.specs.EndpointMap.{gathered, queues_of, queue_dcis, queue_rings, QueuesAs}
 use Rattle.record_endpoint.specs.Order.{dci_at}
 use Rattle.transfer.specs.Routes.{Queue, queues}
@@ -118,9 +118,7 @@ unfolding dcis_in
 room_as spacing ctx old all by whole s o a =
     record {
       spaced = s;
-      few = o.room;
       full = full_as old by o;
-      few_all = a.room;
       dcis = rw a.dcis (queue_dcis_lem whole);
     }
 

@@ -1,125 +1,124 @@
--- The loops that resume and stop the endpoints of some queues: a turn of each, and how it ends.
+-- The loop that sends a command for each of some endpoints: a turn, and how it ends; what stopping and resuming make of it.
 use Prim.Native.Nat.{ℕ, ◌+◌, ◌<◌, ◌≤◌}
-use mathlib.Core.Path.{◌≡◌, refl, ◌∙◌}
-use mathlib.Core.Logic.{inl, inr}
+use mathlib.Core.Path.{◌≡◌, refl, sym, ap, ◌∙◌}
 use mathlib.Core.List.{List, [], ◌∷◌, ◌++◌}
-use native.Mathlib.Nat.{add-zero}
 use native.Mathlib.Numerals.{add-one}
 use native.Mathlib.Omega.{arith}
-use types.Run.{OneOf, miss}
-use denote.Enum.Declared.{tag_of}
-use lib.ListN.{length, get_or, drop, take, set, length-take, drop_of_length-le}
-use lib.Seq.{drop-cons, take-suc, take-take, get_or-take}
-use Rattle.command.specs.contracts.Sent.{the_type}
+use lib.ListN.{length, get_or, drop, take, set, drop_of_length-le}
+use lib.Seq.{drop-cons}
+use Rattle.std.proofs.Math.Seq.{take-append_seam}
+use Rattle.std.proofs.lemmas.List.{length-append, append_assoc}
+use Rattle.command.specs.declared.Command.{Command}
 use Rattle.command.specs.declared.Sent.{Sent}
 use Rattle.command.specs.declared.Sent.TheVariants.{Done, Failed, Cut}
 use Rattle.command.specs.Command.{command_word, outcome_at, stop_command, resume_command}
-use Rattle.command.specs.Course.{ends, on_sent, played}
-use Rattle.command.specs.Sweep.{swept, resume_from, resume_stopped_endpoints, undo_stops, stop_from, stop_endpoints}
+use Rattle.command.specs.Course.{Course, ends, sends, on_sent, then, played}
+use Rattle.command.specs.declared.Swept.{Swept}
+use Rattle.command.specs.Sweep.{Sweep, swept, resume_from, undo_stops, stop_from, stop_endpoints, SweptAs}
+use Rattle.command.proofs.Phases.{swept_on}
 use Rattle.command.proofs.Laws.{played_ends, played_sends}
-use Rattle.record_endpoint.specs.declared.pending.Queues.{Queues}
-use Rattle.course_steps.specs.Arrays.{dcis_in}
+use Rattle.course_steps.specs.Each.{send_from}
 
--- The variants that are left, by their places in the enum.
-pub unless_done : (s : Sent) → (s ≡ Done → ⊥) → OneOf (1 ∷ 2 ∷ []) (tag_of the_type s)
-unless_done Done h = absurd (h refl)
-unless_done (Failed code) h = inl refl
-unless_done Cut h = inr refl
+module _ (of : ℕ → Command) (ds o log ctx : List ℕ) (n i : ℕ) where
+  -- the end where all are done
+  pub each_end : length ds ≤ i → i ≤ length ds → played o (n + i) (send_from of ctx i (drop i ds)) log ≡
+      record { end = swept Done (length ds); count = n + length ds; log = log }
+  unfolding send_from
+  each_end h k = let e : i ≡ length ds = omega arith in rw (← e, drop_of_length-le ds h) (played_ends _ _ _ _)
 
-module _ (q : Queues) (o log ctx : List ℕ) (n : ℕ) where
-  -- the resuming loop's start
-  pub resume_start : played o n (resume_stopped_endpoints ctx (dcis_in q)) log ≡ played o (n + 0) (resume_from ctx 0 (drop 0 (dcis_in q))) log
-  unfolding resume_stopped_endpoints
-  resume_start = rw add-zero
-
-  -- the stopping loop's start
-  pub stop_start : played o n (stop_endpoints ctx (dcis_in q)) log ≡ played o (n + 0) (stop_from ctx (take 0 (dcis_in q)) (drop 0 (dcis_in q))) log
-  unfolding stop_endpoints
-  stop_start = rw add-zero
-
-module _ (q : Queues) (o log log' ctx : List ℕ) (n i : ℕ) (s : Sent) (room : length q.dcis ≡ 30) (few : q.count ≤ 30) (h : i < q.count) (es : s ≡ outcome_at o (n + i)) where
-  within : i < length (dcis_in q)
-  unfolding dcis_in
-  within = simp length-take (omega arith)
-
-  there : get_or (dcis_in q) i 0 ≡ get_or q.dcis i 0
-  unfolding dcis_in
-  there = get_or-take _ _ _ _ h
-
-  rest : drop i (dcis_in q) ≡ get_or q.dcis i 0 ∷ drop (i + 1) (dcis_in q)
-  rest = rw (← there, add-one i) (drop-cons (dcis_in q) i 0 within)
-
-  next : n + (i + 1) ≡ n + i + 1
-  next = omega arith
-
-  module _ (el : log' ≡ set log (n + i) (command_word (resume_command (get_or q.dcis i 0)))) where
-    resume_turn : played o (n + i) (resume_from ctx i (drop i (dcis_in q))) log ≡
+  module _ (log' : List ℕ) (c : Command) (s : Sent) (h : i < length ds) (ec : c ≡ of (get_or ds i 0)) (es : s ≡ outcome_at o (n + i))
+      (el : log' ≡ set log (n + i) (command_word c)) where
+    turn : played o (n + i) (send_from of ctx i (drop i ds)) log ≡
         played o (n + i + 1)
-        (on_sent s (resume_from ctx (i + 1) (drop (i + 1) (dcis_in q))) (λ code. ends (swept (Failed code) i)) (ends (swept Cut i)))
-        log'
-    unfolding resume_from
-    resume_turn = rw (rest, el, es) (played_sends _ _ _ _ _ _)
+        (on_sent s (send_from of ctx (i + 1) (drop (i + 1) ds)) (λ code. ends (swept (Failed code) i)) (ends (swept Cut i))) log'
+    unfolding send_from
+    turn =
+        let e : drop i ds ≡ get_or ds i 0 ∷ drop (i + 1) ds = rw (add-one i) (drop-cons ds i 0 h) in
+        rw (e, el, es, ec) (played_sends _ _ _ _ _ _)
 
-    -- a turn of the resuming loop
-    pub resume_next : s ≡ Done → played o (n + i) (resume_from ctx i (drop i (dcis_in q))) log ≡
-        played o (n + (i + 1)) (resume_from ctx (i + 1) (drop (i + 1) (dcis_in q))) log'
+    -- a turn of the loop
+    pub each_next : s ≡ Done → played o (n + i) (send_from of ctx i (drop i ds)) log ≡
+        played o (n + (i + 1)) (send_from of ctx (i + 1) (drop (i + 1) ds)) log'
     unfolding on_sent
-    resume_next e = resume_turn ∙ rw (e, next)
+    each_next e = let next : n + (i + 1) ≡ n + i + 1 = omega arith in turn ∙ rw (e, next)
 
-    -- its end where a resume is not done
-    pub resume_left : OneOf (1 ∷ 2 ∷ []) (tag_of the_type s) → played o (n + i) (resume_from ctx i (drop i (dcis_in q))) log ≡
+    -- its end where a command is not done
+    pub each_left : (s ≡ Done → ⊥) → played o (n + i) (send_from of ctx i (drop i ds)) log ≡
         record { end = swept s i; count = n + i + 1; log = log' }
     unfolding on_sent
-    resume_left t = resume_turn ∙ go s t
+    each_left t = turn ∙ go s t
       where
-        go : (s : Sent) → OneOf (1 ∷ 2 ∷ []) (tag_of the_type s) →
+        go : (s : Sent) → (s ≡ Done → ⊥) →
             played o (n + i + 1)
-            (on_sent s (resume_from ctx (i + 1) (drop (i + 1) (dcis_in q))) (λ code. ends (swept (Failed code) i)) (ends (swept Cut i)))
-            log' ≡ record { end = swept s i; count = n + i + 1; log = log' }
-        go Done t = absurd (miss (1 ∷ 2 ∷ []) 0 tt t)
+            (on_sent s (send_from of ctx (i + 1) (drop (i + 1) ds)) (λ code. ends (swept (Failed code) i)) (ends (swept Cut i))) log'
+            ≡ record { end = swept s i; count = n + i + 1; log = log' }
+        go Done t = absurd (t refl)
         go (Failed code) t = played_ends _ _ _ _
         go Cut t = played_ends _ _ _ _
 
-  module _ (el : log' ≡ set log (n + i) (command_word (stop_command (get_or q.dcis i 0)))) where
-    stop_turn : played o (n + i) (stop_from ctx (take i (dcis_in q)) (drop i (dcis_in q))) log ≡
-        played o (n + i + 1)
-        (on_sent s (stop_from ctx (take (i + 1) (dcis_in q)) (drop (i + 1) (dcis_in q))) (undo_stops ctx (take i (dcis_in q))) (ends (swept Cut 0)))
-        log'
-    unfolding stop_from
-    stop_turn =
-        let e : take (i + 1) (dcis_in q) ≡ take i (dcis_in q) ++ (get_or q.dcis i 0 ∷ []) = rw (← there, add-one i) (take-suc (dcis_in q) i 0 within) in
-        rw (rest, e, el, es) (played_sends _ _ _ _ _ _)
+-- resuming sends a Resume for each
+pub each_resumed : (ctx ds : List ℕ) (a : ℕ) → send_from resume_command ctx a ds ≡ resume_from ctx a ds
+unfolding send_from resume_from
+each_resumed ctx [] a = refl
+each_resumed ctx (d ∷ ds) a =
+    ap
+    (λ (rest : Course Sweep).
+    sends (resume_command d) ctx (λ s. on_sent s rest (λ code. ends (swept (Failed code) a)) (ends (swept Cut a))))
+    (each_resumed ctx ds (a + 1))
 
-    -- a turn of the stopping loop
-    pub stop_next : s ≡ Done → played o (n + i) (stop_from ctx (take i (dcis_in q)) (drop i (dcis_in q))) log ≡
-        played o (n + (i + 1)) (stop_from ctx (take (i + 1) (dcis_in q)) (drop (i + 1) (dcis_in q))) log'
-    unfolding on_sent
-    stop_next e = stop_turn ∙ rw (e, next)
+-- What comes after a Stop for each of some endpoints: those stopped are resumed where one failed.
+unfoldable pub after_stops : List ℕ → List ℕ → Sweep → Course Sweep
+after_stops ctx ds r = on_sent r.sent (ends (swept Done 0)) (undo_stops ctx (take r.active ds)) (ends (swept Cut 0))
 
-    -- its end where a stop fails
-    pub stop_failed : (code : ℕ) → s ≡ Failed code → played o (n + i) (stop_from ctx (take i (dcis_in q)) (drop i (dcis_in q))) log ≡
-        played o (n + i + 1) (undo_stops ctx (take i q.dcis) code) log'
-    unfolding on_sent dcis_in
-    stop_failed code e = stop_turn ∙ rw (e, take-take i q.count q.dcis (omega arith))
+-- stopping sends a Stop for each, and then that
+pub each_stopped : (o ctx stopped ds log : List ℕ) (n : ℕ) →
+    played o n (stop_from ctx stopped ds) log
+    ≡ played o n (then (send_from stop_command ctx (length stopped) ds) (after_stops ctx (stopped ++ ds))) log
+unfolding send_from stop_from then after_stops on_sent
+each_stopped o ctx stopped [] log n = refl
+each_stopped o ctx stopped (d ∷ ds) log n =
+    played_sends o n (stop_command d) ctx _ log
+    ∙ go (outcome_at o n) (set log n (command_word (stop_command d)))
+    (λ log. each_stopped o ctx (stopped ++ (d ∷ [])) ds log (n + 1))
+    ∙ sym (played_sends o n (stop_command d) ctx _ log)
+  where
+    go : (s : Sent) (log : List ℕ) →
+        ((log : List ℕ) →
+        played o (n + 1) (stop_from ctx (stopped ++ (d ∷ [])) ds) log
+        ≡ played o (n + 1)
+        (then (send_from stop_command ctx (length (stopped ++ (d ∷ []))) ds) (after_stops ctx ((stopped ++ (d ∷ [])) ++ ds))) log) →
+        played o (n + 1) (on_sent s (stop_from ctx (stopped ++ (d ∷ [])) ds) (undo_stops ctx stopped) (ends (swept Cut 0))) log
+        ≡ played o (n + 1)
+        (then
+        (on_sent s (send_from stop_command ctx (length stopped + 1) ds) (λ code. ends (swept (Failed code) (length stopped)))
+        (ends (swept Cut (length stopped))))
+        (after_stops ctx (stopped ++ (d ∷ ds)))) log
+    go Done log rest =
+        let e : length (stopped ++ (d ∷ [])) ≡ length stopped + 1 = length-append stopped (d ∷ []) in
+        let f : (stopped ++ (d ∷ [])) ++ ds ≡ stopped ++ (d ∷ ds) = append_assoc stopped (d ∷ []) ds in
+        rw (e, f) at (rest log)
+    go (Failed code) log rest = rw (take-append_seam stopped (d ∷ ds))
+    go Cut log rest = refl
 
-    -- its end where a stop is cut
-    pub stop_cut : s ≡ Cut → played o (n + i) (stop_from ctx (take i (dcis_in q)) (drop i (dcis_in q))) log ≡
-        record { end = swept Cut 0; count = n + i + 1; log = log' }
-    unfolding on_sent
-    stop_cut e = stop_turn ∙ rw (e, played_ends)
+module _ (o ctx ds log left : List ℕ) (n : ℕ) (r : Swept) (a : SweptAs r left (played o n (send_from stop_command ctx 0 ds) log)) where
+  stops_on : played o n (stop_endpoints ctx ds) log ≡ played o r.count (after_stops ctx ds (swept r.sent r.active)) left
+  unfolding stop_endpoints
+  stops_on = each_stopped o ctx [] ds log n ∙ sym (swept_on o log n _ (after_stops ctx ds) a refl refl)
 
-module _ (q : Queues) (o log ctx : List ℕ) (n i : ℕ) (h : q.count ≤ i) where
-  past : length (dcis_in q) ≤ i
-  unfolding dcis_in
-  past = simp length-take (omega arith)
+  -- where a stop fails, those already stopped are resumed
+  pub stop_failed : (code : ℕ) → r.sent ≡ Failed code →
+      played o n (stop_endpoints ctx ds) log ≡ played o r.count (undo_stops ctx (take r.active ds) code) left
+  unfolding after_stops on_sent
+  stop_failed code e = stops_on ∙ rw e
 
-  -- the resuming loop's end where all are done
-  pub resume_end : played o (n + i) (resume_from ctx i (drop i (dcis_in q))) log ≡ record { end = swept Done i; count = n + i; log = log }
-  unfolding resume_from
-  resume_end = rw (drop_of_length-le (dcis_in q) past) (played_ends _ _ _ _)
-
-  -- the stopping loop's
-  pub stop_end : (stopped : List ℕ) →
-      played o (n + i) (stop_from ctx stopped (drop i (dcis_in q))) log ≡ record { end = swept Done 0; count = n + i; log = log }
-  unfolding stop_from
-  stop_end stopped = rw (drop_of_length-le (dcis_in q) past) (played_ends _ _ _ _)
+  -- otherwise stopping has ended
+  pub stop_ended : ((code : ℕ) → r.sent ≡ Failed code → ⊥) →
+      played o n (stop_endpoints ctx ds) log ≡ record { end = swept r.sent 0; count = r.count; log = left }
+  unfolding after_stops on_sent
+  stop_ended t = stops_on ∙ go r.sent t
+    where
+      go : (s : Sent) → ((code : ℕ) → s ≡ Failed code → ⊥) →
+          played o r.count (after_stops ctx ds (swept s r.active)) left ≡ record { end = swept s 0; count = r.count; log = left }
+      go Done t = played_ends _ _ _ _
+      go (Failed code) t = absurd (t code refl)
+      go Cut t = played_ends _ _ _ _

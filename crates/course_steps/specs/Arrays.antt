@@ -1,10 +1,9 @@
 -- Queues that lie in arrays beside their count, and what a phase leaves.
-use Rattle.std.specs.Prelude.{ℕ, ◌≤◌, ◌≡◌, List, length, take}
+use Rattle.std.specs.Prelude.{ℕ, ◌≡◌, List, length, take}
 use Rattle.command.specs.Course.{Played}
 use Rattle.context.specs.Place.{Spaced}
 use Rattle.context.specs.Promises.{EndpointDcis}
-use Rattle.record_endpoint.specs.Order.{PLACES}
-use Rattle.record_endpoint.specs.declared.pending.Queues.{Queues}
+use Rattle.record_endpoint.specs.declared.queues.Queues.{Queues}
 use Rattle.transfer.specs.Routes.{Queue, queues}
 use Rattle.course_steps.specs.End.{End}
 use Rattle.course_steps.specs.declared.CourseEnd.{CourseEnd}
@@ -27,10 +26,9 @@ course_leaves r ctx routes log =
       log = log;
     }
 
--- What every phase asks: a context of this spacing, counts that fit their arrays, and Dcis of endpoints.
+-- What every phase asks: a context of this spacing, arrays that are full, and Dcis of endpoints.
+-- No field of a type keeps it, since it ties the queues to the context, a slice that the phases are lent.
 pub record Room (spacing ctx : ℕ) (old all : Queues) : Type 0 where
   pub spaced : Spaced spacing ctx
-  pub few : old.count ≤ PLACES
   pub full : length (queues_in old) ≡ old.count
-  pub few_all : all.count ≤ PLACES
   pub dcis : EndpointDcis (dcis_in all)

@@ -1,9 +1,13 @@
 -- How the course of a claim, a release or a set configuration ends, the record apart.
-use Rattle.std.specs.Prelude.{ℕ, Bool, true, false, List}
+use Rattle.std.specs.Prelude.{ℕ, Bool, true, false, List, Result, Ok, Err, ◌≡◌}
 use Rattle.answer.specs.declared.Answer.{Answer}
 use Rattle.answer.specs.declared.Answer.TheVariants as answer
 use Rattle.command.specs.declared.Sent.{Sent}
 use Rattle.command.specs.declared.Sent.TheVariants as sent
+use Rattle.command.specs.Course.{Course, ends, then}
+use Rattle.command.specs.Sweep.{resume_stopped_endpoints}
+use Rattle.transfer.specs.declared.RouteError.{RouteError}
+use Rattle.transfer.specs.Routes.{Queue, replaced, with_replaced}
 
 pub record End : Type 0 where
   pub answer : Answer
@@ -31,3 +35,19 @@ unfoldable pub configure_failed : ℕ → Sent → Answer
 configure_failed code sent.Done = answer.Failed code
 configure_failed code (sent.Failed later) = answer.Failed code
 configure_failed code sent.Cut = answer.Cut
+
+-- Old routes out and new ones in: accepted; where the routes do not allow it nothing is moved, and the answer is `refused`.
+unfoldable pub published : Result Unit RouteError → Answer → ℕ → List Queue → List Queue → List ℕ → List ℕ → End
+published (Ok _) refused slot old new ctx routes = settings_moved answer.Accepted ctx (with_replaced routes slot old new)
+published (Err _) refused slot old new ctx routes = settings_kept refused 0 ctx routes
+
+abbrev pub move_routes : Answer → ℕ → List Queue → List Queue → List ℕ → List ℕ → End
+move_routes refused slot old new ctx routes = published (replaced routes slot old new) refused slot old new ctx routes
+
+-- Endpoints are resumed; how that ends decides the answer.
+unfoldable pub resumed : (Sent → Answer) → List ℕ → List ℕ → List ℕ → Course End
+resumed of dcis ctx routes = then (resume_stopped_endpoints ctx dcis) (λ r. ends (settings_kept (of r.sent) r.active ctx routes))
+
+-- Calls that give the answer to each outcome.
+abbrev pub Answers : (Sent → Answer → Type 0) → (Sent → Answer) → Type 0
+Answers post of = (s : Sent) (a : Answer) → post s a → a ≡ of s

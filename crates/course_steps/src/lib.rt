@@ -2,23 +2,27 @@
 #![tactic(auto)]
 
 ghost use Rattle.std.specs.Prelude.{◌≡◌, List, [], true, false, ℕ, ◌+◌, ◌*◌, ◌<◌, ◌≤◌, length};
-ghost use Rattle.record_endpoint.specs.Order.{PLACES};
-ghost use Rattle.command.specs.Course.{played};
+ghost use Rattle.command.specs.Course.{ends, played};
 ghost use Rattle.command.specs.Sweep.{stop_endpoints, resume_stopped_endpoints, SweptAs};
 ghost use Rattle.context.specs.Place.{written, Spaced};
 ghost use Rattle.context.specs.Steps.{configure_writes};
 ghost use Rattle.context.specs.Promises.{EndpointDcis};
 ghost use Rattle.transfer.specs.Routes.{replaced, with_replaced};
-ghost use Rattle.course_steps.specs.End.{answer_of, configure_failed};
-ghost use Rattle.course_steps.specs.Arrays.{dcis_in, queues_in};
+ghost use Rattle.answer.specs.declared.Answer.{Answer};
+ghost use Rattle.command.specs.declared.Sent.{Sent};
+ghost use Rattle.course_steps.specs.End.{answer_of, configure_failed, move_routes, Answers, resumed};
+ghost use Rattle.course_steps.specs.Arrays.{dcis_in, queues_in, course_leaves};
+ghost use Rattle.course_steps.specs.Each.{Gives, send_from};
+ghost use Rattle.command.specs.declared.Command.{Command};
 
 use answer::Answer;
 use command::{Command, Sent, Swept};
 use def::{Dci, SlotId};
 use record_endpoint::{PLACES, Queues};
-use transfer::Replaced;
+use transfer::RouteError;
 
-// How a course ended: of the old endpoints, by rising address, how many are active, and whether they are gone.
+// How a course ended: of the old endpoints, by rising address, how many are active, and whether they are gone. Of endpoints that
+// are gone none is active, so both fields always have their value.
 #[derive(Clone, Copy)]
 pub struct CourseEnd {
     pub answer: Answer,
@@ -27,99 +31,91 @@ pub struct CourseEnd {
     pub moved: bool,
 }
 
-// Resumes the endpoints of some queues in order, until one fails.
-pub fn resume_stopped_endpoints(log: &mut [u32], outcomes: &[u8], n: usize, q: Queues) -> Swept
-    requires { (q.count ≤ PLACES) × (n + q.count ≤ length log.old) }
-    ensures { (ctx : List ℕ) → SweptAs result log.new (played outcomes.now n (resume_stopped_endpoints ctx (dcis_in q)) log.old) }
+// Sends a command for each of some endpoints in order, until one is not done; those before it are counted as active.
+fn send_each<F: Fn(Dci) -> Command>(
+    log: &mut [u32],
+    outcomes: &[u8],
+    n: usize,
+    dcis: &[u8],
+    command: F,
+) -> Swept
+    requires callable { F.IsAlwaysCallable command }
+    requires in_bounds { n + length dcis.now ≤ length log.old }
+    ensures counts { (result.active ≤ length dcis.now)
+        × (result.count + result.active ≤ n + 2 * length dcis.now)
+        × (length log.new ≡ length log.old) }
+    ensures as_sent { (of : ℕ → Command) (ctx : List ℕ) → Gives (F.post command) of →
+        SweptAs result log.new (played outcomes.now n (send_from of ctx 0 dcis.now) log.old) }
 {
-    let mut i = 0;
-    while i < q.count {
-        let at = n + i;
-        let sent = command::send(log, outcomes, at, Command::Resume(Dci(q.dcis[i])));
-        match sent {
-            Sent::Done => {
-                i += 1;
-            }
-            _ => {
+    for (done, dci) in dcis.iter().enumerate() {
+        match command::send(log, outcomes, n + done, command(Dci(*dci))) {
+            Sent::Done => {}
+            sent => {
                 return Swept {
                     sent,
-                    count: at + 1,
-                    active: i,
+                    count: n + done + 1,
+                    active: done,
                 };
             }
         }
     }
     Swept {
         sent: Sent::Done,
-        count: n + i,
-        active: i,
+        count: n + dcis.len(),
+        active: dcis.len(),
     }
+}
+
+// Resumes the endpoints of some queues in order, until one fails.
+pub fn resume_stopped_endpoints(log: &mut [u32], outcomes: &[u8], n: usize, q: Queues) -> Swept
+    requires { n + q.count ≤ length log.old }
+    ensures { (ctx : List ℕ) → SweptAs result log.new (played outcomes.now n (resume_stopped_endpoints ctx (dcis_in q)) log.old) }
+{
+    send_each(log, outcomes, n, &q.dcis[..q.count], Command::Resume)
 }
 
 // Stops the endpoints of some queues in order; where one fails, those already stopped are resumed.
 pub fn stop_endpoints(log: &mut [u32], outcomes: &[u8], n: usize, q: Queues) -> Swept
-    requires { (q.count ≤ PLACES) × (n + 2 * q.count ≤ length log.old) }
+    requires { n + 2 * q.count ≤ length log.old }
     ensures { (ctx : List ℕ) → SweptAs result log.new (played outcomes.now n (stop_endpoints ctx (dcis_in q)) log.old) }
 {
-    let mut i = 0;
-    while i < q.count {
-        let at = n + i;
-        match command::send(log, outcomes, at, Command::Stop(Dci(q.dcis[i]))) {
-            Sent::Done => {
-                i += 1;
-            }
-            Sent::Failed(code) => {
-                let mut stopped = q;
-                stopped.count = i;
-                let back = resume_stopped_endpoints(log, outcomes, at + 1, stopped);
-                let resumed = back.sent;
-                return Swept {
-                    sent: command::or_code(code, resumed),
-                    count: back.count,
-                    active: back.active,
-                };
-            }
-            Sent::Cut => {
-                return Swept {
-                    sent: Sent::Cut,
-                    count: at + 1,
-                    active: 0,
-                };
+    let stops = send_each(log, outcomes, n, &q.dcis[..q.count], Command::Stop);
+    match stops.sent {
+        Sent::Failed(code) => {
+            let mut stopped = q;
+            stopped.count = stops.active;
+            let back = resume_stopped_endpoints(log, outcomes, stops.count, stopped);
+            Swept {
+                sent: command::or_code(code, back.sent),
+                ..back
             }
         }
-    }
-    Swept {
-        sent: Sent::Done,
-        count: n + i,
-        active: 0,
+        _ => Swept { active: 0, ..stops },
     }
 }
 
 // Takes the routes of some queues out and puts those of others in.
+#[tactic(auto, unfolding(crate::specs::Arrays::dcis_in, crate::specs::Arrays::rings_in, crate::specs::Arrays::queues_in))]
 pub fn publish_endpoint_routes(
     routes: &mut [u64],
     slot: SlotId,
     old: Queues,
     new: Queues,
-) -> Replaced
-    requires { (old.count ≤ PLACES) × (new.count ≤ PLACES) }
+) -> Result<(), RouteError>
     ensures { (result ≡ replaced routes.old slot.0 (queues_in old) (queues_in new))
         × (routes.new ≡ with_replaced routes.old slot.0 (queues_in old) (queues_in new)) }
 {
-    let old_dcis = old.dcis;
-    let old_rings = old.rings;
-    let new_dcis = new.dcis;
-    let new_rings = new.rings;
     transfer::replace_queues(
         routes,
         slot,
-        &old_dcis[..old.count],
-        &old_rings[..old.count],
-        &new_dcis[..new.count],
-        &new_rings[..new.count],
+        &old.dcis[..old.count],
+        &old.rings[..old.count],
+        &new.dcis[..new.count],
+        &new.rings[..new.count],
     )
 }
 
+#[tactic(auto, unfolding(transfer::specs::Routes::queues, crate::specs::Arrays::dcis_in, crate::specs::Arrays::queues_in))]
 pub fn no_queues() -> Queues
     ensures { (queues_in result ≡ []) × (result.count ≡ 0) }
 {
@@ -131,6 +127,7 @@ pub fn no_queues() -> Queues
 }
 
 // The context of a Configure, with the rings of some queues for the added words; `all` are the record's endpoints.
+#[tactic(auto, unfolding(crate::specs::Arrays::dcis_in, crate::specs::Arrays::rings_in, crate::specs::Arrays::queues_in))]
 pub fn prepare_configure(
     ctx: &mut [u8],
     spacing: usize,
@@ -143,12 +140,9 @@ pub fn prepare_configure(
     all: Queues,
 )
     requires spaced { Spaced spacing (length ctx.old) }
-    requires count_bound { (q.count ≤ PLACES) × (all.count ≤ PLACES) × EndpointDcis (dcis_in all) }
+    requires endpoint_dcis { EndpointDcis (dcis_in all) }
     ensures { ctx.new ≡ written spacing (configure_writes speed interface alternate dropped.now added.now (queues_in q) (dcis_in all)) ctx.old }
 {
-    let dcis = q.dcis;
-    let rings = q.rings;
-    let endpoints = all.dcis;
     context_writer::prepare_configure_context(
         ctx,
         spacing,
@@ -157,12 +151,14 @@ pub fn prepare_configure(
         alternate,
         dropped,
         added,
-        &dcis[..q.count],
-        &rings[..q.count],
-        &endpoints[..all.count],
+        &q.dcis[..q.count],
+        &q.rings[..q.count],
+        &all.dcis[..all.count],
     );
 }
 
+// The answer of a course by its last outcome. No `impl From`, since both types are other crates'.
+#[tactic(auto, unfolding(crate::specs::End::answer_of))]
 pub fn answer_of(s: Sent) -> Answer
     ensures { result ≡ answer_of s }
 {
@@ -174,6 +170,7 @@ pub fn answer_of(s: Sent) -> Answer
 }
 
 // The answer after a failed Configure of a release or a set configuration.
+#[tactic(auto, unfolding(crate::specs::End::configure_failed))]
 pub fn configure_failed(code: u8, s: Sent) -> Answer
     ensures { result ≡ configure_failed code s }
 {
@@ -188,9 +185,9 @@ pub fn settings_kept(answer: Answer, count: usize, active: usize) -> CourseEnd
     ensures { result ≡ record { answer = answer; count = count; active = active; moved = false } }
 {
     CourseEnd {
-        answer: answer,
-        count: count,
-        active: active,
+        answer,
+        count,
+        active,
         moved: false,
     }
 }
@@ -200,9 +197,46 @@ pub fn settings_moved(answer: Answer, count: usize) -> CourseEnd
     ensures { result ≡ record { answer = answer; count = count; active = 0; moved = true } }
 {
     CourseEnd {
-        answer: answer,
-        count: count,
+        answer,
+        count,
         active: 0,
         moved: true,
     }
+}
+
+// Moves routes as a course's last step: accepted, or answered as refused where the routes do not allow it.
+pub fn publish(
+    routes: &mut [u64],
+    slot: SlotId,
+    old: Queues,
+    new: Queues,
+    n: usize,
+    refused: Answer,
+) -> CourseEnd
+    ensures { (o ctx log : List ℕ) →
+        course_leaves result ctx routes.new log
+        ≡ played o n (ends (move_routes refused slot.0 (queues_in old) (queues_in new) ctx routes.old)) log }
+{
+    match publish_endpoint_routes(routes, slot, old, new) {
+        Ok(()) => settings_moved(Answer::Accepted, n),
+        Err(_) => settings_kept(refused, n, 0),
+    }
+}
+
+// Resumes the endpoints of some queues as a course's last step; how that ends decides the answer.
+pub fn resume<F: Fn(Sent) -> Answer>(
+    log: &mut [u32],
+    outcomes: &[u8],
+    n: usize,
+    q: Queues,
+    answer: F,
+) -> CourseEnd
+    requires callable { F.IsAlwaysCallable answer }
+    requires in_bounds { n + q.count ≤ length log.old }
+    ensures { (of : Sent → Answer) (ctx routes : List ℕ) → Answers (F.post answer) of →
+        course_leaves result ctx routes log.new
+        ≡ played outcomes.now n (resumed of (dcis_in q) ctx routes) log.old }
+{
+    let back = resume_stopped_endpoints(log, outcomes, n, q);
+    settings_kept(answer(back.sent), back.count, back.active)
 }

@@ -4,7 +4,6 @@ use mathlib.Core.Path.{◌≡◌, refl, sym, ◌∙◌}
 use mathlib.Core.Logic.{◌≢◌, ◌⊎◌, inl, inr}
 use mathlib.Core.Bool.{Bool, true, false, not, cond, ◌&&◌}
 use native.Mathlib.Decide.{dec_lt}
-use native.Mathlib.Nat.{mul-le-mul}
 use native.Mathlib.Omega.{arith}
 use borrow.Author.Tests.{le-leb, lt-leb, eqb-true, eqb-false, not-true}
 use lib.Count.{count_leading_zeros}
@@ -199,11 +198,6 @@ burst_small t packets speed h = go (is_periodic t && eqb speed HIGH)
     go : (b : Bool) → cond b (packets - 1) 0 ≤ 2
     go true = omega arith
     go false = omega arith
-
--- A size times a count of packets is a u32.
-pub product_fits : (size packets : ℕ) → size < 65536 → packets ≤ 256 → size * packets < 2 ^ 32
-product_fits size packets s p =
-    let size' : size ≤ 65535 = omega arith in omega (arith, mul-le-mul size' p)
 
 -- Max ESIT Payload Lo and Average TRB Length are fields of sixteen bits.
 pub payload_small : (size burst : ℕ) → esit_payload size burst < 65536

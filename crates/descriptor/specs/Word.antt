@@ -1,10 +1,12 @@
 -- 01's descriptor word, 32 bits, fields from the most significant bit: kind 2, then by kind
 --   0, configuration: value 8; 1, alternate: interface 8, alternate 8;
 --   2, endpoint: IN 1, number 4, type 2, packet size 11, packets per microframe 2, interval 8.
-use Rattle.std.specs.Prelude.{ℕ, ◌+◌, ◌*◌, Bool, false, not, cond, ◌&&◌, eqb}
+use Rattle.std.specs.Prelude.{ℕ, ◌+◌, ◌*◌, Bool, false, not, cond, ◌&&◌, Option, Some, None, eqb}
 use Rattle.def.specs.Packed.{packed, rest_below}
 use Rattle.descriptor.specs.declared.EndpointDescriptor.{EndpointDescriptor}
 use Rattle.descriptor.specs.declared.TransferType.{TransferType}
+use Rattle.descriptor.specs.declared.WordKind.{WordKind}
+use Rattle.descriptor.specs.declared.WordKind.TheVariants.{Configuration, Alternate, Endpoint}
 use Rattle.descriptor.specs.declared.TransferType.TheVariants.{Control, Isochronous, Bulk, Interrupt}
 
 abbrev pub CONFIGURATION : ℕ
@@ -18,6 +20,13 @@ ENDPOINT = 2
 
 unfoldable pub kind : ℕ → ℕ
 kind w = packed 32 0 2 w
+
+-- The kind by its name.
+unfoldable pub word_kind : ℕ → Option WordKind
+word_kind w =
+    cond (eqb (kind w) CONFIGURATION) (Some Configuration)
+    (cond (eqb (kind w) ALTERNATE) (Some Alternate)
+    (cond (eqb (kind w) ENDPOINT) (Some Endpoint) None))
 
 unfoldable pub configuration_value : ℕ → ℕ
 configuration_value w = packed 32 2 8 w

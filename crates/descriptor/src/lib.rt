@@ -2,7 +2,7 @@
 #![tactic(auto)]
 
 ghost use Rattle.std.specs.Prelude.{◌≡◌};
-ghost use Rattle.descriptor.specs.Word.{kind, configuration_value, interface_number, alternate_setting, endpoint_descriptor, word_ok};
+ghost use Rattle.descriptor.specs.Word.{word_kind, configuration_value, interface_number, alternate_setting, endpoint_descriptor, word_ok};
 ghost use Rattle.descriptor.specs.Endpoint.{dci_of};
 
 use def::Dci;
@@ -24,7 +24,14 @@ pub struct EndpointDescriptor {
     pub interval: u8,
 }
 
-// Kinds of descriptor words.
+// Kinds of descriptor words, and their numbers.
+#[derive(Clone, Copy, PartialEq, Eq)]
+pub enum WordKind {
+    Configuration,
+    Alternate,
+    Endpoint,
+}
+
 pub const CONFIGURATION: u8 = 0;
 
 pub const ALTERNATE: u8 = 1;
@@ -52,24 +59,34 @@ pub const PACKETS_LSB: u32 = 0x400;
 
 pub const INTERVAL_LSB: u32 = 0x4;
 
-pub fn word_kind(w: u32) -> u8
-    ensures { result ≡ kind w }
+// None for the number that is no kind's.
+#[tactic(auto, unfolding(crate::specs::Word::word_kind, crate::specs::Word::kind))]
+pub fn word_kind(w: u32) -> Option<WordKind>
+    ensures { result ≡ word_kind w }
 {
-    (w / KIND_LSB % 4) as u8
+    match (w / KIND_LSB % 4) as u8 {
+        CONFIGURATION => Some(WordKind::Configuration),
+        ALTERNATE => Some(WordKind::Alternate),
+        ENDPOINT => Some(WordKind::Endpoint),
+        _ => None,
+    }
 }
 
+#[tactic(auto, unfolding(crate::specs::Word::configuration_value))]
 pub fn configuration_value(w: u32) -> u8
     ensures { result ≡ configuration_value w }
 {
     (w / VALUE_LSB % 256) as u8
 }
 
+#[tactic(auto, unfolding(crate::specs::Word::interface_number))]
 pub fn interface_number(w: u32) -> u8
     ensures { result ≡ interface_number w }
 {
     (w / INTERFACE_LSB % 256) as u8
 }
 
+#[tactic(auto, unfolding(crate::specs::Word::alternate_setting))]
 pub fn alternate_setting(w: u32) -> u8
     ensures { result ≡ alternate_setting w }
 {
@@ -77,9 +94,11 @@ pub fn alternate_setting(w: u32) -> u8
 }
 
 // An endpoint word taken apart.
+#[tactic(auto, unfolding(crate::specs::Word::endpoint_descriptor, crate::specs::Word::direction_in, crate::specs::Word::endpoint_number, crate::specs::Word::type_number, crate::specs::Word::transfer_type))]
 pub fn endpoint_descriptor(w: u32) -> EndpointDescriptor
     ensures { result ≡ endpoint_descriptor w }
 {
+    // The only place where a type comes from its number, so a From would be no plainer.
     let transfer_type = match w / TYPE_LSB % 4 {
         1 => TransferType::Isochronous,
         2 => TransferType::Bulk,
@@ -96,30 +115,21 @@ pub fn endpoint_descriptor(w: u32) -> EndpointDescriptor
 }
 
 // Whether a word may stand in a valid list.
+#[tactic(auto, unfolding(crate::specs::Word::word_kind, crate::specs::Word::word_ok, crate::specs::Word::endpoint_ok, crate::specs::Word::endpoint_number, crate::specs::Word::type_number))]
 pub fn word_ok(w: u32) -> bool
     ensures { result ≡ word_ok w }
 {
     match word_kind(w) {
-        CONFIGURATION => {
-            return w % VALUE_LSB == 0;
+        Some(WordKind::Configuration) => w % VALUE_LSB == 0,
+        Some(WordKind::Alternate) => w % SETTING_LSB == 0,
+        Some(WordKind::Endpoint) => {
+            w / NUMBER_LSB % 16 != 0 && w / TYPE_LSB % 4 != 0 && w % INTERVAL_LSB == 0
         }
-        ALTERNATE => {
-            return w % SETTING_LSB == 0;
-        }
-        ENDPOINT => {}
-        _ => {
-            return false;
-        }
+        None => false,
     }
-    if w / NUMBER_LSB % 16 == 0 {
-        return false;
-    }
-    if w / TYPE_LSB % 4 == 0 {
-        return false;
-    }
-    w % INTERVAL_LSB == 0
 }
 
+#[tactic(auto, unfolding(crate::specs::Endpoint::dci_of))]
 pub fn endpoint_address_dci(address: u8) -> Dci
     ensures { result.0 ≡ dci_of address }
 {

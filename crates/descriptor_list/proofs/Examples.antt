@@ -3,9 +3,9 @@ use Prim.Native.Nat.{ℕ, zero, suc, ◌+◌, ◌*◌}
 use mathlib.Core.Path.{◌≡◌, refl}
 use mathlib.Core.Bool.{true, false}
 use mathlib.Core.List.{List, [], ◌∷◌}
+use Rattle.std.proofs.Common.{Some, None}
 use lib.ListN.{replicate}
 use Rattle.descriptor.specs.Word.{kind, interface_number, alternate_setting, direction_in, endpoint_number, type_number, endpoint_ok, word_ok}
-use Rattle.descriptor_list.specs.declared.Found.TheVariants.{Endpoints, NotFound}
 use Rattle.descriptor_list.specs.Lookup.{endpoint_run, of_interface, is_alternate, find_from, find_endpoints}
 use Rattle.descriptor_list.specs.Valid.{begins_with_configuration, words_ok, run_fits, runs_fit, configurations, has_interface, last_alternate, interfaces, valid_list}
 
@@ -25,10 +25,10 @@ two =
     ∷ configuration 2 ∷ alternate 0 1 ∷ endpoint 4 ∷ alternate 1 0 ∷ []
 
 lookups :
-    (find_endpoints two 0 1 ≡ Endpoints 4 2)
-    × (find_endpoints two 0 0 ≡ Endpoints 2 1)
-    × (find_endpoints two 1 0 ≡ Endpoints 10 0)
-    × (find_endpoints two 1 1 ≡ NotFound)
+    (find_endpoints two 0 1 ≡ Some (record { start = 4; count = 2 }))
+    × (find_endpoints two 0 0 ≡ Some (record { start = 2; count = 1 }))
+    × (find_endpoints two 1 0 ≡ Some (record { start = 10; count = 0 }))
+    × (find_endpoints two 1 1 ≡ None)
 unfolding two find_endpoints find_from is_alternate of_interface endpoint_run kind interface_number alternate_setting
 lookups = (refl, refl, refl, refl)
 

@@ -4,6 +4,7 @@ use mathlib.Core.Path.{◌≡◌, refl, ap}
 use mathlib.Core.Logic.{◌⊎◌, inl, inr, ⊎_elim}
 use mathlib.Core.Bool.{Bool, true, false, cond, ◌&&◌, ◌||◌}
 use mathlib.Core.List.{List, [], ◌∷◌}
+use Rattle.std.proofs.Common.{Option, Some, None}
 use native.Mathlib.Omega.{arith}
 use borrow.Author.Tests.{eqb-true, eqb-false, eq-eqb, leb-true, not-true, not-false}
 use lib.Dec.{eqb, leb}
@@ -14,8 +15,7 @@ use Rattle.laws.proofs.Cases.{Decided, decided, false_if, or_left, or_right, or_
 use Rattle.laws.specs.Distinct.{elem, distinct}
 use Rattle.laws.proofs.Distinct.{elem_none, elem_here, elem_there, elem_cases, distinct_cons, distinct_fits}
 use Rattle.descriptor.specs.Word.{kind, interface_number, word_ok, ALTERNATE, ENDPOINT}
-use Rattle.descriptor_list.specs.declared.Found.{Found}
-use Rattle.descriptor_list.specs.declared.Found.TheVariants.{Endpoints, NotFound}
+use Rattle.descriptor_list.specs.declared.EndpointWords.{EndpointWords}
 use Rattle.descriptor_list.specs.Lookup.{endpoint_run, of_interface, is_alternate, find_from, find_endpoints}
 use Rattle.descriptor_list.specs.Valid.{begins_with_configuration, words_ok, run_fits, runs_fit, configurations, has_interface, last_alternate, interfaces, valid_list}
 
@@ -79,36 +79,34 @@ has_at i (w ∷ l) zero h e = or_left (of_interface i w) (has_interface i l) e
 has_at i (w ∷ l) (suc k) h e = or_right (of_interface i w) (has_interface i l) (has_at i l k (omega arith) e)
 
 -- The first match in a list whose words count from `at`: `passed` words stand before it.
-record Match (i a at : ℕ) (l : List ℕ) (start count : ℕ) : Type 0 where
+record Match (i a at : ℕ) (l : List ℕ) (f : EndpointWords) : Type 0 where
   pub passed : ℕ
   pub inside : passed < length l
-  pub placed : start ≡ at + passed + 1
+  pub placed : f.start ≡ at + passed + 1
   pub matches : is_alternate i a (get_or l passed 0) ≡ true
   pub earlier : (k : ℕ) → k < passed → is_alternate i a (get_or l k 0) ≡ false
-  pub counted : count ≡ endpoint_run (drop (suc passed) l)
+  pub counted : f.count ≡ endpoint_run (drop (suc passed) l)
 
-module _ (i a start count : ℕ) where
-  match_of : (l : List ℕ) (at : ℕ) → find_from i a at l ≡ Endpoints start count → Match i a at l start count
+module _ (i a : ℕ) (f : EndpointWords) where
+  match_of : (l : List ℕ) (at : ℕ) → find_from i a at l ≡ Some f → Match i a at l f
   unfolding find_from
-  match_of [] at e = let z : ◌≡◌ {A = ℕ} 0 1 = cc in absurd (omega arith)
+  match_of [] at e = absurd (cc)
   match_of (w ∷ l) at e = go (decided (is_alternate i a w)) (match_of l (at + 1))
     where
-      go : Decided (is_alternate i a w) →
-          (find_from i a (at + 1) l ≡ Endpoints start count → Match i a (at + 1) l start count) →
-          Match i a at (w ∷ l) start count
-      go (inl p) f =
-          let q : Endpoints (at + 1) (endpoint_run l) ≡ Endpoints start count = rw p at e in
-          let s : start ≡ at + 1 = cc in
+      go : Decided (is_alternate i a w) → (find_from i a (at + 1) l ≡ Some f → Match i a (at + 1) l f) → Match i a at (w ∷ l) f
+      go (inl p) g =
+          let q : Some (record { start = at + 1; count = endpoint_run l }) ≡ Some f = rw p at e in
+          let r : record { start = at + 1; count = endpoint_run l } ≡ f = cc in
           record {
             passed = 0;
             inside = omega arith;
-            placed = omega arith;
+            placed = rw (← r) (omega arith);
             matches = p;
             earlier = λ k h. absurd (omega arith);
-            counted = cc;
+            counted = rw (← r);
           }
-      go (inr p) f =
-          let m = f (rw p at e) in
+      go (inr p) g =
+          let m = g (rw p at e) in
           record {
             passed = suc m.passed;
             inside = omega arith;
@@ -118,45 +116,44 @@ module _ (i a start count : ℕ) where
             counted = m.counted;
           }
         where
-          earlier : (m : Match i a (at + 1) l start count) (k : ℕ) → k < suc m.passed →
-              is_alternate i a (get_or (w ∷ l) k 0) ≡ false
+          earlier : (m : Match i a (at + 1) l f) (k : ℕ) → k < suc m.passed → is_alternate i a (get_or (w ∷ l) k 0) ≡ false
           earlier m zero h = p
           earlier m (suc k) h = m.earlier k (omega arith)
 
 -- What lookup found.
-module _ (list : List ℕ) (i a start count : ℕ) (e : find_endpoints list i a ≡ Endpoints start count) where
-  found : Match i a 0 list start count
+module _ (list : List ℕ) (i a : ℕ) (f : EndpointWords) (e : find_endpoints list i a ≡ Some f) where
+  found : Match i a 0 list f
   unfolding find_endpoints
-  found = match_of i a start count list 0 e
+  found = match_of i a f list 0 e
 
   -- a word stands before the found ones
-  pub found_start : 1 ≤ start
+  pub found_start : 1 ≤ f.start
   found_start = omega (arith, found.placed)
 
   -- the found words are the run of endpoint words from `start` on
-  pub found_run : count ≡ endpoint_run (drop start list)
-  found_run = let s : start ≡ suc found.passed = omega (arith, found.placed) in rw s found.counted
+  pub found_run : f.count ≡ endpoint_run (drop f.start list)
+  found_run = let s : f.start ≡ suc found.passed = omega (arith, found.placed) in rw s found.counted
 
   -- they lie inside the list
-  pub found_inside : start + count ≤ length list
+  pub found_inside : f.start + f.count ≤ length list
   found_inside =
-      omega (arith, found.placed, found.inside, found_run, run_inside (drop start list), length-drop start list)
+      omega (arith, found.placed, found.inside, found_run, run_inside (drop f.start list), length-drop f.start list)
 
   -- each is an endpoint word
-  pub found_endpoints : (k : ℕ) → k < count → kind (get_or list (start + k) 0) ≡ ENDPOINT
-  found_endpoints k h = rw (← get_or-drop start list k 0) (run_endpoints (drop start list) k (rw (← found_run) h))
+  pub found_endpoints : (k : ℕ) → k < f.count → kind (get_or list (f.start + k) 0) ≡ ENDPOINT
+  found_endpoints k h = rw (← get_or-drop f.start list k 0) (run_endpoints (drop f.start list) k (rw (← found_run) h))
 
   -- and the word after them is none
-  pub found_end : start + count < length list → kind (get_or list (start + count) 0) ≡ ENDPOINT → ⊥
+  pub found_end : f.start + f.count < length list → kind (get_or list (f.start + f.count) 0) ≡ ENDPOINT → ⊥
   found_end h q =
-      run_ends (drop start list) (omega (arith, found_run, length-drop start list)) (rw (get_or-drop, ← found_run) q)
+      run_ends (drop f.start list) (omega (arith, found_run, length-drop f.start list)) (rw (get_or-drop, ← found_run) q)
 
   -- the word before them is the alternate that was asked for
-  pub found_alternate : is_alternate i a (get_or list (start - 1) 0) ≡ true
-  found_alternate = let s : start - 1 ≡ found.passed = omega (arith, found.placed) in rw s found.matches
+  pub found_alternate : is_alternate i a (get_or list (f.start - 1) 0) ≡ true
+  found_alternate = let s : f.start - 1 ≡ found.passed = omega (arith, found.placed) in rw s found.matches
 
   -- and no earlier word is
-  pub found_first : (k : ℕ) → k + 1 < start → is_alternate i a (get_or list k 0) ≡ false
+  pub found_first : (k : ℕ) → k + 1 < f.start → is_alternate i a (get_or list k 0) ≡ false
   found_first k h = found.earlier k (omega (arith, found.placed))
 
   -- a found alternate's interface is in the list
@@ -169,43 +166,41 @@ abbrev pub Absent : ℕ → ℕ → List ℕ → Type 0
 Absent i a l = (k : ℕ) → k < length l → is_alternate i a (get_or l k 0) ≡ false
 
 module _ (i a : ℕ) where
-  none_from : (l : List ℕ) (at : ℕ) → find_from i a at l ≡ NotFound → Absent i a l
+  none_from : (l : List ℕ) (at : ℕ) → find_from i a at l ≡ None → Absent i a l
   unfolding find_from
   none_from [] at e k h = absurd (omega arith)
   none_from (w ∷ l) at e k h = go (decided (is_alternate i a w)) (none_from l (at + 1)) k h
     where
-      go : Decided (is_alternate i a w) → (find_from i a (at + 1) l ≡ NotFound → Absent i a l) → Absent i a (w ∷ l)
+      go : Decided (is_alternate i a w) → (find_from i a (at + 1) l ≡ None → Absent i a l) → Absent i a (w ∷ l)
       go (inl p) f k h =
-          let q : Endpoints (at + 1) (endpoint_run l) ≡ NotFound = rw p at e in
-          let z : ◌≡◌ {A = ℕ} 0 1 = cc in
-          absurd (omega arith)
+          let q : ◌≡◌ {A = Option EndpointWords} (Some (record { start = at + 1; count = endpoint_run l })) None = rw p at e in
+          absurd (cc)
       go (inr p) f zero h = p
       go (inr p) f (suc k) h = f (rw p at e) k (omega arith)
 
-  from_none : (l : List ℕ) (at : ℕ) → Absent i a l → find_from i a at l ≡ NotFound
+  from_none : (l : List ℕ) (at : ℕ) → Absent i a l → find_from i a at l ≡ None
   unfolding find_from
   from_none [] at f = refl
   from_none (w ∷ l) at f = rw (f 0 (omega arith)) (from_none l (at + 1) (λ k h. f (suc k) (omega arith)))
 
 -- where lookup finds nothing, no word is the alternate asked for
-pub not_found : (list : List ℕ) (i a : ℕ) → find_endpoints list i a ≡ NotFound → Absent i a list
+pub not_found : (list : List ℕ) (i a : ℕ) → find_endpoints list i a ≡ None → Absent i a list
 unfolding find_endpoints
 not_found list i a e = none_from i a list 0 e
 
 -- where no word is, lookup finds nothing
-pub not_found_if : (list : List ℕ) (i a : ℕ) → Absent i a list → find_endpoints list i a ≡ NotFound
+pub not_found_if : (list : List ℕ) (i a : ℕ) → Absent i a list → find_endpoints list i a ≡ None
 unfolding find_endpoints
 not_found_if list i a f = from_none i a list 0 f
 
 -- where some word is, lookup finds one
 pub found_if : (list : List ℕ) (i a k : ℕ) → k < length list → is_alternate i a (get_or list k 0) ≡ true →
-    (start : ℕ) × (count : ℕ) × (find_endpoints list i a ≡ Endpoints start count)
+    (f : EndpointWords) × (find_endpoints list i a ≡ Some f)
 found_if list i a k h p = go (find_endpoints list i a) refl
   where
-    go : (r : Found) → find_endpoints list i a ≡ r →
-        (start : ℕ) × (count : ℕ) × (find_endpoints list i a ≡ Endpoints start count)
-    go (Endpoints start count) e = (start, count, e)
-    go NotFound e = not_both (is_alternate i a (get_or list k 0)) p (not_found list i a e k h)
+    go : (r : Option EndpointWords) → find_endpoints list i a ≡ r → (f : EndpointWords) × (find_endpoints list i a ≡ Some f)
+    go (Some f) e = (f, e)
+    go None e = not_both (is_alternate i a (get_or list k 0)) p (not_found list i a e k h)
 
 words_at : (l : List ℕ) → words_ok l ≡ true → (k : ℕ) → k < length l → word_ok (get_or l k 0) ≡ true
 unfolding words_ok
@@ -259,18 +254,18 @@ module _ (list : List ℕ) (v : valid_list list ≡ true) where
   valid_interfaces = leb-true (interfaces list) 32 (and_right (leb (configurations list) 8) _ valid_counts)
 
   -- lookup finds at most 30 endpoint words
-  pub valid_count : (i a start count : ℕ) → find_endpoints list i a ≡ Endpoints start count → count ≤ 30
-  valid_count i a start count e =
-      let m = found list i a start count e in
+  pub valid_count : (i a : ℕ) (f : EndpointWords) → find_endpoints list i a ≡ Some f → f.count ≤ 30
+  valid_count i a f e =
+      let m = found list i a f e in
       let w : ℕ = get_or list m.passed 0 in
       let alternate : kind w ≡ ALTERNATE = interface_kind i w (alternate_interface i a w m.matches) in
       let fits = runs_at list (and_left (runs_fit list) _ valid_runs) m.passed m.inside in
       rw m.counted (alternate_run (kind w) _ alternate fits)
 
   -- and each may stand in a list
-  pub valid_found : (i a start count : ℕ) → find_endpoints list i a ≡ Endpoints start count → (k : ℕ) → k < count →
-      word_ok (get_or list (start + k) 0) ≡ true
-  valid_found i a start count e k h = valid_word (start + k) (omega (arith, found_inside list i a start count e))
+  pub valid_found : (i a : ℕ) (f : EndpointWords) → find_endpoints list i a ≡ Some f → (k : ℕ) → k < f.count →
+      word_ok (get_or list (f.start + k) 0) ≡ true
+  valid_found i a f e k h = valid_word (f.start + k) (omega (arith, found_inside list i a f e))
 
 module _ (w : ℕ) (l : List ℕ) where
   -- a last alternate word is one of its interface, with none after it

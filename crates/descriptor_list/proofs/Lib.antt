@@ -1,3 +1,4 @@
+mod Chains
 pub mod Examples
 pub mod Laws
 mod Marks

@@ -6,7 +6,7 @@ use mathlib.Core.Bool.{Bool, true, false, cond, not, ◌||◌}
 use mathlib.Core.List.{List, [], ◌∷◌}
 use native.Mathlib.Omega.{arith}
 use native.Mathlib.Numerals.{add-one}
-use borrow.Author.Tests.{eqb-true, eqb-false, eq-eqb, ne_eqb}
+use borrow.Author.Tests.{eqb-true, eqb-false, eq-eqb}
 use lib.Dec.{eqb}
 use lib.ListN.{length, get_or, set, drop, replicate, drop_of_length-le, get_or-replicate}
 use lib.Seq.{get_or-set_same, get_or-set_other}
@@ -33,24 +33,20 @@ pub counted_all : (marks : List Bool) (count : ℕ) (l : List ℕ) (i : ℕ) →
     count ≡ interfaces l
 counted_all marks count l i h c = let e : i ≡ 0 = omega arith in rw e at c.counted
 
-module _ (marks : List Bool) (count w : ℕ) (l : List ℕ) (c : Counted marks count l) (t : ℕ) (q : t ≡ kind w) where
-  -- a word that is no alternate
-  pub other_word : (t ≡ ALTERNATE → ⊥) → Counted marks count (w ∷ l)
+module _ (marks : List Bool) (count w : ℕ) (l : List ℕ) (c : Counted marks count l) where
+  -- a word of another kind than an alternate's
+  pub other_word : (k : ℕ) → kind w ≡ k → eqb k ALTERNATE ≡ false → Counted marks count (w ∷ l)
   unfolding has_interface of_interface interfaces last_alternate
-  other_word n =
-      record {
-        marked = λ k h. rw (← q, ne_eqb t ALTERNATE n) (c.marked k h);
-        counted = rw (← q, ne_eqb t ALTERNATE n) c.counted;
-      }
+  other_word k e f = record { marked = λ x h. rw (e, f) (c.marked x h); counted = rw (e, f) c.counted }
 
-  module _ (x : ℕ) (e : x ≡ interface_number w) (a : t ≡ ALTERNATE) (b : x < 256) where
+  module _ (x : ℕ) (e : x ≡ interface_number w) (a : kind w ≡ ALTERNATE) (b : x < 256) where
     has_word : (k : ℕ) → has_interface k (w ∷ l) ≡ eqb x k || has_interface k l
     unfolding has_interface of_interface
-    has_word k = rw (← q, eq-eqb t ALTERNATE a, e)
+    has_word k = rw (eq-eqb (kind w) ALTERNATE a, e)
 
     count_word : interfaces (w ∷ l) ≡ cond (not (get_or marks x false)) (interfaces l + 1) (interfaces l)
     unfolding interfaces last_alternate
-    count_word = rw (← q, eq-eqb t ALTERNATE a, ← e, c.marked x b, add-one)
+    count_word = rw (eq-eqb (kind w) ALTERNATE a, ← e, c.marked x b, add-one)
 
     -- an alternate of an interface with a mark
     pub marked_word : get_or marks x false ≡ true → Counted marks count (w ∷ l)

@@ -2,118 +2,110 @@
 #![tactic(auto)]
 
 ghost use Rattle.std.specs.Prelude.{◌≡◌, ◌&&◌, leb, drop};
-ghost use Rattle.descriptor_list.specs.Lookup.{endpoint_run, find_endpoints};
+ghost use Rattle.descriptor_list.specs.Lookup.{endpoint_run, is_alternate, find_endpoints};
 ghost use Rattle.descriptor_list.specs.Valid.{words_ok, runs_fit, configurations, interfaces, valid_list};
+
+use descriptor::WordKind;
 
 // How many words a list may have, and a record has room for.
 pub const LIST_ROOM: usize = 256;
 
 // Where the endpoint words of an alternate setting stand.
 #[derive(Clone, Copy)]
-pub enum Found {
-    Endpoints { start: usize, count: usize },
-    NotFound,
+pub struct EndpointWords {
+    pub start: usize,
+    pub count: usize,
 }
 
 // How many endpoint words stand from an index on.
 pub fn endpoint_run(list: &[u32], from: usize) -> usize
     ensures { result ≡ endpoint_run (drop from list.now) }
 {
-    let mut i = from;
-    while i < list.len() {
-        if descriptor::word_kind(list[i]) != descriptor::ENDPOINT {
-            return i - from;
-        }
-        i += 1;
-    }
-    i - from
+    list[from.min(list.len())..]
+        .iter()
+        .take_while(|w| descriptor::word_kind(**w) == Some(WordKind::Endpoint))
+        .count()
+}
+
+#[tactic(auto, using(descriptor::proofs::Kind::kind_test), unfolding(crate::specs::Lookup::is_alternate, crate::specs::Lookup::of_interface))]
+fn is_alternate(w: u32, interface: u8, alternate: u8) -> bool
+    ensures { result ≡ is_alternate interface alternate w }
+{
+    descriptor::word_kind(w) == Some(WordKind::Alternate)
+        && descriptor::interface_number(w) == interface
+        && descriptor::alternate_setting(w) == alternate
 }
 
 // The endpoint words of the first alternate setting that matches, over all configurations.
-pub fn find_interface_endpoints(list: &[u32], interface: u8, alternate: u8) -> Found
+pub fn find_interface_endpoints(list: &[u32], interface: u8, alternate: u8) -> Option<EndpointWords>
     ensures { result ≡ find_endpoints list.now interface alternate }
 {
-    let mut start = 0;
-    while start < list.len() {
-        let w = list[start];
-        start += 1;
-        if descriptor::word_kind(w) == descriptor::ALTERNATE
-            && descriptor::interface_number(w) == interface
-            && descriptor::alternate_setting(w) == alternate
-        {
-            return Found::Endpoints {
-                start,
-                count: endpoint_run(list, start),
-            };
-        }
-    }
-    Found::NotFound
+    let start = list
+        .iter()
+        .position(|w| is_alternate(*w, interface, alternate))?
+        + 1;
+    Some(EndpointWords {
+        start,
+        count: endpoint_run(list, start),
+    })
 }
 
 pub fn count_configurations(list: &[u32]) -> usize
     ensures { result ≡ configurations list.now }
 {
-    let mut count = 0;
-    let mut i = 0;
-    while i < list.len() {
-        let kind = descriptor::word_kind(list[i]);
-        i += 1;
-        if kind == descriptor::CONFIGURATION {
-            count += 1;
-        }
-    }
-    count
+    list.iter()
+        .filter(|w| descriptor::word_kind(**w) == Some(WordKind::Configuration))
+        .count()
 }
 
 // The rules of the words, in a walk from the end of the list: the endpoint words that follow one are counted in run, and an
-// interface is counted at its last alternate word, where it has no mark yet.
+// interface is counted at its last alternate word, where it has no mark yet. By index: with `iter().rev()` it
+// is no plainer, since each rule is about the words that follow an index.
 fn words_fit(list: &[u32]) -> bool
     ensures { result ≡ (words_ok list.now && (runs_fit list.now && leb (interfaces list.now) 32)) }
 {
     let mut marks = [false; 256];
     let mut count = 0usize;
     let mut run = 0usize;
-    let mut i = list.len();
-    while 0 < i {
-        i -= 1;
+    for i in (0..list.len()).rev() {
         let w = list[i];
         if !descriptor::word_ok(w) {
             return false;
         }
-        let kind = descriptor::word_kind(w);
-        if kind == descriptor::CONFIGURATION {
-            if run != 0 {
-                return false;
+        match descriptor::word_kind(w) {
+            Some(WordKind::Configuration) => {
+                if run != 0 {
+                    return false;
+                }
             }
-        } else if kind == descriptor::ALTERNATE {
-            if 30 < run {
-                return false;
+            Some(WordKind::Alternate) => {
+                if 30 < run {
+                    return false;
+                }
+                run = 0;
+                let interface = descriptor::interface_number(w) as usize;
+                if !marks[interface] {
+                    marks[interface] = true;
+                    count += 1;
+                }
             }
-            run = 0;
-            let interface = descriptor::interface_number(w) as usize;
-            if !marks[interface] {
-                marks[interface] = true;
-                count += 1;
-            }
-        } else {
-            run += 1;
+            Some(WordKind::Endpoint) => run += 1,
+            None => return false,
         }
     }
     count <= 32
 }
 
 // Whether a list of descriptor words is valid.
+#[tactic(auto, using(crate::proofs::Steps::valid_tests, crate::proofs::Steps::empty_valid, crate::proofs::Steps::begins, descriptor::proofs::Kind::kind_test))]
 pub fn valid_list(list: &[u32]) -> bool
     ensures { result ≡ valid_list list.now }
 {
-    if list.len() == 0 {
+    let Some(&first) = list.first() else {
         return true;
-    }
-    if LIST_ROOM < list.len() || descriptor::word_kind(list[0]) != descriptor::CONFIGURATION {
-        return false;
-    }
-    if 8 < count_configurations(list) {
-        return false;
-    }
-    words_fit(list)
+    };
+    list.len() <= LIST_ROOM
+        && descriptor::word_kind(first) == Some(WordKind::Configuration)
+        && count_configurations(list) <= 8
+        && words_fit(list)
 }

@@ -7,6 +7,7 @@ ghost use Rattle.descriptor.specs.Endpoint.{endpoint_type, periodic_interval, is
 use descriptor::TransferType;
 
 // EP Type of an endpoint's context.
+#[tactic(auto, unfolding(descriptor::specs::Endpoint::endpoint_type))]
 pub fn endpoint_type(t: TransferType, address: u8) -> u8
     ensures { result ≡ endpoint_type t address }
 {
@@ -19,38 +20,38 @@ pub fn endpoint_type(t: TransferType, address: u8) -> u8
     }
 }
 
+#[tactic(auto, unfolding(descriptor::specs::Endpoint::is_periodic))]
 pub fn is_periodic(t: TransferType) -> bool
     ensures { result ≡ is_periodic t }
 {
-    match t {
-        TransferType::Isochronous | TransferType::Interrupt => true,
-        _ => false,
-    }
+    matches!(t, TransferType::Isochronous | TransferType::Interrupt)
 }
 
 // From bInterval: at speeds 3 to 5 an exponent; at the others its `ilog2` comes from the count of leading zeros.
+#[tactic(auto, using(descriptor::proofs::Laws::interval_exponent, descriptor::proofs::Laws::interval_zeros))]
 fn periodic_interval(byte: u8, port_speed: u8) -> u8
     ensures { result ≡ periodic_interval byte port_speed }
 {
-    let held = if byte < 1 { 1 } else { byte };
     match port_speed {
-        def::HIGH..=def::SUPER_PLUS => if 16 < held { 15 } else { held - 1 },
-        _ => (10 - u8::leading_zeros(held)) as u8,
+        def::HIGH..=def::SUPER_PLUS => byte.clamp(1, 16) - 1,
+        _ => 10 - byte.max(1).leading_zeros() as u8,
     }
 }
 
 // Of an isochronous endpoint bInterval is an exponent at Full speed too, there of milliseconds.
+#[tactic(auto, unfolding(descriptor::specs::Endpoint::isochronous_interval, descriptor::specs::Endpoint::held_exponent))]
 fn isochronous_interval(byte: u8, port_speed: u8) -> u8
     ensures { result ≡ isochronous_interval byte port_speed }
 {
-    if port_speed != def::FULL {
-        return periodic_interval(byte, port_speed);
+    if port_speed == def::FULL {
+        byte.clamp(1, 16) + 2
+    } else {
+        periodic_interval(byte, port_speed)
     }
-    let held = if byte < 1 { 1 } else { byte };
-    if 16 < held { 18 } else { held + 2 }
 }
 
 // Interval of an endpoint's context.
+#[tactic(auto, unfolding(descriptor::specs::Endpoint::xhci_interval))]
 pub fn calculate_xhci_interval(byte: u8, t: TransferType, port_speed: u8) -> u8
     ensures { result ≡ xhci_interval byte t port_speed }
 {
@@ -62,22 +63,21 @@ pub fn calculate_xhci_interval(byte: u8, t: TransferType, port_speed: u8) -> u8
 }
 
 // Max Burst Size of a periodic endpoint.
+#[tactic(auto, unfolding(descriptor::specs::Endpoint::periodic_burst))]
 pub fn periodic_burst_size(t: TransferType, packets: u8, port_speed: u8) -> u8
     ensures { result ≡ periodic_burst t packets port_speed }
 {
-    if is_periodic(t) && port_speed == def::HIGH && packets != 0 {
-        return packets - 1;
+    if is_periodic(t) && port_speed == def::HIGH {
+        packets.saturating_sub(1)
+    } else {
+        0
     }
-    0
 }
 
 // Max ESIT Payload and Average TRB Length of a periodic endpoint.
+#[tactic(auto, unfolding(descriptor::specs::Endpoint::esit_payload))]
 pub fn max_esit_payload(max_packet_size: u16, burst: u8) -> u16
     ensures { result ≡ esit_payload max_packet_size burst }
 {
-    let bytes = (max_packet_size as u32) * (burst as u32 + 1);
-    if 65535 < bytes {
-        return 65535;
-    }
-    bytes as u16
+    max_packet_size.saturating_mul(burst as u16 + 1)
 }

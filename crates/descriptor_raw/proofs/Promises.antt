@@ -4,6 +4,7 @@ use mathlib.Core.Path.{◌≡◌, refl, ◌∙◌}
 use mathlib.Core.Logic.{inl, inr}
 use mathlib.Core.Bool.{Bool, true, false}
 use mathlib.Core.List.{List, [], ◌∷◌}
+use Rattle.std.proofs.Common.{Ok, Err}
 use native.Mathlib.Omega.{arith}
 use borrow.Author.Tests.{le-leb, leb-true}
 use lib.Dec.{leb}
@@ -13,8 +14,8 @@ use Rattle.laws.proofs.Tests.{and_right}
 use Rattle.laws.proofs.Cases.{Decided, decided}
 use Rattle.descriptor_list.specs.Valid.{begins_with_configuration, words_ok, runs_fit, configurations, interfaces, valid_list}
 use Rattle.descriptor_list.proofs.Laws.{valid_length}
-use Rattle.descriptor_raw.specs.declared.RawAnswer.{RawAnswer}
-use Rattle.descriptor_raw.specs.declared.RawAnswer.TheVariants.{Accepted, TooShort, DescriptorList, Malformed}
+use Rattle.descriptor_raw.specs.declared.RawRefusal.{RawRefusal}
+use Rattle.descriptor_raw.specs.declared.RawRefusal.TheVariants.{TooShort, DescriptorList, Malformed}
 use Rattle.descriptor_raw.specs.Answer.{Left, count_of, leaves, accepts, unless}
 use Rattle.descriptor_raw.specs.Read.{descriptors, all_whole, all_borne_out, well_formed, words_of, all_words, read_words, read_descriptors}
 use Rattle.descriptor_raw.specs.Write.{packets_given, written_bytes, write_descriptors}
@@ -40,7 +41,7 @@ record Passed (bytes words : List ℕ) (count : ℕ) : Type 0 where
   pub valid : valid_list (read_words bytes) ≡ true
   pub counted : count ≡ length (read_words bytes)
 
-passed : (bytes words : List ℕ) (count : ℕ) → (read_descriptors bytes words).answer ≡ Accepted count → Passed bytes words count
+passed : (bytes words : List ℕ) (count : ℕ) → (read_descriptors bytes words).answer ≡ Ok count → Passed bytes words count
 unfolding read_descriptors
 passed bytes words count e =
     go (decided (leb 256 (length words))) (decided (well_formed (descriptors bytes))) (decided (valid_list (read_words bytes)))
@@ -48,16 +49,14 @@ passed bytes words count e =
     go : Decided (leb 256 (length words)) → Decided (well_formed (descriptors bytes)) → Decided (valid_list (read_words bytes)) →
         Passed bytes words count
     go (inl r) (inl f) (inl v) =
-        let q : Accepted (length (read_words bytes)) ≡ Accepted count = rw (r, f, v) at e in
+        let q : Ok (length (read_words bytes)) ≡ Ok count = rw (r, f, v) at e in
         record { space = leb-true 256 _ r; formed = f; valid = v; counted = cc }
     go (inl r) (inl f) (inr v) =
-        let q : DescriptorList ≡ Accepted count = rw (r, f, v) at e in
-        let z : ◌≡◌ {A = ℕ} 0 1 = cc in
-        absurd (omega arith)
+        let q : Err DescriptorList ≡ Ok count = rw (r, f, v) at e in cc
     go (inl r) (inr f) v =
-        let q : Malformed ≡ Accepted count = rw (r, f) at e in let z : ◌≡◌ {A = ℕ} 0 1 = cc in absurd (omega arith)
+        let q : Err Malformed ≡ Ok count = rw (r, f) at e in cc
     go (inr r) f v =
-        let q : TooShort ≡ Accepted count = rw r at e in let z : ◌≡◌ {A = ℕ} 0 1 = cc in absurd (omega arith)
+        let q : Err TooShort ≡ Ok count = rw r at e in cc
 
 reads : ReadPromise
 unfolding read_descriptors read_words descriptors well_formed
@@ -97,10 +96,11 @@ accepted_kept output buffer =
       past = λ k h. sets_past output buffer 0 k (omega arith);
     }
 
-refused_kept : (refusal : RawAnswer) (buffer : List ℕ) → RestKept buffer (leaves refusal buffer)
+refused_kept : (refusal : RawRefusal) (buffer : List ℕ) → RestKept buffer (leaves (Err refusal) buffer)
+unfolding count_of
 refused_kept refusal buffer = record { long = refl; past = λ k h. refl }
 
-unless_kept : (holds : Bool) (refusal : RawAnswer) (buffer : List ℕ) (next : Left) → RestKept buffer next → RestKept buffer (unless holds refusal buffer next)
+unless_kept : (holds : Bool) (refusal : RawRefusal) (buffer : List ℕ) (next : Left) → RestKept buffer next → RestKept buffer (unless holds refusal buffer next)
 unless_kept true refusal buffer next n = n
 unless_kept false refusal buffer next n = refused_kept refusal buffer
 

@@ -1,5 +1,7 @@
 -- The descriptors of USB 2.0, section 9.6. A descriptor is the list of its bytes; a field of two bytes has the low one first.
 use Rattle.std.specs.Prelude.{ℕ, ◌+◌, ◌*◌, ◌/◌, ◌%◌, Bool, cond, List, eqb, get_or}
+use Rattle.descriptor_raw.specs.declared.DescriptorKind.{DescriptorKind}
+use Rattle.descriptor_raw.specs.declared.DescriptorKind.TheVariants.{Configuration, Interface, Endpoint, Other}
 
 -- Descriptor types (table 9-5).
 abbrev pub CONFIGURATION-TYPE : ℕ
@@ -68,6 +70,12 @@ packet_field size less_one = size + 2048 * less_one
 unfoldable pub size_of : ℕ → ℕ
 size_of type =
     cond (eqb type CONFIGURATION-TYPE) 9 (cond (eqb type INTERFACE-TYPE) 9 (cond (eqb type ENDPOINT-TYPE) 7 2))
+
+-- The kind of a descriptor by its type.
+unfoldable pub kind_of : ℕ → DescriptorKind
+kind_of type =
+    cond (eqb type CONFIGURATION-TYPE) Configuration
+    (cond (eqb type INTERFACE-TYPE) Interface (cond (eqb type ENDPOINT-TYPE) Endpoint Other))
 
 abbrev pub byte_at : ℕ → List ℕ → ℕ
 byte_at place d = get_or d place 0

@@ -1,9 +1,8 @@
 -- What reader and writer promise of each other: proofs/Promises.antt proves each `..Promise`.
-use Rattle.std.specs.Prelude.{ℕ, ◌^◌, ◌≤◌, ◌<◌, ◌≡◌, true, false, List, [], length, get_or}
+use Rattle.std.specs.Prelude.{ℕ, ◌^◌, ◌≤◌, ◌<◌, ◌≡◌, true, false, List, [], length, get_or, Ok}
 use Rattle.std.proofs.lemmas.List.Edits.{sets}
 use Rattle.laws.specs.Bounds.{Below}
 use Rattle.descriptor_list.specs.Valid.{valid_list}
-use Rattle.descriptor_raw.specs.declared.RawAnswer.TheVariants.{Accepted}
 use Rattle.descriptor_raw.specs.Answer.{Left, count_of, accepts}
 use Rattle.descriptor_raw.specs.Descriptor.{is_configuration, is_interface, is_endpoint}
 use Rattle.descriptor_raw.specs.Read.{descriptors, well_formed, read_words, read_descriptors}
@@ -37,7 +36,7 @@ abbrev pub ReadPromise : Type 0
 ReadPromise =
     (bytes words buffer : List ℕ) (count : ℕ) →
     Below (2 ^ 8) bytes →
-    (read_descriptors bytes words).answer ≡ Accepted count →
+    (read_descriptors bytes words).answer ≡ Ok count →
     2304 ≤ length buffer →
     IsRead bytes words buffer count
 

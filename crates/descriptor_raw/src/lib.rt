@@ -4,6 +4,9 @@
 pub mod place;
 pub mod size;
 
+ghost use Rattle.std.specs.Prelude.{◌≡◌};
+ghost use Rattle.descriptor_raw.specs.Descriptor.{kind_of};
+
 // Types of descriptors.
 pub const CONFIGURATION: u8 = 2;
 
@@ -16,10 +19,32 @@ pub const READ_WORDS: usize = 256;
 
 pub const WRITE_BYTES: usize = 2304;
 
-// What the reader and the writer answer; accepted, how many words or bytes they wrote.
-#[derive(Clone, Copy)]
-pub enum RawAnswer {
-    Accepted(usize),
+// A descriptor by its type.
+#[derive(Clone, Copy, PartialEq, Eq)]
+pub enum DescriptorKind {
+    Configuration,
+    Interface,
+    Endpoint,
+    Other,
+}
+
+impl From<u8> for DescriptorKind {
+    ghost from_gives = { λ type kind. kind ≡ kind_of type };
+
+    #[tactic(auto, unfolding(crate::specs::Descriptor::kind_of))]
+    fn from(type_byte: u8) -> DescriptorKind {
+        match type_byte {
+            CONFIGURATION => DescriptorKind::Configuration,
+            INTERFACE => DescriptorKind::Interface,
+            ENDPOINT => DescriptorKind::Endpoint,
+            _ => DescriptorKind::Other,
+        }
+    }
+}
+
+// Why the reader and the writer refuse; accepted, they say how many words or bytes they wrote.
+#[derive(Clone, Copy, PartialEq, Eq)]
+pub enum RawRefusal {
     TooShort,
     DescriptorList,
     Malformed,

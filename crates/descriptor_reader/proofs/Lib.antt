@@ -2,4 +2,4 @@ mod Exits
 mod Gather
 mod Judged
 mod Rest
-mod Turn
+mod Step

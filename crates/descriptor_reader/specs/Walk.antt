@@ -1,28 +1,24 @@
--- What the walks over bytes take and give.
-use Rattle.std.specs.Prelude.{ℕ, ◌≤◌, ◌<◌, ◌≡◌, true, List, [], ◌∷◌, length, get_or, take, drop}
-use Rattle.descriptor_raw.specs.Read.{cut, all_whole, read_words}
-use Rattle.descriptor_reader.specs.declared.words.Made.{Made}
-use Rattle.descriptor_reader.specs.declared.words.Made.TheVariants.{Word, Nothing}
+-- What the walks over descriptors give.
+use Rattle.std.specs.Prelude.{ℕ, ◌+◌, ◌≤◌, ◌<◌, ◌≡◌, List, [], ◌∷◌, Option, Some, None, MatchOption, length, take}
+use Rattle.descriptor_raw.specs.Read.{descriptors, read_words}
+use Rattle.descriptor_reader.specs.declared.cut.Descriptor.{Descriptor}
+use Rattle.descriptor_reader.specs.declared.cut.Descriptors.{Descriptors}
 
--- The descriptors from an index on.
-abbrev pub descriptors_from : List ℕ → ℕ → List (List ℕ)
-descriptors_from bytes i = cut 0 (drop i bytes)
+-- The first descriptor of bytes, and the bytes after it.
+pub record CutOff (bytes d after : List ℕ) : Type 0 where
+  pub next : descriptors bytes ≡ d ∷ descriptors after
+  pub long : length d + length after ≡ length bytes
 
--- The descriptor at an index.
-abbrev pub descriptor_at : List ℕ → ℕ → List ℕ
-descriptor_at bytes i = take (get_or bytes i 0) (drop i bytes)
-
--- From an index on the descriptors are whole.
-pub record WholeFrom (bytes : List ℕ) (i : ℕ) : Type 0 where
-  pub inside : i ≤ length bytes
-  pub whole : all_whole (descriptors_from bytes i) ≡ true
+-- What a walk gives: the first descriptor that is left, or none where nothing is left.
+abbrev pub Yields : Descriptors → Option Descriptor → Descriptors → Type 0
+Yields from given left = MatchOption given (from.bytes.now ≡ []) (λ d. CutOff from.bytes.now d.bytes.now left.bytes.now)
 
 -- The word of a descriptor, or none.
-unfoldable pub made_words : Made → List ℕ
-made_words (Word w) = w ∷ []
-made_words Nothing = []
+unfoldable pub made_words : Option ℕ → List ℕ
+made_words (Some w) = w ∷ []
+made_words None = []
 
 -- What is gathered of the words of bytes: all of them, at the front of a list, where they are 256 at most.
-pub record Gathered (bytes list : List ℕ) (count : ℕ) : Type 0 where
-  pub few : count ≤ 256 → take count list ≡ read_words bytes
-  pub many : 256 < count → 256 < length (read_words bytes)
+abbrev pub Gathered : List ℕ → List ℕ → Option ℕ → Type 0
+Gathered bytes list gathered =
+    MatchOption gathered (256 < length (read_words bytes)) (λ count. (count ≤ 256) × (take count list ≡ read_words bytes))

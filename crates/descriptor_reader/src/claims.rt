@@ -1,106 +1,95 @@
 // What descriptors say of those after them: total lengths and counts.
-ghost use Rattle.std.specs.Prelude.{◌+◌, ◌<◌, ◌≡◌, true, length, get_or};
+ghost use Rattle.std.specs.Prelude.{◌≤◌, ◌≡◌, length};
 ghost use Rattle.descriptor_raw.specs.Claims.{bytes_after, interfaces_after, endpoints_after};
-ghost use Rattle.descriptor_raw.specs.Read.{descriptors, all_whole, borne_out, all_borne_out};
-ghost use Rattle.descriptor_reader.specs.Walk.{descriptors_from, descriptor_at, WholeFrom};
+ghost use Rattle.descriptor_raw.specs.Read.{descriptors, borne_out, all_borne_out};
 
-use super::cut::{byte_at, two_bytes_at};
-use descriptor_raw::place;
+use super::cut::{Descriptor, Descriptors};
+use descriptor_raw::{DescriptorKind, place};
 
-// Where the next configuration begins, or the end.
-fn next_configuration(bytes: &[u8], from: usize) -> usize
-    requires { WholeFrom bytes.now from }
-    ensures { result ≡ from + bytes_after (descriptors_from bytes.now from) }
+// How many bytes there are before the next configuration.
+fn count_bytes(after: Descriptors) -> usize
+    ensures { (result ≡ bytes_after (descriptors after.entry.bytes.now)) × (result ≤ length after.entry.bytes.now) }
 {
-    let mut i = from;
-    while i < bytes.len() {
-        if bytes[i + place::TYPE] == descriptor_raw::CONFIGURATION {
-            return i;
+    let mut count = 0;
+    for d in after {
+        if d.kind() == DescriptorKind::Configuration {
+            return count;
         }
-        i += byte_at(bytes, i);
+        count += d.bytes.len();
     }
-    i
+    count
 }
 
 // How many distinct interfaces there are before the next configuration.
-fn count_interfaces(bytes: &[u8], from: usize) -> usize
-    requires { WholeFrom bytes.now from }
-    ensures { result ≡ interfaces_after (descriptors_from bytes.now from) }
+fn count_interfaces(after: Descriptors) -> usize
+    ensures { result ≡ interfaces_after (descriptors after.entry.bytes.now) }
 {
+    // One mark for each interface number: without a heap there is no set.
     let mut marks = [false; 256];
-    let mut count = 0usize;
-    let mut i = from;
-    while i < bytes.len() {
-        let at = i;
-        let kind = bytes[at + place::TYPE];
-        if kind == descriptor_raw::CONFIGURATION {
-            return count;
-        }
-        i += byte_at(bytes, at);
-        if kind == descriptor_raw::INTERFACE {
-            let number = byte_at(bytes, at + place::INTERFACE_NUMBER);
-            if !marks[number] {
-                marks[number] = true;
-                count += 1;
+    let mut count = 0;
+    for d in after {
+        match d.kind() {
+            DescriptorKind::Configuration => {
+                return count;
             }
+            DescriptorKind::Interface => {
+                let number = d.bytes[place::INTERFACE_NUMBER] as usize;
+                if !marks[number] {
+                    marks[number] = true;
+                    count += 1;
+                }
+            }
+            _ => {}
         }
     }
     count
 }
 
 // How many endpoints there are before the next interface or configuration.
-fn count_endpoints(bytes: &[u8], from: usize) -> usize
-    requires { WholeFrom bytes.now from }
-    ensures { result ≡ endpoints_after (descriptors_from bytes.now from) }
+fn count_endpoints(after: Descriptors) -> usize
+    ensures { result ≡ endpoints_after (descriptors after.entry.bytes.now) }
 {
-    let mut count = 0usize;
-    let mut i = from;
-    while i < bytes.len() {
-        let kind = bytes[i + place::TYPE];
-        if kind == descriptor_raw::CONFIGURATION || kind == descriptor_raw::INTERFACE {
-            return count;
-        }
-        i += byte_at(bytes, i);
-        if kind == descriptor_raw::ENDPOINT {
-            count += 1;
+    let mut count = 0;
+    for d in after {
+        match d.kind() {
+            DescriptorKind::Configuration | DescriptorKind::Interface => {
+                return count;
+            }
+            DescriptorKind::Endpoint => {
+                count += 1;
+            }
+            DescriptorKind::Other => {}
         }
     }
     count
 }
 
-// Whether what a descriptor says is so.
-fn borne_out(bytes: &[u8], i: usize) -> bool
-    requires { (i < length bytes.now) × WholeFrom bytes.now i }
-    ensures { result ≡ borne_out (descriptor_at bytes.now i) (descriptors_from bytes.now (i + get_or bytes.now i 0)) }
+// Whether what a descriptor says of those after it is so.
+fn borne_out(d: Descriptor, after: Descriptors) -> bool
+    ensures { result ≡ borne_out d.entry.bytes.now (descriptors after.entry.bytes.now) }
 {
-    let next = i + byte_at(bytes, i);
-    match bytes[i + place::TYPE] {
-        descriptor_raw::CONFIGURATION => {
-            if two_bytes_at(bytes, i + place::TOTAL_LENGTH) != next_configuration(bytes, next) - i {
-                return false;
-            }
-            byte_at(bytes, i + place::NUM_INTERFACES) == count_interfaces(bytes, next)
+    match d.kind() {
+        DescriptorKind::Configuration => {
+            d.two_bytes(place::TOTAL_LENGTH) == d.bytes.len() + count_bytes(after)
+                && d.bytes[place::NUM_INTERFACES] as usize == count_interfaces(after)
         }
-        descriptor_raw::INTERFACE => byte_at(bytes, i + place::NUM_ENDPOINTS)
-            == count_endpoints(bytes, next),
-        descriptor_raw::ENDPOINT => two_bytes_at(bytes, i + place::MAX_PACKET_SIZE)
-            / place::PACKETS_LSB
-            % 4
+        DescriptorKind::Interface => {
+            d.bytes[place::NUM_ENDPOINTS] as usize == count_endpoints(after)
+        }
+        DescriptorKind::Endpoint => d.two_bytes(place::MAX_PACKET_SIZE) / place::PACKETS_LSB % 4
             != 3,
-        _ => true,
+        DescriptorKind::Other => true,
     }
 }
 
-pub fn all_borne_out(bytes: &[u8]) -> bool
-    requires { all_whole (descriptors bytes.now) ≡ true }
-    ensures { result ≡ all_borne_out (descriptors bytes.now) }
+pub fn all_borne_out(all: Descriptors) -> bool
+    ensures { result ≡ all_borne_out (descriptors all.entry.bytes.now) }
 {
-    let mut i = 0;
-    while i < bytes.len() {
-        if !borne_out(bytes, i) {
+    let mut after = all;
+    while let Some(d) = after.next() {
+        if !borne_out(d, after) {
             return false;
         }
-        i += byte_at(bytes, i);
     }
     true
 }

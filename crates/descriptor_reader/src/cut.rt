@@ -1,54 +1,100 @@
 // Bytes cut into descriptors by their lengths.
-ghost use Rattle.std.specs.Prelude.{◌+◌, ◌*◌, ◌<◌, ◌≡◌, length, get_or};
-ghost use Rattle.descriptor_raw.specs.Descriptor.{size_of};
-ghost use Rattle.descriptor_raw.specs.Read.{descriptors, all_whole};
+ghost use Rattle.std.specs.Prelude.{◌+◌, ◌*◌, ◌<◌, ◌≡◌, true, false, MatchOption, length, get_or};
+ghost use Rattle.descriptor_raw.specs.Descriptor.{TYPE, kind_of, size_of, byte_at, two_bytes_at};
+ghost use Rattle.descriptor_raw.specs.Read.{descriptors, whole, all_whole};
 
-use descriptor_raw::{place, size};
+use descriptor_raw::{DescriptorKind, place, size};
 
-pub fn byte_at(bytes: &[u8], i: usize) -> usize
-    requires { i < length bytes.now }
-    ensures { (result ≡ get_or bytes.now i 0) × (result < 256) }
-{
-    bytes[i] as usize
+// A descriptor that has the bytes that its length says, and its type's size at least.
+#[derive(Clone, Copy)]
+pub struct Descriptor<'a> {
+    pub bytes: &'a [u8],
+    pub ghost whole: { whole bytes.now ≡ true },
 }
 
-pub fn two_bytes_at(bytes: &[u8], i: usize) -> usize
-    requires { i + 1 < length bytes.now }
-    ensures { (result ≡ get_or bytes.now i 0 + 256 * get_or bytes.now (i + 1) 0) × (result < 65536) }
-{
-    byte_at(bytes, i) + 256 * byte_at(bytes, i + 1)
+impl<'a> Descriptor<'a> {
+    pub fn kind(self) -> DescriptorKind
+        ensures { result ≡ kind_of (byte_at TYPE self.entry.bytes.now) }
+    {
+        DescriptorKind::from(self.bytes[place::TYPE])
+    }
+
+    // A field of two bytes.
+    pub fn two_bytes(self, at: usize) -> usize
+        requires { at + 1 < length self.bytes.now }
+        ensures { result ≡ two_bytes_at at self.entry.bytes.now }
+    {
+        u16::from_le_bytes([self.bytes[at], self.bytes[at + 1]]) as usize
+    }
+}
+
+// Such descriptors, one after the other.
+#[derive(Clone, Copy)]
+pub struct Descriptors<'a> {
+    bytes: &'a [u8],
+    pub ghost whole: { all_whole (descriptors bytes.now) ≡ true },
+}
+
+impl<'a> Descriptors<'a> {
+    // The descriptors of bytes, if all are whole.
+    pub fn of(bytes: &'a [u8]) -> Option<Descriptors<'a>>
+        ensures { MatchOption result (all_whole (descriptors bytes.now) ≡ false) (λ ds. ds.bytes.now ≡ bytes.now) }
+    {
+        if !lengths_fit(bytes) {
+            return None;
+        }
+        Some(Descriptors { bytes })
+    }
+}
+
+impl<'a> Iterator for Descriptors<'a> {
+    ghost use Rattle.std.specs.Iterator.{at_most};
+    ghost use Rattle.descriptor_reader.specs.Walk.{Yields};
+
+    type Item = Descriptor<'a>;
+
+    ghost next_gives = { Yields };
+
+    ghost remaining = { λ ds. at_most (length ds.bytes.now) };
+
+    fn next(&mut self) -> Option<Descriptor<'a>> {
+        let n = *self.bytes.first()? as usize;
+        let (bytes, rest) = self.bytes.split_at(n);
+        self.bytes = rest;
+        Some(Descriptor { bytes })
+    }
 }
 
 // The size of a descriptor by its type, the least one of another type.
+#[tactic(auto, unfolding(descriptor_raw::specs::Descriptor::size_of, descriptor_raw::specs::Descriptor::kind_of))]
 fn size_of(kind: u8) -> usize
     ensures { result ≡ size_of kind }
 {
-    match kind {
-        descriptor_raw::CONFIGURATION => size::CONFIGURATION,
-        descriptor_raw::INTERFACE => size::INTERFACE,
-        descriptor_raw::ENDPOINT => size::ENDPOINT,
-        _ => size::LEAST,
+    match DescriptorKind::from(kind) {
+        DescriptorKind::Configuration => size::CONFIGURATION,
+        DescriptorKind::Interface => size::INTERFACE,
+        DescriptorKind::Endpoint => size::ENDPOINT,
+        DescriptorKind::Other => size::LEAST,
     }
 }
 
 // Whether each descriptor has its type's size at least, and none goes past the end.
-pub fn lengths_fit(bytes: &[u8]) -> bool
+fn lengths_fit(bytes: &[u8]) -> bool
     ensures { result ≡ all_whole (descriptors bytes.now) }
 {
-    let mut i = 0;
-    while i < bytes.len() {
-        let rest = bytes.len() - i;
-        let n = byte_at(bytes, i);
+    let mut rest = bytes;
+    while !rest.is_empty() {
+        let n = rest[place::LENGTH] as usize;
         if n < size::LEAST {
             return false;
         }
-        if rest < n {
+        if rest.len() < n {
             return false;
         }
-        if n < size_of(bytes[i + place::TYPE]) {
+        if n < size_of(rest[place::TYPE]) {
             return false;
         }
-        i += n;
+        (_, rest) = rest.split_at(n);
     }
     true
 }

@@ -9,25 +9,22 @@ ghost use Rattle.std.specs.Prelude.{◌≡◌};
 ghost use Rattle.descriptor_raw.specs.Answer.{leaves};
 ghost use Rattle.descriptor_raw.specs.Read.{read_descriptors};
 
-use descriptor_raw::{READ_WORDS, RawAnswer};
+use cut::Descriptors;
+use descriptor_raw::{READ_WORDS, RawRefusal};
 
 // Reads bytes into the first words that are lent, of which there must be 256 or more.
-pub fn read_descriptors(bytes: &[u8], words: &mut [u32]) -> RawAnswer
+pub fn read_descriptors(bytes: &[u8], words: &mut [u32]) -> Result<usize, RawRefusal>
     ensures { leaves result words.new ≡ read_descriptors bytes.now words.old }
 {
     if words.len() < READ_WORDS {
-        return RawAnswer::TooShort;
+        return Err(RawRefusal::TooShort);
     }
-    if !cut::lengths_fit(bytes) {
-        return RawAnswer::Malformed;
+    let descriptors = Descriptors::of(bytes).ok_or(RawRefusal::Malformed)?;
+    if !claims::all_borne_out(descriptors) {
+        return Err(RawRefusal::Malformed);
     }
-    if !claims::all_borne_out(bytes) {
-        return RawAnswer::Malformed;
-    }
+    // Memory of its own beside a count, since there is no heap for a Vec.
     let mut list = [0u32; READ_WORDS];
-    let count = words::gather(bytes, &mut list);
-    if READ_WORDS < count {
-        return RawAnswer::DescriptorList;
-    }
+    let count = words::gather(descriptors, &mut list).ok_or(RawRefusal::DescriptorList)?;
     words::take_list(&list[..count], words)
 }

@@ -1,51 +1,57 @@
 -- One turn of the walk that finds what a configuration says.
 use Prim.Native.Nat.{ℕ, ◌+◌, ◌-◌, ◌*◌, ◌≤◌, ◌<◌}
-use mathlib.Core.Path.{◌≡◌, sym, ◌∙◌}
+use mathlib.Core.Path.{◌≡◌, ◌∙◌}
 use mathlib.Core.Logic.{◌≢◌}
 use mathlib.Core.Bool.{Bool, true, false}
 use mathlib.Core.List.{List, [], ◌∷◌}
 use native.Mathlib.Nat.{zero-add}
 use native.Mathlib.Omega.{arith}
-use lib.ListN.{length, get_or, set, replicate, length-set, length-replicate, drop_of_length-le}
+use lib.ListN.{length, get_or, drop, set, replicate, length-set, length-replicate, drop_of_length-le}
 use Rattle.descriptor.specs.Word.{CONFIGURATION, ALTERNATE, kind, interface_number}
 use Rattle.descriptor_list.proofs.Next.{drop_next}
 use Rattle.descriptor_raw.specs.Claims.{up_to, bytes_of, interface_numbers, bytes_after, interfaces_after}
-use Rattle.descriptor_raw.specs.Write.{all_descriptors}
+use Rattle.descriptor_raw.specs.Write.{descriptor_of, all_descriptors}
 use Rattle.descriptor_raw.proofs.Made.{numbers_after, configuration_bytes, configuration_numbers, interface_bytes, interface_numbers_lem, endpoint_bytes_lem, endpoint_numbers}
 use Rattle.descriptor_raw.proofs.Marks.{unmarked, unmarked_all, none_left, met_other, met_again, met_new}
-use Rattle.descriptor_writer.specs.Written.{descriptors_from, descriptor_at, ClaimedAs}
+use Rattle.descriptor_writer.specs.Written.{ClaimedAs}
 
--- the descriptors from an index on
-pub from_next : (list : List ℕ) (i : ℕ) → i < length list → descriptors_from list i ≡ descriptor_at list i ∷ descriptors_from list (i + 1)
+-- The descriptors of the words from an index on.
+abbrev descriptors_from : List ℕ → ℕ → List (List ℕ)
+descriptors_from list i = all_descriptors (drop i list)
+
+abbrev descriptor_at : List ℕ → ℕ → List ℕ
+descriptor_at list i = descriptor_of (get_or list i 0) (descriptors_from list (i + 1))
+
+from_next : (list : List ℕ) (i : ℕ) → i < length list → descriptors_from list i ≡ descriptor_at list i ∷ descriptors_from list (i + 1)
 unfolding all_descriptors
 from_next list i h = rw (drop_next list i h)
 
-pub from_end : (list : List ℕ) (i : ℕ) → length list ≤ i → descriptors_from list i ≡ []
+from_end : (list : List ℕ) (i : ℕ) → length list ≤ i → descriptors_from list i ≡ []
 unfolding all_descriptors
 from_end list i h = rw (drop_of_length-le list h)
 
 -- What is counted before an index, with a mark for each interface met.
-pub record Claiming (list : List ℕ) (from : ℕ) (marks : List Bool) (bytes interfaces i : ℕ) : Type 0 where
-  pub few_bytes : bytes + 9 * (length list - i) ≤ 9 * (length list - from)
-  pub few_interfaces : interfaces + (length list - i) ≤ length list - from
+pub record Claiming (list : List ℕ) (marks : List Bool) (bytes interfaces i : ℕ) : Type 0 where
+  pub few_bytes : bytes + 9 * (length list - i) ≤ 9 * length list
+  pub few_interfaces : interfaces + (length list - i) ≤ length list
   pub marked : length marks ≡ 256
-  pub bytes_left : bytes + bytes_after (descriptors_from list i) ≡ bytes_after (descriptors_from list from)
-  pub interfaces_left : interfaces + unmarked marks (numbers_after (descriptors_from list i)) ≡ interfaces_after (descriptors_from list from)
+  pub bytes_left : bytes + bytes_after (descriptors_from list i) ≡ bytes_after (all_descriptors list)
+  pub interfaces_left : interfaces + unmarked marks (numbers_after (descriptors_from list i)) ≡ interfaces_after (all_descriptors list)
 
-pub claiming_start : (list : List ℕ) (from : ℕ) → Claiming list from (replicate 256 false) 0 0 from
+pub claiming_start : (list : List ℕ) → Claiming list (replicate 256 false) 0 0 0
 unfolding interfaces_after
-claiming_start list from =
+claiming_start list =
     record {
       few_bytes = omega arith;
       few_interfaces = omega arith;
       marked = length-replicate 256 false;
       bytes_left = zero-add _;
-      interfaces_left = zero-add _ ∙ unmarked_all 256 (numbers_after (descriptors_from list from));
+      interfaces_left = zero-add _ ∙ unmarked_all 256 (numbers_after (all_descriptors list));
     }
 
-module _ (list : List ℕ) (from : ℕ) (marks : List Bool) (bytes interfaces i : ℕ) (g : Claiming list from marks bytes interfaces i) where
+module _ (list : List ℕ) (marks : List Bool) (bytes interfaces i : ℕ) (g : Claiming list marks bytes interfaces i) where
   claimed : bytes_after (descriptors_from list i) ≡ 0 → numbers_after (descriptors_from list i) ≡ [] →
-      ClaimedAs list from (record { bytes = bytes; interfaces = interfaces })
+      ClaimedAs list (record { bytes = bytes; interfaces = interfaces })
   claimed b n =
       let u : unmarked marks (numbers_after (descriptors_from list i)) ≡ 0 = none_left marks _ n in
       record {
@@ -55,23 +61,23 @@ module _ (list : List ℕ) (from : ℕ) (marks : List Bool) (bytes interfaces i 
         few_interfaces = omega (arith, g.few_interfaces);
       }
 
-  pub claimed_end : length list ≤ i → ClaimedAs list from (record { bytes = bytes; interfaces = interfaces })
+  pub claimed_end : length list ≤ i → ClaimedAs list (record { bytes = bytes; interfaces = interfaces })
   unfolding bytes_after up_to bytes_of interface_numbers
   claimed_end h = claimed (rw (from_end list i h)) (rw (from_end list i h))
 
-  module _ (h : i < length list) (k : ℕ) (q : k ≡ kind (get_or list i 0)) where
-    pub claimed_configuration : k ≡ CONFIGURATION → ClaimedAs list from (record { bytes = bytes; interfaces = interfaces })
+  module _ (h : i < length list) where
+    pub claimed_configuration : kind (get_or list i 0) ≡ CONFIGURATION → ClaimedAs list (record { bytes = bytes; interfaces = interfaces })
     claimed_configuration e =
-        claimed (rw (from_next list i h) (configuration_bytes _ _ (sym q ∙ e))) (rw (from_next list i h) (configuration_numbers _ _ (sym q ∙ e)))
+        claimed (rw (from_next list i h) (configuration_bytes _ _ e)) (rw (from_next list i h) (configuration_numbers _ _ e))
 
-    module _ (e : k ≡ ALTERNATE) (x : ℕ) (s : x ≡ interface_number (get_or list i 0)) where
+    module _ (e : kind (get_or list i 0) ≡ ALTERNATE) (x : ℕ) (s : x ≡ interface_number (get_or list i 0)) where
       bytes_interface : bytes_after (descriptors_from list i) ≡ 9 + bytes_after (descriptors_from list (i + 1))
-      bytes_interface = rw (from_next list i h) (interface_bytes _ _ (sym q ∙ e))
+      bytes_interface = rw (from_next list i h) (interface_bytes _ _ e)
 
       numbers_interface : numbers_after (descriptors_from list i) ≡ interface_number (get_or list i 0) ∷ numbers_after (descriptors_from list (i + 1))
-      numbers_interface = rw (from_next list i h) (interface_numbers_lem _ _ (sym q ∙ e))
+      numbers_interface = rw (from_next list i h) (interface_numbers_lem _ _ e)
 
-      pub claiming_met : get_or marks x false ≡ true → Claiming list from marks (bytes + 9) interfaces (i + 1)
+      pub claiming_met : get_or marks x false ≡ true → Claiming list marks (bytes + 9) interfaces (i + 1)
       claiming_met m =
           record {
             few_bytes = omega (arith, g.few_bytes);
@@ -82,7 +88,7 @@ module _ (list : List ℕ) (from : ℕ) (marks : List Bool) (bytes interfaces i 
           }
 
       pub claiming_new : x < 256 → get_or marks x false ≡ false →
-          Claiming list from (set marks x true) (bytes + 9) (interfaces + 1) (i + 1)
+          Claiming list (set marks x true) (bytes + 9) (interfaces + 1) (i + 1)
       claiming_new b m =
           record {
             few_bytes = omega (arith, g.few_bytes);
@@ -92,14 +98,12 @@ module _ (list : List ℕ) (from : ℕ) (marks : List Bool) (bytes interfaces i 
             interfaces_left = met_new marks interfaces _ _ _ x g.interfaces_left numbers_interface s b g.marked m;
           }
 
-    pub claiming_endpoint : k ≢ CONFIGURATION → k ≢ ALTERNATE → Claiming list from marks (bytes + 7) interfaces (i + 1)
+    pub claiming_endpoint : kind (get_or list i 0) ≢ CONFIGURATION → kind (get_or list i 0) ≢ ALTERNATE → Claiming list marks (bytes + 7) interfaces (i + 1)
     claiming_endpoint c a =
-        let c' : kind (get_or list i 0) ≢ CONFIGURATION = λ e. c (q ∙ e) in
-        let a' : kind (get_or list i 0) ≢ ALTERNATE = λ e. a (q ∙ e) in
         let b : bytes_after (descriptors_from list i) ≡ 7 + bytes_after (descriptors_from list (i + 1)) =
-        rw (from_next list i h) (endpoint_bytes_lem _ _ c' a') in
+        rw (from_next list i h) (endpoint_bytes_lem _ _ c a) in
         let n : numbers_after (descriptors_from list i) ≡ numbers_after (descriptors_from list (i + 1)) =
-        rw (from_next list i h) (endpoint_numbers _ _ c' a') in
+        rw (from_next list i h) (endpoint_numbers _ _ c a) in
         record {
           few_bytes = omega (arith, g.few_bytes);
           few_interfaces = omega (arith, g.few_interfaces);

@@ -1,15 +1,17 @@
 -- What is put for a word, and the bytes of a list.
-use Prim.Native.Nat.{ℕ, zero, suc, ◌+◌, ◌-◌, ◌*◌, ◌/◌, ◌%◌, ◌≤◌, ◌<◌}
+use Prim.Native.Nat.{ℕ, suc, ◌+◌, ◌-◌, ◌*◌, ◌/◌, ◌%◌, ◌≤◌, ◌<◌}
 use mathlib.Core.Path.{◌≡◌, refl, sym, ap, ◌∙◌}
 use mathlib.Core.Logic.{◌≢◌, inl, inr}
 use mathlib.Core.Bool.{true}
-use mathlib.Core.List.{List, [], ◌∷◌, ◌++◌}
+use mathlib.Core.List.{List, [], ◌∷◌, ◌++◌, append_assoc, append-nil}
 use native.Mathlib.Nat.{add-zero, zero-add}
 use native.Mathlib.Omega.{arith}
 use borrow.Author.Tests.{eqb-true, eqb-false}
 use lib.Dec.{eqb}
-use lib.ListN.{length, get_or, drop, set, length-append, length-drop}
-use lib.Seq.{sets, length-sets}
+use lib.ListN.{length, take, drop, set, length-take, drop_of_length-le, length-append, length-drop}
+use borrow.Rule.Slice.PartMut.{put_mid}
+use Rattle.std.proofs.lemmas.List.{take_all}
+use lib.Seq.{sets, sets-eq, length-sets, drop-drop}
 use Rattle.laws.proofs.Tests.{and_left, and_right}
 use Rattle.laws.proofs.Cases.{Decided, decided}
 use Rattle.descriptor.specs.Word.{CONFIGURATION, ALTERNATE, ENDPOINT, kind, configuration_value, interface_number, alternate_setting, type_number, endpoint_descriptor, word_ok}
@@ -20,13 +22,11 @@ use Rattle.descriptor_list.specs.Valid.{words_ok}
 use Rattle.descriptor_list.proofs.Laws.{run_inside}
 use Rattle.descriptor_raw.specs.Descriptor.{size_of}
 use Rattle.descriptor_raw.specs.Claims.{up_to, endpoints, endpoints_after}
-use Rattle.descriptor_raw.specs.Write.{configuration_descriptor, interface_descriptor, endpoint_bytes, word_packets, all_descriptors, joined, written_bytes}
-use Rattle.descriptor_raw.proofs.Valid.{endpoint_kind}
+use Rattle.descriptor_raw.specs.Write.{configuration_descriptor, interface_descriptor, endpoint_bytes, word_packets, descriptor_of, all_descriptors, joined, written_bytes}
+use Rattle.descriptor_raw.proofs.Valid.{endpoint_kind, packets_first, packets_rest}
 use Rattle.descriptor_raw.proofs.Made.{made_configuration, made_interface, made_endpoint, configuration_endpoints, interface_endpoints, endpoint_endpoints, made_length}
 use Rattle.descriptor_writer.specs.declared.claims.Claims.{Claims}
-use Rattle.descriptor_writer.specs.Written.{descriptors_from, descriptor_at, ClaimedAs, Listed, Room}
-use Rattle.descriptor_writer.proofs.Claiming.{from_next, from_end}
-use Rattle.descriptor_writer.proofs.Packets.{packets_at}
+use Rattle.descriptor_writer.specs.Written.{ClaimedAs, Listed, Room}
 
 -- The endpoint words of a list's front are the endpoints of its descriptors.
 pub endpoints_run : (l : List ℕ) → words_ok l ≡ true → endpoints_after (all_descriptors l) ≡ endpoint_run l
@@ -45,127 +45,161 @@ endpoints_run (w ∷ l) ok =
         let k : kind w ≡ ENDPOINT = endpoint_kind w (and_left _ (words_ok l) ok) c' a' in
         endpoint_endpoints w (all_descriptors l) c' a' ∙ rw (k, e)
 
-words_from_lem : (l : List ℕ) (i : ℕ) → words_ok l ≡ true → words_ok (drop i l) ≡ true
-unfolding words_ok
-words_from_lem l zero ok = ok
-words_from_lem [] (suc i) ok = ok
-words_from_lem (w ∷ l) (suc i) ok = words_from_lem l i (and_right (word_ok w) _ ok)
+-- what follows a word of a list that may be written
+module _ (w : ℕ) (after : List ℕ) (r : Listed (w ∷ after)) where
+  pub first_ok : word_ok w ≡ true
+  unfolding words_ok
+  first_ok = and_left _ (words_ok after) r.words
 
-word_at : (l : List ℕ) (i : ℕ) → i < length l → words_ok l ≡ true → word_ok (get_or l i 0) ≡ true
-unfolding words_ok
-word_at [] i h ok = absurd (omega arith)
-word_at (w ∷ l) zero h ok = and_left _ (words_ok l) ok
-word_at (w ∷ l) (suc i) h ok = word_at l i (omega arith) (and_right (word_ok w) _ ok)
+  rest_ok : words_ok after ≡ true
+  unfolding words_ok
+  rest_ok = and_right (word_ok w) _ r.words
 
--- Bytes of a descriptor put at a place.
-abbrev pub Put : List ℕ → ℕ → List ℕ → ℕ → List ℕ → ℕ → Type 0
-Put list i bytes at out n = (n ≡ length (descriptor_at list i)) × (out ≡ sets bytes at (descriptor_at list i))
+  rest_listed : Listed after
+  rest_listed = record { short = omega (arith, r.short); words = rest_ok; packets = packets_rest w after r.packets }
 
-module _ (list : List ℕ) (i room at : ℕ) (r : Room list i room at) (k : ℕ) (q : k ≡ kind (get_or list i 0)) (bytes out d : List ℕ) (o : out ≡ sets bytes at d) where
+-- Bytes of a descriptor put to the front of others.
+abbrev pub Put : ℕ → List ℕ → List ℕ → List ℕ → ℕ → Type 0
+Put w after bytes out n = (n ≡ length (descriptor_of w (all_descriptors after))) × (out ≡ sets bytes 0 (descriptor_of w (all_descriptors after)))
+
+-- a front of bytes written over
+front : (bytes d : List ℕ) (n : ℕ) → length d ≡ n → n ≤ length bytes → d ++ drop n bytes ≡ sets bytes 0 d
+front bytes d n e h =
+    let s : 0 + length d ≤ length bytes = omega arith in
+    rw (sets-eq d bytes 0 s, zero-add (length d), e)
+
+module _ (w : ℕ) (after : List ℕ) (room : ℕ) (r : Room w after room) (bytes d : List ℕ) (h : room ≡ length bytes) where
   pub put_configuration :
-      k ≡ CONFIGURATION →
+      kind w ≡ CONFIGURATION →
       (c : Claims) →
-      ClaimedAs list (i + 1) c →
+      ClaimedAs after c →
       (value : ℕ) →
-      value ≡ configuration_value (get_or list i 0) →
+      value ≡ configuration_value w →
       d ≡ configuration_descriptor (9 + c.bytes) c.interfaces value →
-      Put list i bytes at out 9
+      Put w after bytes (d ++ drop 9 bytes) 9
   unfolding configuration_descriptor size_of
   put_configuration e c m value v s =
-      let t : descriptor_at list i ≡ d =
-      made_configuration _ _ (sym q ∙ e) ∙ rw (← m.bytes, ← m.interfaces, ← v) (sym s) in
-      (rw (t, s), o ∙ rw t)
+      let t : descriptor_of w (all_descriptors after) ≡ d =
+      made_configuration _ _ e ∙ rw (← m.bytes, ← m.interfaces, ← v) (sym s) in
+      let n : length d ≡ 9 = rw s in
+      (rw (t, n), rw t (front bytes d 9 n (omega (arith, r.space))))
 
   pub put_interface :
-      k ≡ ALTERNATE →
+      kind w ≡ ALTERNATE →
       (interface alternate run : ℕ) →
-      run ≡ endpoint_run (drop (i + 1) list) →
-      interface ≡ interface_number (get_or list i 0) →
-      alternate ≡ alternate_setting (get_or list i 0) →
+      run ≡ endpoint_run after →
+      interface ≡ interface_number w →
+      alternate ≡ alternate_setting w →
       d ≡ interface_descriptor interface alternate run →
-      Put list i bytes at out 9
+      Put w after bytes (d ++ drop 9 bytes) 9
   unfolding interface_descriptor size_of
   put_interface e interface alternate run n v u s =
-      let f : endpoints_after (descriptors_from list (i + 1)) ≡ run =
-      endpoints_run (drop (i + 1) list) (words_from_lem list (i + 1) r.listed.words) ∙ sym n in
-      let t : descriptor_at list i ≡ d = made_interface _ _ (sym q ∙ e) ∙ rw (f, ← v, ← u) (sym s) in
-      (rw (t, s), o ∙ rw t)
+      let f : endpoints_after (all_descriptors after) ≡ run = endpoints_run after (rest_ok w after r.listed) ∙ sym n in
+      let t : descriptor_of w (all_descriptors after) ≡ d = made_interface _ _ e ∙ rw (f, ← v, ← u) (sym s) in
+      let n : length d ≡ 9 = rw s in
+      (rw (t, n), rw t (front bytes d 9 n (omega (arith, r.space))))
 
   pub put_endpoint :
-      k ≢ CONFIGURATION →
-      k ≢ ALTERNATE →
+      kind w ≡ ENDPOINT →
       (e : EndpointDescriptor) →
-      e ≡ endpoint_descriptor (get_or list i 0) →
-      d ≡ endpoint_bytes e.address (get_or list i 0 / 0x80_0000 % 4) (e.max_packet_size + 2048 * (e.packets_per_microframe - 1)) e.interval →
-      Put list i bytes at out 7
+      e ≡ endpoint_descriptor w →
+      d ≡ endpoint_bytes e.address (w / 0x80_0000 % 4) (e.max_packet_size + 2048 * (e.packets_per_microframe - 1)) e.interval →
+      Put w after bytes (d ++ drop 7 bytes) 7
   unfolding endpoint_bytes word_packets type_number size_of
-  put_endpoint c a e m s =
-      let t : descriptor_at list i ≡ d = made_endpoint _ _ (λ x. c (q ∙ x)) (λ x. a (q ∙ x)) ∙ rw (← m) (sym s) in
-      (rw (t, s), o ∙ rw t)
+  put_endpoint k e m s =
+      let c : kind w ≢ CONFIGURATION = λ x. let z : ◌≡◌ {A = ℕ} 2 0 = sym k ∙ x in omega arith in
+      let a : kind w ≢ ALTERNATE = λ x. let z : ◌≡◌ {A = ℕ} 2 1 = sym k ∙ x in omega arith in
+      let t : descriptor_of w (all_descriptors after) ≡ d = made_endpoint _ _ c a ∙ rw (← m) (sym s) in
+      let n : length d ≡ 7 = rw s in
+      (rw (t, n), rw t (front bytes d 7 n (omega (arith, r.space))))
 
 -- a run of endpoint words after a word of a list of 256 is a byte
-pub run_small : (list : List ℕ) (i room at run : ℕ) → Room list i room at → run ≡ endpoint_run (drop (i + 1) list) → run < 256
-run_small list i room at run r e =
-    omega (arith, run_inside (drop (i + 1) list), length-drop (i + 1) list, r.inside, r.listed.short)
+pub run_small : (w : ℕ) (after : List ℕ) (room run : ℕ) → Room w after room → run ≡ endpoint_run after → run < 256
+run_small w after room run r e = omega (arith, run_inside after, r.listed.short)
 
 -- and its packets are given
-pub packets_some : (list : List ℕ) (i room at : ℕ) → Room list i room at → (k : ℕ) → k ≡ kind (get_or list i 0) →
-    k ≢ CONFIGURATION → k ≢ ALTERNATE → (e : EndpointDescriptor) → e ≡ endpoint_descriptor (get_or list i 0) →
-    1 ≤ e.packets_per_microframe
-packets_some list i room at r k q c a e m =
-    rw m
-    (packets_at list i r.inside r.listed.packets
-    (endpoint_kind _ (word_at list i r.inside r.listed.words) (λ x. c (q ∙ x)) (λ x. a (q ∙ x))))
+pub packets_some : (w : ℕ) (after : List ℕ) (room : ℕ) → Room w after room → kind w ≡ ENDPOINT → (e : EndpointDescriptor) →
+    e ≡ endpoint_descriptor w → 1 ≤ e.packets_per_microframe
+packets_some w after room r k e m = rw m (packets_first w after r.listed.packets k)
 
 -- stores of two lists one after the other
-pub sets_append : (l : List ℕ) (at : ℕ) (p q : List ℕ) → sets l at (p ++ q) ≡ sets (sets l at p) (at + length p) q
+sets_append : (l : List ℕ) (at : ℕ) (p q : List ℕ) → sets l at (p ++ q) ≡ sets (sets l at p) (at + length p) q
 sets_append l at [] q = rw (add-zero at)
 sets_append l at (x ∷ p) q =
     let e : suc at + length p ≡ at + suc (length p) = omega arith in rw (← e) (sets_append (set l at x) (suc at) p q)
 
--- Descriptors put up to an index, and those still to be put.
-pub record Putting (list bytes₀ bytes : List ℕ) (at i : ℕ) : Type 0 where
-  pub listed : Listed list (length bytes)
-  pub inside : i ≤ length list
-  pub low : at ≤ 9 * i
-  pub same : length bytes ≡ length bytes₀
-  pub count : at + length (joined (descriptors_from list i)) ≡ length (written_bytes list)
-  pub rest : sets bytes₀ 0 (written_bytes list) ≡ sets bytes at (joined (descriptors_from list i))
+-- a store into the bytes from a place on
+put_at : (bytes d : List ℕ) (at : ℕ) → at + length d ≤ length bytes → take at bytes ++ sets (drop at bytes) 0 d ≡ sets bytes at d
+put_at bytes d at h =
+    let s : 0 + length d ≤ length (drop at bytes) = omega (arith, length-drop at bytes) in
+    rw (sets-eq d (drop at bytes) 0 s, sets-eq d bytes at h, zero-add (length d), drop-drop (length d) at bytes, append_assoc, append_assoc)
 
-pub putting_start : (list bytes : List ℕ) → Listed list (length bytes) → Putting list bytes bytes 0 0
+-- bytes whose part from a place on was written
+part : (bytes out : List ℕ) (at : ℕ) → at ≤ length bytes → put_mid at (length bytes - at) bytes out ≡ take at bytes ++ out
+part bytes out at h =
+    let e : length (drop at bytes) ≤ length bytes - at = omega (arith, length-drop at bytes) in
+    rw (drop_of_length-le (drop at bytes) e, append-nil)
+
+no_words : (l : List ℕ) → length l ≡ 0 → l ≡ []
+no_words [] e = refl
+no_words (w ∷ l) e = absurd (omega arith)
+
+-- Descriptors put so far, and those still to be put.
+pub record Putting (list bytes₀ words bytes : List ℕ) (at : ℕ) : Type 0 where
+  pub listed : Listed words
+  pub low : at + 9 * length words ≤ 2304
+  pub same : length bytes ≡ length bytes₀
+  pub count : at + length (joined (all_descriptors words)) ≡ length (written_bytes list)
+  pub rest : sets bytes₀ 0 (written_bytes list) ≡ sets bytes at (joined (all_descriptors words))
+
+pub putting_start : (list bytes : List ℕ) → Listed list → Putting list bytes list bytes 0
 unfolding written_bytes
 putting_start list bytes p =
-    record { listed = p; inside = omega arith; low = omega arith; same = refl; count = zero-add _; rest = refl }
+    record { listed = p; low = omega (arith, p.short); same = refl; count = zero-add _; rest = refl }
 
-module _ (list bytes₀ bytes : List ℕ) (at i : ℕ) (p : Putting list bytes₀ bytes at i) where
-  pub put_all_done : length list ≤ i → (at ≡ length (written_bytes list)) × (bytes ≡ sets bytes₀ 0 (written_bytes list))
-  unfolding joined
-  put_all_done h =
-      let e : joined (descriptors_from list i) ≡ [] = rw (from_end list i h) in
-      (sym (add-zero at) ∙ rw e at p.count, sym (rw e at p.rest))
+module _ (list bytes₀ words bytes : List ℕ) (at : ℕ) (p : Putting list bytes₀ words bytes at) where
+  pub put_all_done : length words ≡ 0 → (at ≡ length (written_bytes list)) × (bytes ≡ sets bytes₀ 0 (written_bytes list))
+  unfolding joined all_descriptors
+  put_all_done e = let h = no_words words e in (sym (add-zero at) ∙ rw h at p.count, sym (rw h at p.rest))
 
-  module _ (h : i < length list) where
-    pub put_room : Room list i (length bytes) at
-    put_room = record { listed = p.listed; inside = h; place = omega (arith, p.low, p.listed.short, p.listed.space) }
-
-    pub putting_next : (out : List ℕ) (n : ℕ) → Put list i bytes at out n → Putting list bytes₀ out (at + n) (i + 1)
-    unfolding joined
-    putting_next out n q =
-        let e : joined (descriptors_from list i) ≡ descriptor_at list i ++ joined (descriptors_from list (i + 1)) =
-        rw (from_next list i h) in
-        let s : length out ≡ length bytes = ap length q.1 ∙ length-sets bytes at (descriptor_at list i) in
-        let t : at + length (descriptor_at list i ++ joined (descriptors_from list (i + 1))) ≡ length (written_bytes list) =
-        rw e at p.count in
+  module _ (w : ℕ) (after : List ℕ) (h : words ≡ w ∷ after) (space : 2304 ≤ length bytes₀) where
+    pub put_room : Room w after (length (take (length bytes - at) (drop at bytes)))
+    put_room =
         record {
-          listed = rw s p.listed;
-          inside = omega arith;
-          low = omega (arith, p.low, (made_length (get_or list i 0) (descriptors_from list (i + 1))).2, q.0);
-          same = s ∙ p.same;
-          count = omega (arith, t, q.0, length-append (descriptor_at list i) (joined (descriptors_from list (i + 1))));
-          rest =
-              p.rest
-              ∙ rw (e, sets_append bytes at (descriptor_at list i) (joined (descriptors_from list (i + 1))), q.1, q.0);
+          listed = rw h at p.listed;
+          space =
+              omega (
+                arith,
+                p.low,
+                p.same,
+                ap length h,
+                length-take (length bytes - at) (drop at bytes),
+                length-drop at bytes,
+              );
         }
+
+    pub put_small : (n : ℕ) → n ≡ length (descriptor_of w (all_descriptors after)) → at + n ≤ 2304
+    put_small n e = omega (arith, p.low, ap length h, (made_length w (all_descriptors after)).2)
+
+    pub putting_next : (out : List ℕ) (n : ℕ) → Put w after (take (length bytes - at) (drop at bytes)) out n →
+        Putting list bytes₀ after (put_mid at (length bytes - at) bytes out) (at + n)
+    unfolding joined all_descriptors
+    putting_next out n q =
+        let d : List ℕ = descriptor_of w (all_descriptors after) in
+        let m = made_length w (all_descriptors after) in
+        let fits : at + length d ≤ length bytes = omega (arith, p.low, p.same, ap length h, m.2) in
+        let all : take (length bytes - at) (drop at bytes) ≡ drop at bytes = take_all _ _ (omega (arith, length-drop at bytes)) in
+        let put : put_mid at (length bytes - at) bytes out ≡ sets bytes at d =
+        part bytes out at (omega arith) ∙ rw (q.1, all) (put_at bytes d at fits) in
+        let t : at + length (d ++ joined (all_descriptors after)) ≡ length (written_bytes list) = rw h at p.count in
+        rw put
+        (record {
+          listed = rest_listed w after (rw h at p.listed);
+          low = omega (arith, p.low, ap length h, m.2, q.0);
+          same = length-sets bytes at d ∙ p.same;
+          count = omega (arith, t, q.0, length-append d (joined (all_descriptors after)));
+          rest = p.rest ∙ rw (h, sets_append bytes at d (joined (all_descriptors after)), q.0);
+        })
 
 -- The fields of a word's packets are small.
 pub packet_small : (w : ℕ) (e : EndpointDescriptor) → e ≡ endpoint_descriptor w →

@@ -2,6 +2,7 @@
 ghost use Rattle.std.specs.Prelude.{◌≤◌, length};
 ghost use Rattle.descriptor_writer.specs.Written.{ClaimedAs};
 
+use descriptor::WordKind;
 use descriptor_raw::size;
 
 #[derive(Clone, Copy)]
@@ -11,32 +12,28 @@ pub struct Claims {
 }
 
 // The bytes of the descriptors of the words up to the next configuration, and how many distinct interfaces they have.
-pub fn claims_after(list: &[u32], from: usize) -> Claims
-    requires { length list.now ≤ 256 }
-    ensures { ClaimedAs list.now from result }
+pub fn claims_after(after: &[u32]) -> Claims
+    requires { length after.now ≤ 256 }
+    ensures { ClaimedAs after.now result }
 {
+    // One mark for each interface number: without a heap there is no set.
     let mut marks = [false; 256];
-    let mut bytes = 0usize;
-    let mut interfaces = 0usize;
-    let mut i = from;
-    while i < list.len() {
-        let w = list[i];
-        i += 1;
-        match descriptor::word_kind(w) {
-            descriptor::CONFIGURATION => {
-                return Claims { bytes, interfaces };
+    let mut bytes = 0;
+    let mut interfaces = 0;
+    for w in after {
+        let kind = descriptor::word_kind(*w);
+        if kind == Some(WordKind::Configuration) {
+            return Claims { bytes, interfaces };
+        }
+        if kind == Some(WordKind::Alternate) {
+            bytes += size::INTERFACE;
+            let number = descriptor::interface_number(*w) as usize;
+            if !marks[number] {
+                marks[number] = true;
+                interfaces += 1;
             }
-            descriptor::ALTERNATE => {
-                bytes += size::INTERFACE;
-                let number = descriptor::interface_number(w) as usize;
-                if !marks[number] {
-                    marks[number] = true;
-                    interfaces += 1;
-                }
-            }
-            _ => {
-                bytes += size::ENDPOINT;
-            }
+        } else {
+            bytes += size::ENDPOINT;
         }
     }
     Claims { bytes, interfaces }

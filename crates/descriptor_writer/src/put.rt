@@ -1,72 +1,61 @@
 // Descriptors put one after the other.
-ghost use Rattle.std.specs.Prelude.{◌+◌, ◌≤◌, ◌≡◌, length};
+ghost use Rattle.std.specs.Prelude.{◌≤◌, ◌≡◌, length};
 ghost use Rattle.std.proofs.lemmas.List.Edits.{sets};
-ghost use Rattle.descriptor_raw.specs.Write.{written_bytes};
-ghost use Rattle.descriptor_writer.specs.Written.{descriptor_at, Listed, Room};
+ghost use Rattle.descriptor_raw.specs.Write.{descriptor_of, all_descriptors, written_bytes};
+ghost use Rattle.descriptor_writer.specs.Written.{Listed, Room};
 
 use super::claims::claims_after;
 use super::made::{configuration_descriptor, endpoint_bytes, interface_descriptor};
+use descriptor::WordKind;
 use descriptor_raw::{place, size};
 
 // The packets per microframe in the packet size field.
 const PACKETS_LSB: u16 = place::PACKETS_LSB as u16;
 
-// Copies bytes to a place among others.
-fn copy(d: &[u8], bytes: &mut [u8], at: usize)
-    requires { at + length d.now ≤ length bytes.old }
-    ensures { bytes.new ≡ sets bytes.old at d.now }
+// Puts the descriptor of a word to the front of bytes. Says how many bytes it has.
+fn put_descriptor(w: u32, after: &[u32], bytes: &mut [u8]) -> usize
+    requires { Room w after.now (length bytes.old) }
+    ensures { (result ≡ length (descriptor_of w (all_descriptors after.now))) × (bytes.new ≡ sets bytes.old 0 (descriptor_of w (all_descriptors after.now))) }
 {
-    let mut i = 0;
-    while i < d.len() {
-        bytes[at + i] = d[i];
-        i += 1;
-    }
-}
-
-// Puts the descriptor of a word. Says how many bytes it has.
-fn put_descriptor(list: &[u32], i: usize, bytes: &mut [u8], at: usize) -> usize
-    requires { Room list.now i (length bytes.old) at }
-    ensures { (result ≡ length (descriptor_at list.now i)) × (bytes.new ≡ sets bytes.old at (descriptor_at list.now i)) }
-{
-    let w = list[i];
     match descriptor::word_kind(w) {
-        descriptor::CONFIGURATION => {
-            let c = claims_after(list, i + 1);
+        Some(WordKind::Configuration) => {
+            let c = claims_after(after);
             let value = descriptor::configuration_value(w);
             let d = configuration_descriptor(size::CONFIGURATION + c.bytes, c.interfaces, value);
-            copy(&d, bytes, at);
+            bytes[..size::CONFIGURATION].copy_from_slice(&d);
             size::CONFIGURATION
         }
-        descriptor::ALTERNATE => {
-            let endpoints = descriptor_list::endpoint_run(list, i + 1);
+        Some(WordKind::Alternate) => {
+            let endpoints = descriptor_list::endpoint_run(after, 0);
             let interface = descriptor::interface_number(w);
             let alternate = descriptor::alternate_setting(w);
             let d = interface_descriptor(interface, alternate, endpoints);
-            copy(&d, bytes, at);
+            bytes[..size::INTERFACE].copy_from_slice(&d);
             size::INTERFACE
         }
-        _ => {
+        Some(WordKind::Endpoint) => {
             let e = descriptor::endpoint_descriptor(w);
             let kind = (w / descriptor::TYPE_LSB % 4) as u8;
             let packets = e.packets_per_microframe as u16;
             let packet = e.max_packet_size + PACKETS_LSB * (packets - 1);
             let d = endpoint_bytes(e.address, kind, packet, e.interval);
-            copy(&d, bytes, at);
+            bytes[..size::ENDPOINT].copy_from_slice(&d);
             size::ENDPOINT
         }
+        None => unreachable!(),
     }
 }
 
 // Puts the descriptors of a list. Says how many bytes they have.
 pub fn put_all(list: &[u32], bytes: &mut [u8]) -> usize
-    requires { Listed list.now (length bytes.old) }
+    requires { Listed list.now × (2304 ≤ length bytes.old) }
     ensures { (result ≡ length (written_bytes list.now)) × (bytes.new ≡ sets bytes.old 0 (written_bytes list.now)) }
 {
     let mut at = 0;
-    let mut i = 0;
-    while i < list.len() {
-        at += put_descriptor(list, i, bytes, at);
-        i += 1;
+    let mut words = list;
+    while let Some((w, after)) = words.split_first() {
+        at += put_descriptor(*w, after, &mut bytes[at..]);
+        words = after;
     }
     at
 }

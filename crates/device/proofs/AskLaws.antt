@@ -1,4 +1,5 @@
 -- What an ask and a commit return, from the checks, the words and the arrays of the code.
+use Rattle.std.proofs.Common.{Option, Some, Result, Ok, Err}
 use Prim.Native.Nat.{ℕ, ◌≤◌}
 use mathlib.Core.Path.{◌≡◌, refl, sym, ap, ◌∙◌}
 use mathlib.Core.Bool.{Bool, true, false, cond, ◌&&◌}
@@ -10,30 +11,29 @@ use lib.ListN.{length, take}
 use lib.Seq.{length-take-le}
 use Rattle.answer.specs.declared.Answer.{Answer}
 use Rattle.answer.specs.declared.Answer.TheVariants as answer
-use Rattle.answer.specs.declared.Check.{Check}
-use Rattle.answer.specs.declared.Check.TheVariants.{Pass, Refuse}
+use Rattle.answer.specs.Check.{Check, Pass, Refuse}
 use Rattle.context_block.specs.Flags.{flags_of}
+use Rattle.descriptor_list.specs.declared.EndpointWords.{EndpointWords}
 use Rattle.descriptor_list.specs.Lookup.{find_endpoints}
+use native.Mathlib.Omega.{arith}
 use Rattle.record_ring.specs.Store.{sorted, lowest, free_rings}
 use Rattle.record_ring.proofs.Sorted.{length_sorted}
 use Rattle.record_endpoint.specs.Endpoint.{rings_of, padded}
 use Rattle.record_settings.specs.Held.{is_held, is_found, alternate_of, setting_words}
 use Rattle.record_settings.specs.Match.{addresses_free}
 use Rattle.record_settings.proofs.Laws.{setting_length}
-use Rattle.record_checks.specs.Draw.{same_rings}
+use Rattle.record_checks.specs.Draw.{check_of, CheckedAs, same_rings}
 use Rattle.device.specs.declared.record.Device.{Device}
 use Rattle.device.specs.declared.ask.Preview.{Preview}
 use Rattle.device.specs.Device.{list_of, endpoint_map_in, held_of, quarantined_of, given_of, free_of}
 use Rattle.device.specs.Sound.{sound}
 use Rattle.device.specs.Check.{record_check}
-use Rattle.device.specs.Left.{Left, leaves}
-use Rattle.device.specs.Claim.{claim_check, drawn, claim_in, claim_run}
-use Rattle.device.specs.Ask.{Ask, asking, no_ask, ask_of, ask_check, returned, ask, same_ask, current_check, commit, PreviewAs}
+use Rattle.device.specs.Claim.{claim_check, drawn, claim_in}
+use Rattle.device.specs.Ask.{Ask, asking, no_ask, ask_of, ask_check, returned, ask, same_ask, current_check, PreviewAs}
 use Rattle.device.proofs.ClaimLaws.{free_none}
 use Rattle.device.proofs.Facts.{sound_facts}
 use Rattle.device.proofs.Kept.{claim_passed}
-use Rattle.device.proofs.Exits.{refused_left, passed_left}
-use Rattle.device.proofs.Laws.{and_then, then_if, check_then, passed}
+use Rattle.device.proofs.Laws.{Passed, and_then, then_if, check_then, passed}
 use Rattle.device.proofs.Updates.{take_padded}
 
 -- The checks of a claim, and then what follows.
@@ -47,8 +47,8 @@ module _ (d : Device) (ctx routes log i a : ℕ) where
 
   then_twice : (x y next : Check) → and_then x (and_then y next) ≡ and_then (and_then x y) next
   unfolding and_then
-  then_twice Pass y next = refl
-  then_twice (Refuse z) y next = refl
+  then_twice (Ok _) y next = refl
+  then_twice (Err z) y next = refl
 
   pub ask_then : (next : Check) → ask_check d ctx routes log i a next ≡ and_then (ask_check d ctx routes log i a Pass) next
   unfolding ask_check
@@ -134,45 +134,60 @@ module _ (d : Device) (i a : ℕ) (is_sound : sound d ≡ true) (pass : claim_ch
 
 -- The code's check has passed, or refused.
 module _ (d : Device) (ctx routes log i a : ℕ) where
-  pub ready_to_show : record_check d ctx routes log (claim_check d i a Pass) ≡ Pass → ((d.usable && sound d) ≡ true) × (claim_check d i a Pass ≡ Pass)
-  ready_to_show e =
-      let p = passed d ctx routes log (claim_check d i a Pass) e in
-      (and-true d.usable (sound d) p.0.usable p.0.is_sound, p.1)
+  pub asked : ask_check d ctx routes log i a Pass ≡ Pass → Passed d ctx routes log × (claim_check d i a Pass ≡ Pass)
+  unfolding ask_check
+  asked e = passed d ctx routes log (claim_check d i a Pass) e
 
-  pub shown : (r : Preview) → record_check d ctx routes log (claim_check d i a Pass) ≡ Pass → PreviewAs r (answer.Accepted, ask_of d i a) →
+  pub ready_to_show : ask_check d ctx routes log i a Pass ≡ Pass → ((d.usable && sound d) ≡ true) × (claim_check d i a Pass ≡ Pass)
+  ready_to_show e = let p = asked e in (and-true d.usable (sound d) p.0.usable p.0.is_sound, p.1)
+
+  pub shown : (r : Preview) → ask_check d ctx routes log i a Pass ≡ Pass → PreviewAs r (answer.Accepted, ask_of d i a) →
       PreviewAs r (ask d ctx routes log i a)
-  unfolding ask ask_check returned
+  unfolding ask returned
   shown r e s = rw e s
 
-  pub not_shown : (r : Preview) (z : Answer) → record_check d ctx routes log (claim_check d i a Pass) ≡ Refuse z → PreviewAs r (z, no_ask) →
+  pub not_shown : (r : Preview) (z : Answer) → ask_check d ctx routes log i a Pass ≡ Refuse z → PreviewAs r (z, no_ask) →
       PreviewAs r (ask d ctx routes log i a)
-  unfolding ask ask_check returned
+  unfolding ask returned
   not_shown r z e s = rw e s
 
--- What a commit leaves, from the code's check and its comparison.
-module _ (d : Device) (ctx routes log o : List ℕ) (p : Ask) where
-  abbrev checked : Check
-  checked = record_check d (length ctx) (length routes) (length log) (claim_check d p.interface p.alternate Pass)
+-- The checks of a commit, from those of a claim and the comparison.
+module _ (d : Device) (ctx routes log : ℕ) (p : Ask) (found : Option EndpointWords) where
+  abbrev claims : Result EndpointWords Answer → Type 0
+  claims r = CheckedAs r (ask_check d ctx routes log p.interface p.alternate Pass) found
 
-  abbrev last : Check
-  last = ask_check d (length ctx) (length routes) (length log) p.interface p.alternate (current_check d p)
+  abbrev commits : Result EndpointWords Answer → Type 0
+  commits r = CheckedAs r (ask_check d ctx routes log p.interface p.alternate (current_check d p)) found
 
-  pub commit_refused : (z : Answer) → checked ≡ Refuse z →
-      leaves (record { device = d; answer = z; count = 0 }) ctx routes log ≡ commit d ctx routes log o p
-  unfolding ask_check commit
-  commit_refused z e =
-      refused_left (Refuse z) last (sym e ∙ ask_refused d _ _ _ p.interface p.alternate checked (current_check d p) refl z e) z refl d _ ctx routes log
+  pub commit_refused : (z : Answer) → claims (Err z) → commits (Err z)
+  unfolding check_of
+  commit_refused z e = record { check = ask_refused d ctx routes log p.interface p.alternate (Refuse z) _ e.check z refl; words = e.words }
 
-  module _ (e : checked ≡ Pass) (b : Bool) (same : b ≡ same_ask p (ask_of d p.interface p.alternate)) where
-    last_as : current_check d p ≡ last
-    unfolding ask_check
-    last_as = ask_passed d _ _ _ p.interface p.alternate checked (current_check d p) refl e
+  module _ (words : EndpointWords) (e : claims (Ok words)) (b : Bool) (same : b ≡ same_ask p (ask_of d p.interface p.alternate)) where
+    last_as : current_check d p ≡ ask_check d ctx routes log p.interface p.alternate (current_check d p)
+    unfolding check_of
+    last_as = ask_passed d ctx routes log p.interface p.alternate Pass _ e.check refl
 
-    pub commit_outdated : b ≡ false → leaves (record { device = d; answer = answer.OutdatedAsk; count = 0 }) ctx routes log ≡ commit d ctx routes log o p
-    unfolding commit
-    commit_outdated h = refused_left (Refuse answer.OutdatedAsk) last (outdated d p b same h ∙ last_as) answer.OutdatedAsk refl d _ ctx routes log
+    pub commit_outdated : b ≡ false → commits (Err answer.OutdatedAsk)
+    unfolding check_of
+    commit_outdated h =
+        record { check = outdated d p b same h ∙ last_as; words = λ w q. let z : ◌≡◌ {A = ℕ} 0 1 = cc in absurd (omega arith) }
 
-    pub commit_run : b ≡ true → (l : Left) → l ≡ claim_run d ctx routes log o p.interface p.alternate (drawn d p.interface p.alternate) →
-        l ≡ commit d ctx routes log o p
-    unfolding commit
-    commit_run h l m = passed_left Pass last (current d p b same h ∙ last_as) refl l _ _ m
+    pub commit_current : b ≡ true → commits (Ok words)
+    unfolding check_of
+    commit_current h = record { check = current d p b same h ∙ last_as; words = e.words }
+
+-- What a claim goes on from: the checks of a claim, whatever followed them.
+pub passed_first : (d : Device) (ctx routes log i a : ℕ) (next : Check) → ask_check d ctx routes log i a next ≡ Pass → ask_check d ctx routes log i a Pass ≡ Pass
+unfolding and_then
+passed_first d ctx routes log i a next e = then_passed _ next (sym (ask_then d ctx routes log i a next) ∙ e)
+  where
+    then_passed : (x y : Check) → and_then x y ≡ Pass → x ≡ Pass
+    then_passed (Ok _) y h = refl
+    then_passed (Err z) y h = cc
+
+pub ready : (d : Device) (ctx routes log i a : ℕ) (next : Check) (r : Result EndpointWords Answer) →
+    CheckedAs r (ask_check d ctx routes log i a next) (find_endpoints (list_of d) i a) → (words : EndpointWords) → r ≡ Ok words →
+    (ask_check d ctx routes log i a Pass ≡ Pass) × (find_endpoints (list_of d) i a ≡ Some words)
+unfolding check_of
+ready d ctx routes log i a next r e words h = (passed_first d ctx routes log i a next (sym e.check ∙ rw h), e.words words h)

@@ -1,8 +1,10 @@
 -- What a claim whose checks have passed may rely on, and what it leaves.
+use lib.Dec.{eqb}
+use Rattle.std.proofs.Common.{Some, None, Result, Err}
+use Rattle.std.specs.Option.{option_map_or, unwrap_or}
 use Prim.Native.Nat.{ℕ, ◌+◌, ◌-◌, ◌≤◌}
-use mathlib.Core.Path.{◌≡◌, sym, ap, ◌∙◌}
-use mathlib.Core.Bool.{true, false, cond}
-use mathlib.Core.Logic.{◌⊎◌, inl, inr}
+use mathlib.Core.Path.{◌≡◌, refl, sym, ◌∙◌}
+use mathlib.Core.Bool.{true, cond, Bool, false}
 use mathlib.Core.List.{List, [], ◌∷◌, ◌++◌}
 use native.Mathlib.Nat.{add-sub_cancel_left}
 use native.Mathlib.Omega.{arith}
@@ -11,10 +13,8 @@ use lib.Seq.{length-take-le}
 use Rattle.answer.specs.declared.Answer.{Answer}
 use Rattle.answer.specs.declared.Answer.TheVariants as answer
 use Rattle.answer.specs.Answer.{number}
-use Rattle.answer.specs.declared.Check.{Check}
-use Rattle.answer.specs.declared.Check.TheVariants as check
-use Rattle.answer.specs.declared.Check.TheVariants.{Pass}
-use Rattle.descriptor_list.specs.declared.Found.TheVariants.{Endpoints}
+use Rattle.answer.specs.Check.{Check, Pass, Refuse}
+use Rattle.descriptor_list.specs.declared.EndpointWords.{EndpointWords}
 use Rattle.descriptor_list.specs.Lookup.{find_endpoints}
 use Rattle.descriptor_list.proofs.Laws.{found_inside}
 use Rattle.command.specs.Course.{played}
@@ -24,11 +24,10 @@ use Rattle.record_endpoint.specs.Endpoint.{rings_of}
 use Rattle.record_checks.proofs.Stored.{SoundStore, free_count, live_count}
 use Rattle.record_endpoint.specs.declared.endpoint_map.EndpointMap.{EndpointMap}
 use Rattle.record_endpoint.specs.declared.endpoint_map.Owner.TheVariants.{Interface}
-use Rattle.record_endpoint.specs.declared.pending.Queues.{Queues}
+use Rattle.record_endpoint.specs.declared.queues.Queues.{Queues}
 use Rattle.record_endpoint.specs.EndpointMap.{owned_rings, pending_rings, claimed_endpoints, with_active, QueuesAs}
-use Rattle.record_settings.specs.Held.{is_held, alternate_of, found_words, setting_words, with_setting}
-use Rattle.record_checks.specs.declared.draw.Checked.{Checked}
-use Rattle.record_checks.specs.declared.draw.Checked.TheVariants as checked
+use Rattle.record_settings.specs.Held.{Held, is_held, alternate_of, held_alternate, found_words, setting_words, with_setting}
+use Rattle.record_settings.proofs.Laws.{held_alternate_is}
 use Rattle.record_checks.specs.Draw.{draw_check, check_of, CheckedAs}
 use Rattle.course_steps.specs.declared.CourseEnd.{CourseEnd}
 use Rattle.course_steps.specs.Arrays as arrays
@@ -58,24 +57,33 @@ module _ (a : Answer) (rings : List ℕ) (d : Device) where
   unfolding quarantines number
   not_quarantined n = grind arith
 
+-- The alternate setting to which a claim is undone is the held one.
+pub undone_to : (i : ℕ) (hs : List Held) → unwrap_or (held_alternate i hs) 0 ≡ alternate_of i hs
+unfolding held_alternate alternate_of
+undone_to i [] = refl
+undone_to i (h ∷ hs) = go (eqb h.interface i) (undone_to i hs)
+  where
+    go : (b : Bool) → unwrap_or (held_alternate i hs) 0 ≡ alternate_of i hs →
+        unwrap_or (cond b (Some h.alternate) (held_alternate i hs)) 0 ≡ cond b h.alternate (alternate_of i hs)
+    go true e = refl
+    go false e = e
+
+if_held : (f : ℕ → List ℕ) (b : Bool) (a : ℕ) → option_map_or f (cond b (Some a) None) [] ≡ cond b (f a) []
+if_held f true a = refl
+if_held f false a = refl
+
 module _ (d : Device) (i alt : ℕ) where
   -- the words of the old setting, as the code takes them
-  pub old_words :
-      (a : ClaimArgs) → a ≡ args_in d i alt → (words : List ℕ) →
-      ((a.held ≡ true) × (words ≡ setting_words (list_of d) i a.old_alternate)) ⊎ ((a.held ≡ false) × (words ≡ [])) →
+  pub old_words : (a : ClaimArgs) → a ≡ args_in d i alt → (words : List ℕ) →
+      words ≡ option_map_or (setting_words (list_of d) a.interface) a.held_alternate [] →
       words ≡ cond (is_held i (held_of d)) (setting_words (list_of d) i (alternate_of i (held_of d))) []
-  old_words a e words (inl w) =
-      let h : is_held i (held_of d) ≡ true = sym (ap (λ (x : ClaimArgs). x.held) e) ∙ w.0 in
-      w.1 ∙ rw (h, ap (λ (x : ClaimArgs). x.old_alternate) e)
-  old_words a e words (inr w) =
-      let h : is_held i (held_of d) ≡ false = sym (ap (λ (x : ClaimArgs). x.held) e) ∙ w.0 in
-      w.1 ∙ rw h
+  old_words a e words w = w ∙ rw (e, held_alternate_is i (held_of d)) (if_held (setting_words (list_of d) i) (is_held i (held_of d)) (alternate_of i (held_of d)))
 
   -- and of the new one
-  pub new_words : (start count : ℕ) → find_endpoints (list_of d) i alt ≡ Endpoints start count →
-      take (start + count - start) (drop start (list_of d)) ≡ setting_words (list_of d) i alt
+  pub new_words : (f : EndpointWords) → find_endpoints (list_of d) i alt ≡ Some f →
+      take (f.start + f.count - f.start) (drop f.start (list_of d)) ≡ setting_words (list_of d) i alt
   unfolding setting_words found_words
-  new_words start count e = rw (e, add-sub_cancel_left)
+  new_words f e = rw (e, add-sub_cancel_left)
 
 module _ (d : Device) (i alt : ℕ) where
   -- the code's pending rings enter quarantine as they are
@@ -86,18 +94,18 @@ module _ (d : Device) (i alt : ℕ) where
 
   module _ (ctx routes log : ℕ) (x : Check) (k : x ≡ record_check d ctx routes log Pass) where
     -- refused by the record's checks
-    pub claim_refused : (a : Answer) → x ≡ check.Refuse a →
-        CheckedAs (checked.Refuse a) (record_check d ctx routes log (claim_check d i alt Pass)) (find_endpoints (list_of d) i alt)
+    pub claim_refused : (a : Answer) → x ≡ Refuse a →
+        CheckedAs (Err a) (record_check d ctx routes log (claim_check d i alt Pass)) (find_endpoints (list_of d) i alt)
     unfolding check_of
     claim_refused a p =
         record {
           check = sym p ∙ refused_first d ctx routes log x (claim_check d i alt Pass) k a p;
-          words = λ start count q. let z : ◌≡◌ {A = ℕ} 0 1 = cc in absurd (omega arith);
+          words = λ found q. let z : ◌≡◌ {A = ℕ} 0 1 = cc in absurd (omega arith);
         }
 
     -- the call's own, after them
     pub claim_checked :
-        (c : EndpointMap) (free : ℕ) (r : Checked) → x ≡ Pass → c ≡ endpoint_map_in d → free ≡ length (free_of d) →
+        (c : EndpointMap) (free : ℕ) (r : Result EndpointWords Answer) → x ≡ Pass → c ≡ endpoint_map_in d → free ≡ length (free_of d) →
         CheckedAs r (draw_check (list_of d) i alt c free Pass) (find_endpoints (list_of d) i alt) →
         CheckedAs r (record_check d ctx routes log (claim_check d i alt Pass)) (find_endpoints (list_of d) i alt)
     unfolding claim_check
@@ -131,9 +139,9 @@ pub list_length : (d : Device) → SoundFacts d → length d.list ≡ 256 → le
 unfolding list_of
 list_length d f room = length-take-le d.list_len d.list (omega (arith, room, f.counts.list))
 
-pub setting_inside : (d : Device) → SoundFacts d → length d.list ≡ 256 → (i alt start count : ℕ) →
-    find_endpoints (list_of d) i alt ≡ Endpoints start count → start + count ≤ d.list_len
-setting_inside d f room i alt start count e = rw (list_length d f room) at (found_inside _ _ _ _ _ e)
+pub setting_inside : (d : Device) → SoundFacts d → length d.list ≡ 256 → (i alt : ℕ) (found : EndpointWords) →
+    find_endpoints (list_of d) i alt ≡ Some found → found.start + found.count ≤ d.list_len
+setting_inside d f room i alt found e = rw (list_length d f room) at (found_inside (list_of d) i alt found e)
 
 -- The free rings of a usable record are as many as were given less its endpoints' and control's.
 pub free_many :

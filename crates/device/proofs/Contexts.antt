@@ -6,8 +6,7 @@ use mathlib.Core.List.{List, []}
 use native.Mathlib.Omega.{arith}
 use lib.Dec.{lit<}
 use lib.ListN.{length, get_or}
-use Rattle.hub.specs.declared.think.ThinkTime.{ThinkTime}
-use Rattle.hub.specs.declared.think.ThinkTime.TheVariants as think
+use Rattle.std.proofs.Common.{Option, Some, None}
 use Rattle.hub.specs.ThinkTime.{think_time}
 use Rattle.hub.proofs.Laws.{think_below}
 use Rattle.transfer.specs.Routes.{queues}
@@ -32,6 +31,7 @@ use Rattle.device.specs.Calls.{hub_context}
 use Rattle.device.specs.Claim.{pending_of, claim_in}
 use Rattle.device.specs.Release.{release_in}
 use Rattle.device.specs.SetConfiguration.{settings_in}
+use Rattle.device.proofs.ClaimLaws.{undone_to}
 use Rattle.device.proofs.Facts.{SoundFacts}
 use Rattle.device.proofs.Fit.{placed_setting, placed_if, placed_held, placed_endpoints, alternate_byte, pending_below, owned_below, queues_of_below, offered_reads}
 
@@ -57,7 +57,7 @@ module _ (d : Device) (f : SoundFacts d) (ctx : List ℕ) (sp : Spaced d.spacing
         record {
           interface = byte-i;
           alternate = byte-a;
-          old_alternate = alternate_byte (list_of d) (held_of d) f.settings i;
+          old_alternate = rw (undone_to i (held_of d)) (alternate_byte (list_of d) (held_of d) f.settings i);
           old_words = placed_endpoints old q;
           new_words = placed_endpoints new p;
           old = λ x. owned_below (2 ^ 64) x (Interface i) (endpoint_map_in d) (lit< tt) own;
@@ -78,7 +78,7 @@ module _ (d : Device) (f : SoundFacts d) (ctx : List ℕ) (sp : Spaced d.spacing
         ConfigureReads d.spacing d.port_speed i (alternate_of i (held_of d)) new old (queues_of (owned_rings (Interface i) (endpoint_map_in d))) dcis
         ctx (undo_context (claim_in d i a rings) ctx)
     unfolding claim_in
-    undo_reads = claim_undo_reads (claim_in d i a rings) claim_fits ctx sp
+    undo_reads = rw (undone_to i (held_of d)) at (claim_undo_reads (claim_in d i a rings) claim_fits ctx sp)
 
   -- A release.
   pub release_reads : (i : ℕ) → i < 2 ^ 8 →
@@ -119,9 +119,9 @@ module _ (d : Device) (f : SoundFacts d) (ctx : List ℕ) (sp : Spaced d.spacing
   unfolding think_value
   think_fits ns = go (think_time ns) refl
     where
-      go : (t : ThinkTime) → think_time ns ≡ t → think_value t < 2 ^ 2
-      go (think.Value v) e = omega (arith, think_below ns v e)
-      go think.Refused e = omega arith
+      go : (t : Option ℕ) → think_time ns ≡ t → think_value t < 2 ^ 2
+      go (Some v) e = omega (arith, think_below ns v e)
+      go None e = omega arith
 
   -- A hub update.
   pub hub_reads : (ports : ℕ) (multi : Bool) (ns : ℕ) → ports < 2 ^ 8 →

@@ -1,22 +1,21 @@
 -- What an unplugging leaves whose checks have passed.
 use Prim.Native.Nat.{ℕ, ◌≤◌}
 use mathlib.Core.Path.{◌≡◌, refl, sym, ap, ◌∙◌}
-use mathlib.Core.Logic.{◌⊎◌, ⊎_elim}
+use mathlib.Core.Logic.{⊎_elim}
 use mathlib.Core.Bool.{Bool, true, false, cond}
 use mathlib.Core.List.{List, [], ◌∷◌, ◌++◌}
 use lib.ListN.{length, take}
 use Rattle.answer.specs.declared.Answer.{Answer}
-use Rattle.answer.specs.declared.Check.{Check}
-use Rattle.answer.specs.declared.Check.TheVariants.{Pass}
+use Rattle.answer.specs.Check.{Check, Pass}
 use Rattle.answer.specs.Answer.{is_broken, is_lost}
 use Rattle.command.specs.Course.{played, result}
 use Rattle.record_ring.specs.Rings.{RING-ROOM, entered}
 use Rattle.record_ring.proofs.Entered.{entered_append, entered_none}
 use Rattle.record_endpoint.specs.declared.endpoint_map.EndpointMap.{EndpointMap}
 use Rattle.record_endpoint.specs.declared.endpoint_map.Owner.TheVariants.{Any}
-use Rattle.record_endpoint.specs.declared.pending.Queues.{Queues}
+use Rattle.record_endpoint.specs.declared.queues.Queues.{Queues}
 use Rattle.record_endpoint.specs.EndpointMap.{no_endpoints, with_active, QueuesAs}
-use Rattle.record_checks.specs.declared.rings.Quarantine.{Quarantine}
+use Rattle.record_checks.specs.declared.quarantine.Quarantine.{Quarantine}
 use Rattle.record_checks.specs.Rings.{QuarantinedAs}
 use Rattle.course_steps.specs.declared.CourseEnd.{CourseEnd}
 use Rattle.course_steps.specs.End.{End}

@@ -3,7 +3,7 @@ use Prim.Native.Nat.{ℕ, ◌+◌, ◌*◌, ◌≤◌}
 use mathlib.Core.Path.{◌≡◌, refl, ap, ◌∙◌}
 use mathlib.Core.Bool.{Bool, true, false, cond, ◌&&◌}
 use mathlib.Core.List.{List, [], ◌∷◌, ◌++◌}
-use mathlib.Core.Logic.{◌⊎◌, ⊎_elim}
+use mathlib.Core.Logic.{⊎_elim}
 use native.Mathlib.Omega.{arith}
 use borrow.Author.Tests.{eqb-true, leb-true}
 use lib.Dec.{eqb, leb}
@@ -11,7 +11,7 @@ use lib.ListN.{length, take}
 use Rattle.laws.specs.Distinct.{elem, distinct}
 use Rattle.laws.proofs.Tests.{and_left, and_right, and-true, not_both}
 use Rattle.laws.proofs.Distinct.{elem_none, elem_here, elem_cases, distinct_fits}
-use Rattle.answer.specs.declared.Check.TheVariants.{Pass}
+use Rattle.answer.specs.Check.{Pass}
 use Rattle.answer.specs.Answer.{is_broken, is_lost}
 use Rattle.record_ring.specs.Rings.{ring_ok, rings_ok, entered}
 use Rattle.record_ring.proofs.Entered.{elem_left, elem_right, elem_either, entered_from, entered_distinct, entered_ok}

@@ -52,7 +52,7 @@ then_configured false a d x hs m l value p = rw p
 
 -- the record with the arrays of other settings
 abbrev pub holding : Settings → Device → Device
-holding held d = rebuilt keep keep keep (put held) keep d
+holding held d = rebuilt keep keep keep (put (record { interfaces = held.interfaces; alternates = held.alternates; count = held.count })) keep d
 
 -- the record that an end leaves, by whether the settings moved
 pub settled :

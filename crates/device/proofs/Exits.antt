@@ -5,8 +5,7 @@ use mathlib.Core.Bool.{Bool}
 use mathlib.Core.List.{List}
 use lib.ListN.{set}
 use Rattle.answer.specs.declared.Answer.{Answer}
-use Rattle.answer.specs.declared.Check.{Check}
-use Rattle.answer.specs.declared.Check.TheVariants.{Pass, Refuse}
+use Rattle.answer.specs.Check.{Check, Pass, Refuse}
 use Rattle.command.specs.declared.Command.TheVariants as command
 use Rattle.command.specs.declared.Sent.{Sent}
 use Rattle.command.specs.Command.{command_word, outcome_at}

@@ -3,7 +3,7 @@ use Prim.Native.Nat.{ℕ, zero, suc, ◌+◌, ◌^◌, ◌<◌, ◌≤◌}
 use mathlib.Core.Path.{◌≡◌, refl, sym, ◌∙◌}
 use mathlib.Core.Bool.{Bool, true, false, cond}
 use mathlib.Core.List.{List, [], ◌∷◌, ◌++◌}
-use mathlib.Core.Logic.{◌⊎◌, inl, inr, ⊎_elim}
+use mathlib.Core.Logic.{inl, inr, ⊎_elim}
 use native.Mathlib.Nat.{mod-lt}
 use native.Mathlib.Decide.{dec_lt}
 use native.Mathlib.Omega.{arith}
@@ -90,7 +90,7 @@ alternate_byte list hs s i = go (decided (is_held i hs))
     go (inl h) =
         let a = alternate_of i hs in
         let t = found_at (find_endpoints list i a) (held_found list hs (sound_found list hs s) i h) in
-        rw (← alternate_is i a _ (found_alternate list i a t.0 t.1 t.2)) (alternate_below _)
+        rw (← alternate_is i a _ (found_alternate list i a t.0 t.1)) (alternate_below _)
     go (inr h) = rw (alternate_none i hs h) (omega arith)
 
 -- Rings of 64 bits, as queues.

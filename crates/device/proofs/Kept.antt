@@ -14,8 +14,7 @@ use Rattle.laws.proofs.Tests.{not_both}
 use Rattle.laws.proofs.Distinct.{elem_place}
 use Rattle.answer.specs.declared.Answer.{Answer}
 use Rattle.answer.specs.declared.Answer.TheVariants as answer
-use Rattle.answer.specs.declared.Check.{Check}
-use Rattle.answer.specs.declared.Check.TheVariants.{Pass}
+use Rattle.answer.specs.Check.{Check, Pass}
 use Rattle.answer.specs.Answer.{number, is_accepted, is_broken, is_lost}
 use Rattle.command.specs.Course.{Played}
 use Rattle.descriptor_list.specs.Lookup.{find_endpoints}

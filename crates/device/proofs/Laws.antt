@@ -1,6 +1,8 @@
 -- What a passed check says.
+use Rattle.std.specs.Result.{IsErrAnd}
+use Rattle.std.proofs.Common.{Ok, Err, Result}
 use Prim.Native.Nat.{ℕ, ◌+◌, ◌*◌, ◌≤◌}
-use mathlib.Core.Path.{◌≡◌, refl, sym, ◌∙◌}
+use mathlib.Core.Path.{◌≡◌, refl, sym, ◌∙◌, ap}
 use mathlib.Core.Bool.{Bool, true, false, cond, ◌&&◌}
 use native.Mathlib.Omega.{arith}
 use borrow.Author.Tests.{eqb-true, leb-true}
@@ -8,8 +10,7 @@ use lib.Dec.{eqb, leb}
 use Rattle.laws.proofs.Tests.{and_left, and_right}
 use Rattle.answer.specs.declared.Answer.{Answer}
 use Rattle.answer.specs.declared.Answer.TheVariants as answer
-use Rattle.answer.specs.declared.Check.{Check}
-use Rattle.answer.specs.declared.Check.TheVariants.{Pass, Refuse}
+use Rattle.answer.specs.Check.{Check, Pass, Refuse}
 use Rattle.context.specs.Place.{Spaced}
 use Rattle.device.specs.declared.record.Device.{Device}
 use Rattle.device.specs.Sound.{sound}
@@ -56,8 +57,8 @@ passed d ctx routes log next e =
 
 -- the checks of a record, and then what follows where they pass
 unfoldable pub and_then : Check → Check → Check
-and_then Pass next = next
-and_then (Refuse a) next = Refuse a
+and_then (Ok _) next = next
+and_then (Err a) next = Refuse a
 
 pub then_if : (b : Bool) (x y : Check) (a : Answer) (next : Check) → x ≡ and_then y next →
     cond b x (Refuse a) ≡ and_then (cond b y (Refuse a)) next
@@ -78,6 +79,15 @@ check_then d ctx routes log next =
 -- what it says that the record's own checks passed
 pub record_passed : (d : Device) (ctx routes log : ℕ) (x : Check) → x ≡ record_check d ctx routes log Pass → x ≡ Pass → Passed d ctx routes log
 record_passed d ctx routes log x k p = (passed d ctx routes log Pass (sym k ∙ p)).0
+
+-- and what it says of them that a call's checks passed
+pub call_passed : (d : Device) (ctx routes log : ℕ) (x next : Check) → x ≡ record_check d ctx routes log next → x ≡ Pass → Passed d ctx routes log
+call_passed d ctx routes log x next k p = (passed d ctx routes log next (sym k ∙ p)).0
+
+-- what a `?` returns
+pub returned : {T : Type 0} (r : Result T Answer) (a : Answer) → IsErrAnd r (λ e. e ≡ a) → r ≡ Err a
+returned (Ok v) a h = absurd h
+returned (Err e) a h = ap Err h
 
 -- refused by the record's checks, or by the call's own after they passed
 module _ (d : Device) (ctx routes log : ℕ) (x next : Check) (k : x ≡ record_check d ctx routes log Pass) where

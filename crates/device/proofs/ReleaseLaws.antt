@@ -4,13 +4,12 @@ use mathlib.Core.Path.{◌≡◌, sym}
 use mathlib.Core.Bool.{cond}
 use mathlib.Core.List.{List}
 use lib.ListN.{length, replicate}
-use Rattle.answer.specs.declared.Check.{Check}
-use Rattle.answer.specs.declared.Check.TheVariants.{Pass}
+use Rattle.answer.specs.Check.{Check, Pass}
 use Rattle.command.specs.Course.{played}
 use Rattle.record_endpoint.specs.declared.endpoint_map.Owner.TheVariants.{Interface}
 use Rattle.record_endpoint.specs.Order.{PLACES}
 use Rattle.record_endpoint.specs.declared.endpoint_map.EndpointMap.{EndpointMap}
-use Rattle.record_endpoint.specs.declared.pending.Queues.{Queues}
+use Rattle.record_endpoint.specs.declared.queues.Queues.{Queues}
 use Rattle.record_endpoint.specs.EndpointMap.{owned_rings, claimed_endpoints, with_active, QueuesAs}
 use Rattle.record_settings.specs.Held.{alternate_of, setting_words, without_setting}
 use Rattle.course_steps.specs.declared.CourseEnd.{CourseEnd}

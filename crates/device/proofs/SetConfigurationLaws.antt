@@ -5,13 +5,14 @@ use mathlib.Core.Bool.{cond}
 use mathlib.Core.List.{List, []}
 use lib.ListN.{length, take}
 use Rattle.answer.specs.Answer.{is_accepted}
-use Rattle.answer.specs.declared.Check.{Check}
-use Rattle.answer.specs.declared.Check.TheVariants.{Pass}
+use Rattle.answer.specs.Check.{Check, Pass}
 use Rattle.command.specs.Course.{played}
 use Rattle.record_endpoint.specs.declared.endpoint_map.EndpointMap.{EndpointMap}
 use Rattle.record_endpoint.specs.declared.endpoint_map.Owner.TheVariants.{Any}
-use Rattle.record_endpoint.specs.declared.pending.Queues.{Queues}
+use Rattle.record_endpoint.specs.declared.queues.Queues.{Queues}
 use Rattle.record_endpoint.specs.EndpointMap.{no_endpoints, with_active, QueuesAs}
+use Rattle.record_settings.specs.declared.held.Settings.{Settings}
+use Rattle.record_settings.specs.Held.{held_by}
 use Rattle.course_steps.specs.declared.CourseEnd.{CourseEnd}
 use Rattle.course_steps.specs.Arrays as arrays
 use Rattle.course_steps.proofs.Laws.{queues_as}
@@ -27,35 +28,33 @@ use Rattle.device.specs.SetConfiguration.{settings_in, bare, set_record, set_con
 use Rattle.device.proofs.Ends.{handed, then_configured}
 
 -- what the code hands to the course
-abbrev pub args_of : Device → ℕ → Queues → SettingsArgs
-args_of d value old =
+abbrev pub args_of : Device → ℕ → Settings → Queues → SettingsArgs
+args_of d value held old =
     record {
       slot = d.slot;
       spacing = d.spacing;
       speed = d.port_speed;
       value = value;
-      interfaces = d.interfaces;
-      alternates = d.alternates;
-      held = d.held_count;
+      held = held;
       old = old;
     }
 
 -- the settings that the code's arguments stand for
-settings_of_lem : (d : Device) (value : ℕ) (c : EndpointMap) (old : Queues) → c ≡ endpoint_map_in d → QueuesAs old c.rings →
-    settings_of (args_of d value old) (list_of d) ≡ settings_in d value
-unfolding settings_in held_of
-settings_of_lem d value c old h s = rw (queues_as old c.rings s, h)
+settings_of_lem : (d : Device) (value : ℕ) (held : Settings) (c : EndpointMap) (old : Queues) → held_by held ≡ held_of d → c ≡ endpoint_map_in d →
+    QueuesAs old c.rings → settings_of (args_of d value held old) (list_of d) ≡ settings_in d value
+unfolding settings_in
+settings_of_lem d value held c old w h s = rw (queues_as old c.rings s, h, w)
 
 -- what it leaves is what the end of its course makes of the record
 pub set_left :
-    (d : Device) (value : ℕ) (x : Check) (c n : EndpointMap) (old : Queues) (o ctx routes log ctx' routes' log' : List ℕ) (e : CourseEnd)
+    (d : Device) (value : ℕ) (x : Check) (held : Settings) (c n : EndpointMap) (old : Queues) (o ctx routes log ctx' routes' log' : List ℕ) (e : CourseEnd)
     (y : Device) (r : Called) →
-    x ≡ record_check d (length ctx) (length routes) (length log) Pass → x ≡ Pass → c ≡ endpoint_map_in d → QueuesAs old c.rings →
-    arrays.course_leaves e ctx' routes' log' ≡ played o 0 (set_course (settings_of (args_of d value old) (take d.list_len d.list)) ctx routes) log →
+    x ≡ record_check d (length ctx) (length routes) (length log) Pass → x ≡ Pass → held_by held ≡ held_of d → c ≡ endpoint_map_in d → QueuesAs old c.rings →
+    arrays.course_leaves e ctx' routes' log' ≡ played o 0 (set_course (settings_of (args_of d value held old) (take d.list_len d.list)) ctx routes) log →
     y ≡ cond e.moved (cond (is_accepted e.answer) (with_configuration value d) d) d → n ≡ no_endpoints →
     r ≡ handed e (cond e.moved (with_held [] (with_endpoints n y)) (with_endpoints (with_active Any e.active c) y)) →
     leaves r ctx' routes' log' ≡ set_configuration d ctx routes log o value
 unfolding set_configuration on_check list_of set_record bare ended
-set_left d value x c n old o ctx routes log ctx' routes' log' e y r k p h s run ey en er =
+set_left d value x held c n old o ctx routes log ctx' routes' log' e y r k p w h s run ey en er =
     rw (er, then_configured e.moved e.answer d y [] n (with_active Any e.active c) value ey, en, h)
-    (sym (rw (← k, p, ← settings_of_lem d value c old h s, ← run)))
+    (sym (rw (← k, p, ← settings_of_lem d value held c old w h s, ← run)))

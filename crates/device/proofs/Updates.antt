@@ -12,11 +12,10 @@ use Rattle.record_endpoint.specs.declared.endpoint_map.EndpointMap.{EndpointMap}
 use Rattle.record_endpoint.specs.Endpoint.{blank, padded}
 use Rattle.record_endpoint.specs.EndpointMap.{endpoints_of}
 use Rattle.record_endpoint.proofs.Clean.{CleanMap, map_back}
-use Rattle.record_settings.specs.declared.held.Settings.{Settings}
 use Rattle.record_settings.specs.Held.{Held}
 use Rattle.record_settings.proofs.Laws.{held_padded}
 use Rattle.device.specs.declared.record.Device.{Device}
-use Rattle.device.specs.Device.{list_of, endpoint_map_in, held_of, quarantined_of, given_of, Same, Status, keep, rebuilt, with_endpoints, with_held, with_quarantined}
+use Rattle.device.specs.Device.{list_of, endpoint_map_in, held_of, quarantined_of, given_of, Same, Status, HeldArrays, keep, rebuilt, with_endpoints, with_held, with_quarantined}
 
 -- a record has its own
 pub same_self : (d : Device) → Same d d
@@ -40,7 +39,7 @@ same_then d e f s t =
 
 -- Whatever becomes of the other parts: the frame of every update. (What a part says that is kept, computes.)
 pub rebuilt_same :
-    (status : Status → Status) (endpoints : Endpoints → Endpoints) (settings : Settings → Settings)
+    (status : Status → Status) (endpoints : Endpoints → Endpoints) (settings : HeldArrays → HeldArrays)
     (quarantine : List ℕ × ℕ → List ℕ × ℕ) (d : Device) → Same d (rebuilt keep status endpoints settings quarantine d)
 unfolding rebuilt list_of given_of
 rebuilt_same status endpoints settings quarantine d =

@@ -1,10 +1,8 @@
 -- A claim in two calls: the ask shows what it would do, the commit does it.
-use Rattle.std.specs.Prelude.{ℕ, ◌≤◌, Bool, ◌&&◌, List, [], ◌≡◌, eqb, length, take}
+use Rattle.std.specs.Prelude.{ℕ, ◌≤◌, Bool, ◌&&◌, List, [], ◌≡◌, eqb, length, take, Ok, Err}
 use Rattle.answer.specs.declared.Answer.{Answer}
 use Rattle.answer.specs.declared.Answer.TheVariants as answer
-use Rattle.answer.specs.declared.Check.{Check}
-use Rattle.answer.specs.declared.Check.TheVariants.{Pass, Refuse}
-use Rattle.answer.specs.Check.{unless}
+use Rattle.answer.specs.Check.{Check, Pass, unless}
 use Rattle.context_block.specs.Flags.{flags_of}
 use Rattle.record_endpoint.specs.Order.{PLACES}
 use Rattle.record_checks.specs.Draw.{same_rings}
@@ -43,8 +41,8 @@ unfoldable pub ask_check : Device → ℕ → ℕ → ℕ → ℕ → ℕ → Ch
 ask_check d ctx routes log interface alternate next = record_check d ctx routes log (claim_check d interface alternate next)
 
 unfoldable pub returned : Check → Ask → Answer × Ask
-returned Pass p = (answer.Accepted, p)
-returned (Refuse a) p = (a, no_ask)
+returned (Ok _) p = (answer.Accepted, p)
+returned (Err a) p = (a, no_ask)
 
 -- An ask, lent a context, a table and a log of these lengths: its answer and what it returns.
 unfoldable pub ask : Device → ℕ → ℕ → ℕ → ℕ → ℕ → Answer × Ask

@@ -1,8 +1,7 @@
 -- The calls on a record. Each refuses, or runs its course and returns the record that the end of the course makes.
-use Rattle.std.specs.Prelude.{ℕ, Bool, List, length}
+use Rattle.std.specs.Prelude.{ℕ, Bool, List, length, Ok, Err}
 use Rattle.answer.specs.declared.Answer.{Answer}
-use Rattle.answer.specs.declared.Check.{Check}
-use Rattle.answer.specs.declared.Check.TheVariants.{Pass, Refuse}
+use Rattle.answer.specs.Check.{Check}
 use Rattle.command.specs.declared.Command.TheVariants as command
 use Rattle.command.specs.Course.{Course, ends, sends, Played, played}
 use Rattle.hub.specs.ThinkTime.{think_time}
@@ -15,8 +14,8 @@ use Rattle.device.specs.Left.{Left, refused, marked}
 use Rattle.device.specs.Check.{record_check, hub_check}
 
 unfoldable pub on_check : Check → Left → (Answer → Left) → Left
-on_check Pass next refuse = next
-on_check (Refuse a) next refuse = refuse a
+on_check (Ok _) next refuse = next
+on_check (Err a) next refuse = refuse a
 
 -- Hub update: one Evaluate with the hub's slot fields.
 unfoldable pub hub_context : Device → ℕ → Bool → ℕ → List ℕ → List ℕ

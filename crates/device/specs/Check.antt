@@ -1,9 +1,7 @@
 -- The checks of the calls on a record, in 01's order.
 use Rattle.std.specs.Prelude.{ℕ, Bool, ◌&&◌}
 use Rattle.answer.specs.declared.Answer.TheVariants as answer
-use Rattle.answer.specs.declared.Check.{Check}
-use Rattle.answer.specs.declared.Check.TheVariants.{Pass}
-use Rattle.answer.specs.Check.{unless}
+use Rattle.answer.specs.Check.{Check, Pass, unless}
 use Rattle.record_checks.specs.Lengths.{lengths_check}
 use Rattle.record_checks.specs.Think.{think_check}
 use Rattle.device.specs.declared.record.Device.{Device}

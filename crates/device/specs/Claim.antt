@@ -1,13 +1,12 @@
 -- The claim of an interface's alternate setting, with free rings drawn for its endpoint words.
 use Rattle.std.specs.Prelude.{ℕ, cond, List, [], length}
 use Rattle.answer.specs.declared.Answer.{Answer}
-use Rattle.answer.specs.declared.Check.{Check}
-use Rattle.answer.specs.declared.Check.TheVariants.{Pass}
+use Rattle.answer.specs.Check.{Check, Pass}
 use Rattle.answer.specs.Answer.{is_broken}
 use Rattle.command.specs.Course.{played}
 use Rattle.record_endpoint.specs.declared.endpoint_map.Owner.TheVariants.{Interface}
 use Rattle.record_endpoint.specs.EndpointMap.{owned_rings, queues_of, queue_dcis, queue_rings, pending_rings, claimed_endpoints, with_active}
-use Rattle.record_settings.specs.Held.{is_held, alternate_of, setting_words, with_setting}
+use Rattle.record_settings.specs.Held.{is_held, alternate_of, held_alternate, setting_words, with_setting}
 use Rattle.record_ring.specs.Store.{lowest}
 use Rattle.record_checks.specs.Draw.{draw_check}
 use Rattle.course_steps.specs.End.{End}
@@ -41,8 +40,7 @@ args_in d interface alternate =
       speed = d.port_speed;
       interface = interface;
       alternate = alternate;
-      held = is_held interface (held_of d);
-      old_alternate = alternate_of interface (held_of d);
+      held_alternate = held_alternate interface (held_of d);
     }
 
 unfoldable pub claim_in : Device → ℕ → ℕ → List ℕ → Claim

@@ -10,7 +10,6 @@ use Rattle.record_endpoint.specs.declared.entry.Handle.{Handle}
 use Rattle.record_endpoint.specs.declared.entry.Handle.TheVariants.{Active, Revoked}
 use Rattle.record_endpoint.specs.EndpointMap.{endpoint_map_of, endpoints_of, owners_of}
 use Rattle.record_endpoint.specs.Endpoint.{blank, padded, rings_of}
-use Rattle.record_settings.specs.declared.held.Settings.{Settings}
 use Rattle.record_settings.specs.Held.{HELD-ROOM, Held, held_in, interfaces_of, alternates_of}
 use Rattle.device.specs.declared.record.Device.{Device}
 
@@ -66,6 +65,12 @@ pub record Status : Type 0 where
   pub value : ℕ
   pub handle : Handle
 
+-- The held settings, in arrays beside their count.
+pub record HeldArrays : Type 0 where
+  pub interfaces : List ℕ
+  pub alternates : List ℕ
+  pub count : ℕ
+
 -- What becomes of a part of a record: it stays, or is another.
 abbrev pub keep : {A : Type 0} → A → A
 keep was = was
@@ -75,7 +80,7 @@ put new was = new
 
 -- The record with its parts made anew: what a bring-up said, the status, the endpoints, the settings, the quarantine.
 unfoldable pub rebuilt :
-    (Fixed → Fixed) → (Status → Status) → (Endpoints → Endpoints) → (Settings → Settings) → (List ℕ × ℕ → List ℕ × ℕ) → Device → Device
+    (Fixed → Fixed) → (Status → Status) → (Endpoints → Endpoints) → (HeldArrays → HeldArrays) → (List ℕ × ℕ → List ℕ × ℕ) → Device → Device
 rebuilt fixed status endpoints settings quarantine d =
     let f =
     fixed
@@ -173,7 +178,7 @@ unfoldable pub endpoint_arrays : EndpointMap → Endpoints
 endpoint_arrays c =
     record { eps = padded PLACES blank (endpoints_of c); owners = padded PLACES 0 (owners_of c); count = length (endpoints_of c) }
 
-unfoldable pub setting_arrays : List Held → Settings
+unfoldable pub setting_arrays : List Held → HeldArrays
 setting_arrays hs =
     record { interfaces = padded HELD-ROOM 0 (interfaces_of hs); alternates = padded HELD-ROOM 0 (alternates_of hs); count = length hs }
 

@@ -1,6 +1,6 @@
 -- The release of an interface.
 use Rattle.std.specs.Prelude.{ℕ, cond, List, length, replicate}
-use Rattle.answer.specs.declared.Check.{Check}
+use Rattle.answer.specs.Check.{Check}
 use Rattle.command.specs.Course.{played}
 use Rattle.record_endpoint.specs.Order.{PLACES}
 use Rattle.record_endpoint.specs.declared.endpoint_map.Owner.TheVariants.{Interface}

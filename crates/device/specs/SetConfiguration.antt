@@ -6,7 +6,7 @@ use Rattle.record_endpoint.specs.EndpointMap.{queues_of, no_endpoints, with_acti
 use Rattle.record_settings.specs.Held.{held_words}
 use Rattle.course_steps.specs.End.{End}
 use Rattle.course_set_configuration.specs.SetConfiguration.{Settings, set_course}
-use Rattle.answer.specs.declared.Check.TheVariants.{Pass}
+use Rattle.answer.specs.Check.{Pass}
 use Rattle.answer.specs.Answer.{is_accepted}
 use Rattle.device.specs.declared.record.Device.{Device}
 use Rattle.device.specs.Device.{list_of, endpoint_map_in, held_of, with_endpoints, with_held, with_configuration}

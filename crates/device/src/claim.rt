@@ -1,24 +1,26 @@
 // The claim of an interface's alternate setting.
-ghost use Rattle.std.specs.Prelude.{◌≡◌, List, ℕ, ◌≤◌, length, take};
-ghost use Rattle.answer.specs.declared.Check.TheVariants.{Pass};
-ghost use Rattle.descriptor_list.specs.declared.Found.TheVariants.{Endpoints};
+ghost use Rattle.std.specs.Prelude.{◌≡◌, ◌≤◌, ℕ, List, [], Some, Ok, length, take};
+ghost use Rattle.std.specs.Option.{option_map_or};
+ghost use Rattle.answer.specs.Check.{Pass};
+ghost use Rattle.descriptor_list.specs.declared.EndpointWords as words;
 ghost use Rattle.descriptor_list.specs.Lookup.{find_endpoints};
 ghost use Rattle.record_ring.specs.Rings.{entered};
 ghost use Rattle.record_endpoint.specs.EndpointMap.{QueuesAs};
-ghost use Rattle.record_settings.specs.Held.{HELD-ROOM, with_setting};
-ghost use Rattle.record_checks.specs.Draw.{CheckedAs};
+ghost use Rattle.record_settings.specs.Held.{HELD-ROOM, setting_words, with_setting};
+ghost use Rattle.record_checks.specs.Draw.{CheckedAs, check_of};
 ghost use Rattle.course_steps.specs.Arrays as arrays;
 ghost use Rattle.device.specs.Device.{list_of, endpoint_map_in, held_of, quarantined_of};
-ghost use Rattle.device.specs.Check.{record_check};
-ghost use Rattle.device.specs.Left.{leaves, ended};
-ghost use Rattle.device.specs.Claim.{claim_check, drawn, pending_of, args_in, claim_record, claim_run, claim};
+ghost use Rattle.device.specs.Left.{leaves, refused, ended};
+ghost use Rattle.device.specs.Calls.{on_check};
+ghost use Rattle.device.specs.Claim.{drawn, pending_of, args_in, claim_record, claim_run, claim};
+ghost use Rattle.device.specs.Ask.{ask_check};
 
 use super::record::{Called, Device};
 use super::{endpoint_map, update};
-use answer::{Answer, Check};
+use answer::Answer;
 use course_claim::{ClaimArgs, ClaimPlan};
 use course_steps::CourseEnd;
-use record_checks::Checked;
+use descriptor_list::EndpointWords;
 use record_endpoint::{EndpointMap, Owner, PLACES, Queues};
 
 impl Device {
@@ -43,16 +45,14 @@ impl Device {
             interface,
             alternate,
         );
-        match checked {
-            Checked::Words { start, count } => run_claim(
-                self, ctx, routes, log, outcomes, interface, alternate, start, count,
-            ),
-            Checked::Refuse(a) => update::refused(self, a),
-        }
+        run_claim(
+            self, ctx, routes, log, outcomes, interface, alternate, checked,
+        )
     }
 }
 
-// 12, 1, 2, 3, and then 8, 9, 21: it needs the lengths of what is lent, and hands on where the setting's endpoint words stand.
+// 12, 1, 2, 3, and then 8, 9, 21: it needs the lengths of what is lent, and hands on where the setting's endpoint words stand. (An
+// interface and its alternate are two bytes here as in the calls: each function reads both of a struct again.)
 pub fn claim_check(
     d: Device,
     ctx: usize,
@@ -60,21 +60,17 @@ pub fn claim_check(
     log: usize,
     interface: u8,
     alternate: u8,
-) -> Checked
-    ensures { CheckedAs result (record_check d ctx routes log (claim_check d interface alternate Pass)) (find_endpoints (list_of d) interface alternate) }
+) -> Result<EndpointWords, Answer>
+    ensures { CheckedAs result (ask_check d ctx routes log interface alternate Pass) (find_endpoints (list_of d) interface alternate) }
 {
-    let check = d.record_check(ctx, routes, log);
-    if let Check::Refuse(a) = check {
-        return Checked::Refuse(a);
-    }
-    let list = d.list;
+    d.record_check(ctx, routes, log)?;
     let c = endpoint_map::endpoint_map_in(d);
     // A usable record has no ring in quarantine.
     let free = d.given_count - d.ep_count - 1;
-    record_checks::draw_check(&list[..d.list_len], interface, alternate, c, free)
+    record_checks::draw_check(&d.list[..d.list_len], interface, alternate, c, free)
 }
 
-// The course of a claim whose checks have passed; the setting's endpoint words stand at start in the list.
+// The course of a claim, or the refusal of its checks.
 pub fn run_claim(
     d: Device,
     ctx: &mut [u8],
@@ -83,41 +79,37 @@ pub fn run_claim(
     outcomes: &[u8],
     interface: u8,
     alternate: u8,
-    start: usize,
-    count: usize,
+    checked: Result<EndpointWords, Answer>,
 ) -> Called
-    requires alternate_value { record_check d (length ctx.old) (length routes.old) (length log.old) (claim_check d interface alternate Pass) ≡ Pass }
-    requires alternate_value_2 { find_endpoints (list_of d) interface alternate ≡ Endpoints start count }
+    requires { (found : words.EndpointWords) → checked ≡ Ok found →
+        (ask_check d (length ctx.old) (length routes.old) (length log.old) interface alternate Pass ≡ Pass)
+        × (find_endpoints (list_of d) interface alternate ≡ Some found) }
     ensures { leaves result ctx.new routes.new log.new
-        ≡ claim_run d ctx.old routes.old log.old outcomes.now interface alternate (drawn d interface alternate) }
+        ≡ on_check (check_of checked)
+        (claim_run d ctx.old routes.old log.old outcomes.now interface alternate (drawn d interface alternate))
+        (λ a. refused d a ctx.old routes.old log.old) }
 {
-    let list = d.list;
-    let args = claim_args(d, interface, alternate);
-    let words = &list[..d.list_len];
-    let old_words = if args.held {
-        record_settings::setting_words(words, interface, args.old_alternate)
-    } else {
-        &words[0..0]
+    let found = match checked {
+        Ok(found) => found,
+        Err(a) => return update::refused(d, a),
     };
-    let new_words = &words[start..start + count];
-    let given = d.given;
-    let eps = d.eps;
+    let args = claim_args(d, interface, alternate);
+    let words = &d.list[..d.list_len];
+    let old_words = old_words(words, args);
+    let new_words = &words[found.start..found.start + found.count];
     let pending = record_checks::drawn_rings(
-        given,
-        d.given_count,
-        eps,
-        d.ep_count,
+        &d.given[..d.given_count],
+        &d.eps[..d.ep_count],
         d.control,
         new_words,
     );
     let c = endpoint_map::endpoint_map_in(d);
-    let all = c.rings;
     let own = record_endpoint::owned_rings(Owner::Interface(interface), c);
     let plan = ClaimPlan {
-        args: args,
+        args,
         old: record_endpoint::queues_of(own),
         pending: record_endpoint::queues_of(pending),
-        all: record_endpoint::queues_of(all),
+        all: record_endpoint::queues_of(c.rings),
     };
     let e = course_claim::claim_interface(ctx, routes, log, outcomes, plan, old_words, new_words);
     claim_end(d, c, interface, alternate, pending, plan.pending, e)
@@ -127,22 +119,23 @@ pub fn claim_args(d: Device, interface: u8, alternate: u8) -> ClaimArgs
     requires { d.held_count ≤ HELD-ROOM }
     ensures { result ≡ args_in d interface alternate }
 {
-    let interfaces = d.interfaces;
-    let alternates = d.alternates;
-    let slot = d.slot;
     ClaimArgs {
-        slot: slot,
+        slot: d.slot,
         spacing: d.spacing,
         speed: d.port_speed,
-        interface: interface,
-        alternate: alternate,
-        held: record_settings::is_held(interfaces, d.held_count, interface),
-        old_alternate: record_settings::alternate_of(
-            interfaces,
-            alternates,
-            d.held_count,
-            interface,
-        ),
+        interface,
+        alternate,
+        held_alternate: d.settings().alternate_of(interface),
+    }
+}
+
+// The endpoint words of the setting that the interface holds.
+pub fn old_words<'a>(list: &'a [u32], a: ClaimArgs) -> &'a [u32]
+    ensures { result.now ≡ option_map_or (setting_words list.now a.interface) a.held_alternate [] }
+{
+    match a.held_alternate {
+        Some(alternate) => record_settings::setting_words(list, a.interface, alternate),
+        None => &list[..0],
     }
 }
 
@@ -161,21 +154,11 @@ fn claim_end(
     ensures { (ctx routes log rings : List ℕ) → pending ≡ pending_of d interface alternate rings →
         leaves result ctx routes log ≡ ended (claim_record d interface alternate rings) (arrays.course_leaves e ctx routes log) }
 {
-    let interfaces = d.interfaces;
-    let alternates = d.alternates;
-    let held = record_settings::with_setting(
-        interfaces,
-        alternates,
-        d.held_count,
-        interface,
-        alternate,
-    );
+    let held = d.settings().with_setting(interface, alternate);
     let claimed = record_endpoint::claimed_endpoints(interface, pending, c);
-    let answer = e.answer;
     if !e.moved {
-        if let Answer::InterfaceBroken = answer {
-            let rings = q.rings;
-            let quarantined = record_checks::quarantined_rings(rings, q.count);
+        if let Answer::InterfaceBroken = e.answer {
+            let quarantined = record_checks::quarantined_rings(&q.rings[..q.count]);
             d.quarantined = quarantined;
             d.quarantined_count = q.count;
         }

@@ -2,17 +2,18 @@
 ghost use Rattle.std.specs.Prelude.{◌≡◌, true, List, ℕ};
 ghost use Rattle.record_endpoint.specs.EndpointMap.{QueuesAs};
 ghost use Rattle.course_steps.specs.Arrays as arrays;
-ghost use Rattle.device.specs.Device.{endpoint_map_in, keep, rebuilt, control_revoked};
+ghost use Rattle.device.specs.Device.{endpoint_map_in};
 ghost use Rattle.device.specs.Sound.{sound};
 ghost use Rattle.device.specs.Left.{leaves, ended};
 ghost use Rattle.device.specs.Disconnect.{disconnect_record, disconnect};
 
 use super::record::{Called, Device};
 use super::{endpoint_map, update};
-use answer::{Answer, Check};
+use answer::Answer;
 use course_steps::CourseEnd;
+use record_checks::Quarantine;
 use record_endpoint::{EndpointMap, Handle, Owner, Queues};
-use record_settings::{HELD_ROOM, Settings};
+use record_settings::Settings;
 
 impl Device {
     // Control and every endpoint are stopped and the slot is disabled; the context is not read.
@@ -26,54 +27,13 @@ impl Device {
         ensures { leaves result ctx.new routes.new log.new ≡
             disconnect self ctx.old routes.old log.old outcomes.now }
     {
-        let check = self.disconnect_check(ctx.len(), routes.len(), log.len());
-        if let Check::Refuse(a) = check {
+        if let Err(a) = self.disconnect_check(ctx.len(), routes.len(), log.len()) {
             return update::refused(self, a);
         }
         let c = endpoint_map::endpoint_map_in(self);
-        let rings = c.rings;
-        let slot = self.slot;
-        let q = record_endpoint::queues_of(rings);
-        let e = course_disconnect::disconnect(routes, log, outcomes, slot, q);
+        let q = record_endpoint::queues_of(c.rings);
+        let e = course_disconnect::disconnect(routes, log, outcomes, self.slot, q);
         disconnect_end(self, c, q, e)
-    }
-}
-
-// The record with control revoked: made anew, since a field of this kind cannot be written.
-fn control_revoked(d: Device) -> Device
-    ensures { result ≡ rebuilt keep control_revoked keep keep keep d }
-{
-    let slot = d.slot;
-    let list = d.list;
-    let eps = d.eps;
-    let owners = d.ep_interfaces;
-    let interfaces = d.interfaces;
-    let alternates = d.alternates;
-    let quarantined = d.quarantined;
-    let given = d.given;
-    Device {
-        usable: d.usable,
-        up: d.up,
-        slot: slot,
-        max_slots: d.max_slots,
-        spacing: d.spacing,
-        port_speed: d.port_speed,
-        configured: d.configured,
-        current_config_value: d.current_config_value,
-        list: list,
-        list_len: d.list_len,
-        eps: eps,
-        ep_interfaces: owners,
-        ep_count: d.ep_count,
-        interfaces: interfaces,
-        alternates: alternates,
-        held_count: d.held_count,
-        control: d.control,
-        control_handle: Handle::Revoked,
-        quarantined: quarantined,
-        quarantined_count: d.quarantined_count,
-        given: given,
-        given_count: d.given_count,
     }
 }
 
@@ -83,27 +43,25 @@ fn disconnect_end(mut d: Device, c: EndpointMap, q: Queues, e: CourseEnd) -> Cal
     ensures { (ctx routes log : List ℕ) →
         leaves result ctx routes log ≡ ended (disconnect_record d) (arrays.course_leaves e ctx routes log) }
 {
-    let answer = e.answer;
     if e.moved {
         d.usable = false;
         d.up = false;
-    } else if let Answer::InterfaceBroken = answer {
-        let quarantined = d.quarantined;
-        let rings = q.rings;
-        let all = record_checks::enter_rings(
-            &quarantined[..d.quarantined_count],
+    } else if let Answer::InterfaceBroken = e.answer {
+        let Quarantine { rings, count } = record_checks::enter_rings(
+            &d.quarantined[..d.quarantined_count],
             d.control,
-            &rings[..q.count],
+            &q.rings[..q.count],
         );
-        let entered = all.rings;
-        d.quarantined = entered;
-        d.quarantined_count = all.count;
+        d.quarantined = rings;
+        d.quarantined_count = count;
     }
-    let none = Settings {
-        interfaces: [0u8; HELD_ROOM],
-        alternates: [0u8; HELD_ROOM],
-        count: 0,
-    };
-    d = control_revoked(d);
-    update::at_end(d, c, e, Owner::Any, record_endpoint::no_endpoints(), none)
+    d.control_handle = Handle::Revoked;
+    update::at_end(
+        d,
+        c,
+        e,
+        Owner::Any,
+        record_endpoint::no_endpoints(),
+        Settings::NONE,
+    )
 }

@@ -1,11 +1,12 @@
 // The hub update.
 ghost use Rattle.std.specs.Prelude.{◌≡◌};
 ghost use Rattle.device.specs.Left.{leaves};
+ghost use Rattle.device.specs.Check.{record_check, hub_check};
 ghost use Rattle.device.specs.Calls.{hub_update};
 
 use super::record::{Called, Device};
 use super::update;
-use answer::Check;
+use answer::Answer;
 use command::Command;
 
 impl Device {
@@ -23,13 +24,7 @@ impl Device {
         ensures { leaves result ctx.new routes.new log.new
             ≡ hub_update self ctx.old routes.old log.old outcomes.now ports multi ns }
     {
-        let check = self.record_check(ctx.len(), routes.len(), log.len());
-        if let Check::Refuse(a) = check {
-            return update::refused(self, a);
-        }
-        // 7, at High speed only.
-        let known = record_checks::think_check(self.port_speed, ns);
-        if let Check::Refuse(a) = known {
+        if let Err(a) = hub_check(self, ctx.len(), routes.len(), log.len(), ns) {
             return update::refused(self, a);
         }
         let think = record_checks::think_value(ns);
@@ -38,8 +33,16 @@ impl Device {
         let answer = course_steps::answer_of(s);
         Called {
             device: update::marked(self, answer),
-            answer: answer,
+            answer,
             count: 1,
         }
     }
+}
+
+// 12, 1, 2, 3, and then 7, at High speed only.
+fn hub_check(d: Device, ctx: usize, routes: usize, log: usize, ns: u32) -> Result<(), Answer>
+    ensures { result ≡ record_check d ctx routes log (hub_check d ns) }
+{
+    d.record_check(ctx, routes, log)?;
+    record_checks::think_check(d.port_speed, ns)
 }

@@ -1,4 +1,6 @@
 // The record of a device and the calls on it (device.rs of the original, and the lifecycle of src/device.rs above it).
+// Context, routes, log and outcomes stay four parameters of each call, as C lends them: a struct of them would be made anew at each call
+// and taken apart again, since a course's parts are given some of them only.
 #![tactic(auto)]
 
 mod ask;
@@ -10,6 +12,7 @@ mod hub_update;
 mod record;
 mod release;
 mod set_configuration;
+mod settings;
 mod sound;
 mod update;
 

@@ -9,6 +9,7 @@ use record_endpoint::{Endpoint, Handle, PLACES};
 use record_ring::{GIVEN_ROOM, RING_ROOM};
 use record_settings::HELD_ROOM;
 
+// 01 asks for a struct by value with its arrays beside their counts.
 #[derive(Clone, Copy)]
 pub struct Device {
     // 01's mark: false after 14, 15 and every refused bring-up.
@@ -20,7 +21,7 @@ pub struct Device {
     pub max_slots: u8,
     pub spacing: usize,
     pub port_speed: u8,
-    // whether a configuration value was read or set
+    // Whether a configuration value was read or set. No Option: the image has a word for each, and a value beside 0 goes back as it came.
     pub configured: bool,
     pub current_config_value: u8,
     pub list: [u32; LIST_ROOM],
@@ -49,6 +50,7 @@ pub struct Called {
 }
 
 // Unusable and otherwise empty: what a refused bring-up hands back, and what words say that are no record.
+#[tactic(auto, unfolding(crate::specs::Device::no_device))]
 pub fn no_device() -> Device
     ensures { result ≡ no_device }
 {

@@ -1,11 +1,12 @@
 // The release of an interface.
 ghost use Rattle.std.specs.Prelude.{◌≡◌};
 ghost use Rattle.device.specs.Left.{leaves};
-ghost use Rattle.device.specs.Release.{release};
+ghost use Rattle.device.specs.Check.{record_check};
+ghost use Rattle.device.specs.Release.{release_check, release};
 
 use super::record::{Called, Device};
 use super::{endpoint_map, update};
-use answer::Check;
+use answer::Answer;
 use course_release::ReleaseArgs;
 use record_endpoint::{Owner, PLACES};
 
@@ -22,45 +23,40 @@ impl Device {
         ensures { leaves result ctx.new routes.new log.new
             ≡ release self ctx.old routes.old log.old outcomes.now interface }
     {
-        let check = self.record_check(ctx.len(), routes.len(), log.len());
-        if let Check::Refuse(a) = check {
+        if let Err(a) = release_check(self, ctx.len(), routes.len(), log.len(), interface) {
             return update::refused(self, a);
         }
-        let list = self.list;
-        let interfaces = self.interfaces;
-        let alternates = self.alternates;
-        let slot = self.slot;
-        let words = &list[..self.list_len];
-        let known = record_checks::held_check(words, interfaces, self.held_count, interface);
-        if let Check::Refuse(a) = known {
-            return update::refused(self, a);
-        }
+        let settings = self.settings();
         let c = endpoint_map::endpoint_map_in(self);
-        let rings = c.rings;
         let own = record_endpoint::owned_rings(Owner::Interface(interface), c);
         let args = ReleaseArgs {
-            slot: slot,
+            slot: self.slot,
             spacing: self.spacing,
             speed: self.port_speed,
-            interface: interface,
-            alternate: record_settings::alternate_of(
-                interfaces,
-                alternates,
-                self.held_count,
-                interface,
-            ),
+            interface,
+            alternate: settings.alternate_of(interface).unwrap_or(0),
             old: record_endpoint::queues_of(own),
-            all: record_endpoint::queues_of(rings),
+            all: record_endpoint::queues_of(c.rings),
         };
+        let words = &self.list[..self.list_len];
         let setting = record_settings::setting_words(words, interface, args.alternate);
         let e = course_release::release_interface(ctx, routes, log, outcomes, args, setting);
-        let held = record_settings::without_setting(
-            interfaces,
-            alternates,
-            self.held_count,
-            interface,
-        );
+        let held = settings.without_setting(interface);
         let others = record_endpoint::claimed_endpoints(interface, [0u64; PLACES], c);
         update::at_end(self, c, e, Owner::Interface(interface), others, held)
     }
+}
+
+// 12, 1, 2, 3, and then 8.
+fn release_check(
+    d: Device,
+    ctx: usize,
+    routes: usize,
+    log: usize,
+    interface: u8,
+) -> Result<(), Answer>
+    ensures { result ≡ record_check d ctx routes log (release_check d interface) }
+{
+    d.record_check(ctx, routes, log)?;
+    record_checks::held_check(&d.list[..d.list_len], &d.settings(), interface)
 }

@@ -7,28 +7,24 @@ ghost use Rattle.device.specs.SetConfiguration.{set_configuration};
 
 use super::record::{Called, Device};
 use super::{endpoint_map, update};
-use answer::{Answer, Check};
+use answer::Answer;
 use course_set_configuration::{SettingsArgs, run_set_configuration};
 use course_steps::CourseEnd;
 use record_endpoint::Owner;
-use record_settings::{HELD_ROOM, Settings};
+use record_settings::Settings;
 
 // The value is the record's where the settings moved and the call is accepted.
+#[tactic(auto, unfolding(crate::specs::Device::with_configuration, answer::specs::Answer::number))]
 fn configured(mut d: Device, e: CourseEnd, value: u8) -> Device
     ensures { result ≡ cond e.moved (cond (is_accepted e.answer) (with_configuration value d) d) d }
 {
-    if !e.moved {
-        return d;
-    }
-    let a = e.answer;
-    match a {
-        Answer::Accepted => {
+    if e.moved {
+        if let Answer::Accepted = e.answer {
             d.configured = true;
             d.current_config_value = value;
-            d
         }
-        _ => d,
     }
+    d
 }
 
 impl Device {
@@ -44,40 +40,35 @@ impl Device {
         ensures { leaves result ctx.new routes.new log.new
             ≡ set_configuration self ctx.old routes.old log.old outcomes.now value }
     {
-        let check = self.record_check(ctx.len(), routes.len(), log.len());
-        if let Check::Refuse(a) = check {
+        if let Err(a) = self.record_check(ctx.len(), routes.len(), log.len()) {
             return update::refused(self, a);
         }
-        let list = self.list;
-        let interfaces = self.interfaces;
-        let alternates = self.alternates;
         let c = endpoint_map::endpoint_map_in(self);
-        let rings = c.rings;
-        let slot = self.slot;
         let args = SettingsArgs {
-            slot: slot,
+            slot: self.slot,
             spacing: self.spacing,
             speed: self.port_speed,
-            value: value,
-            interfaces: interfaces,
-            alternates: alternates,
-            held: self.held_count,
-            old: record_endpoint::queues_of(rings),
+            value,
+            held: self.settings(),
+            old: record_endpoint::queues_of(c.rings),
         };
-        let e = run_set_configuration(ctx, routes, log, outcomes, 0, args, &list[..self.list_len]);
+        let e = run_set_configuration(
+            ctx,
+            routes,
+            log,
+            outcomes,
+            0,
+            args,
+            &self.list[..self.list_len],
+        );
         self = configured(self, e, value);
-        let none = Settings {
-            interfaces: [0u8; HELD_ROOM],
-            alternates: [0u8; HELD_ROOM],
-            count: 0,
-        };
         update::at_end(
             self,
             c,
             e,
             Owner::Any,
             record_endpoint::no_endpoints(),
-            none,
+            Settings::NONE,
         )
     }
 }

@@ -8,7 +8,7 @@ ghost use Rattle.device.specs.Left.{marked};
 use super::record::{Called, Device};
 use answer::Answer;
 use course_steps::CourseEnd;
-use record_endpoint::{EndpointMap, Owner};
+use record_endpoint::{EndpointMap, Endpoints, Owner};
 use record_settings::Settings;
 
 // A refusal changes nothing.
@@ -23,6 +23,7 @@ pub fn refused(d: Device, a: Answer) -> Called
 }
 
 // 14 and 15 make it unusable.
+#[tactic(auto, unfolding(crate::specs::Left::marked, crate::specs::Device::unusable, answer::specs::Answer::number))]
 pub fn marked(mut d: Device, a: Answer) -> Device
     ensures { result ≡ marked a d }
 {
@@ -51,26 +52,26 @@ pub fn at_end(
           count = e.count;
         } }
 {
-    let mut left = moved;
-    if e.moved {
-        let interfaces = held.interfaces;
-        let alternates = held.alternates;
+    let left = if e.moved {
+        let Settings {
+            interfaces,
+            alternates,
+            count,
+        } = held;
         d.interfaces = interfaces;
         d.alternates = alternates;
-        d.held_count = held.count;
+        d.held_count = count;
+        moved
     } else {
-        left = record_endpoint::with_active(who, e.active, c);
-    }
-    let live = record_endpoint::endpoints_of(left);
-    let eps = live.eps;
-    let owners = live.owners;
+        record_endpoint::with_active(who, e.active, c)
+    };
+    let Endpoints { eps, owners, count } = record_endpoint::endpoints_of(left);
     d.eps = eps;
     d.ep_interfaces = owners;
-    d.ep_count = live.count;
-    let answer = e.answer;
+    d.ep_count = count;
     Called {
-        device: marked(d, answer),
-        answer: answer,
+        device: marked(d, e.answer),
+        answer: e.answer,
         count: e.count,
     }
 }

@@ -16,8 +16,7 @@ use Rattle.hub.specs.Chain.{chain_ok}
 use Rattle.record_ring.specs.Store.{given_ok}
 use Rattle.answer.specs.declared.Answer.{Answer}
 use Rattle.answer.specs.declared.Answer.TheVariants as answer
-use Rattle.answer.specs.declared.Check.{Check}
-use Rattle.answer.specs.declared.Check.TheVariants.{Pass, Refuse}
+use Rattle.answer.specs.Check.{Check, Pass, Refuse}
 use Rattle.context.specs.Place.{Spaced, spacing_of}
 use Rattle.record_checks.specs.Lengths.{lengths_check}
 use Rattle.device.proofs.Laws.{and_then, then_if, pass_if}
@@ -78,7 +77,7 @@ pub record Passed (a : BringUp) (ctx routes log : ℕ) : Type 0 where
   pub room : 64 ≤ log
   pub speed : speed_known a.speed ≡ true
   pub list : valid_list a.list ≡ true
-  pub chain : chain_ok a.hubs a.has_parent a.parent ≡ true
+  pub chain : chain_ok a.hubs a.parent ≡ true
   pub rings : given_ok a.rings ≡ true
 
 record Lengths (ctx : ℕ) : Type 0 where
@@ -109,7 +108,7 @@ module _ (a : BringUp) where
       let e4 : (leb 64 log ≡ true) × _ = pass_if _ _ _ e3.1 in
       let e5 : (speed_known a.speed ≡ true) × _ = pass_if _ _ _ e4.1 in
       let e6 : (valid_list a.list ≡ true) × _ = pass_if _ _ _ e5.1 in
-      let e7 : (chain_ok a.hubs a.has_parent a.parent ≡ true) × _ = pass_if _ _ _ e6.1 in
+      let e7 : (chain_ok a.hubs a.parent ≡ true) × _ = pass_if _ _ _ e6.1 in
       let e8 : (given_ok a.rings ≡ true) × _ = pass_if _ _ _ e7.1 in
       let right : (t && u) ≡ true = and_right s (t && u) e1.0 in
       let l : Lengths ctx =

@@ -19,8 +19,8 @@ use Rattle.transfer.specs.Routes.{route_index, route_of, with_route, OutsideSlot
 use Rattle.transfer.proofs.Laws.{index_inside}
 use Rattle.answer.specs.declared.Answer.{Answer}
 use Rattle.answer.specs.declared.Answer.TheVariants as answer
-use Rattle.answer.specs.declared.Check.{Check}
-use Rattle.answer.specs.declared.Check.TheVariants.{Pass, Refuse}
+use Rattle.std.specs.Prelude.{Ok, Err}
+use Rattle.answer.specs.Check.{Check, Pass, Refuse}
 use Rattle.answer.specs.Answer.{number, is_accepted, is_broken, is_cut}
 use Rattle.command.specs.Course.{played, result, words}
 use Rattle.command.proofs.Done.{AllDone}
@@ -45,8 +45,8 @@ pub record Refusal (x : Answer) : Type 0 where
   pub cut : is_cut x ≡ false
 
 unfoldable Refuses : Check → Type 0
-Refuses Pass = Unit {0}
-Refuses (Refuse x) = Refusal x
+Refuses (Ok _) = Unit {0}
+Refuses (Err x) = Refusal x
 
 refuses_if : (b : Bool) (x : Answer) (next : Check) → Refusal x → Refuses next → Refuses (cond b next (Refuse x))
 unfolding Refuses
@@ -63,7 +63,7 @@ check_refuses a ctx routes log =
     (refuses_if (leb 64 log) answer.LogTooShort _ (record { accepted = refl; broken = refl; cut = refl })
     (refuses_if (speed_known a.speed) answer.Speed _ (record { accepted = refl; broken = refl; cut = refl })
     (refuses_if (valid_list a.list) answer.DescriptorList _ (record { accepted = refl; broken = refl; cut = refl })
-    (refuses_if (chain_ok a.hubs a.has_parent a.parent) answer.HubChain _ (record { accepted = refl; broken = refl; cut = refl })
+    (refuses_if (chain_ok a.hubs a.parent) answer.HubChain _ (record { accepted = refl; broken = refl; cut = refl })
     (refuses_if (given_ok a.rings) answer.Rings _ (record { accepted = refl; broken = refl; cut = refl })
     (refuses_if (eqb (route_of routes a.slot 1) 0) answer.QueueFull Pass (record { accepted = refl; broken = refl; cut = refl }) tt))))))))
 
@@ -101,10 +101,10 @@ module _ (a : BringUp) (ctx routes log outcomes : List ℕ) where
       go : (k : Check) → bring_up_check a (length ctx) routes (length log) ≡ k → Refuses k →
           Refused ctx routes log (on_check k run (λ x. refused no_device x ctx routes log))
           ⊎ Ran a ctx routes log outcomes (on_check k run (λ x. refused no_device x ctx routes log))
-      go Pass e r =
+      go (Ok _) e r =
           let p = passed a (length ctx) (length routes) (length log) (queue_check a routes) e in
           inr (record { pass = p.0; free = queue_pass a routes p.1; left = refl })
-      go (Refuse x) e r =
+      go (Err x) e r =
           inl (record { device = refl; answer = r; count = refl; context = refl; table = refl; logged = refl })
 
 -- An accepted bring-up.

@@ -12,12 +12,13 @@ use Rattle.record_ring.specs.Store.{given_ok}
 use Rattle.record_ring.proofs.Promises.{given_promise}
 use Rattle.descriptor_list.specs.Valid.{valid_list}
 use Rattle.descriptor_list.proofs.Laws.{valid_length}
-use Rattle.transfer.specs.declared.Registered.TheVariants as register
+use Rattle.std.specs.Prelude.{Result, Ok, Err}
+use Rattle.transfer.specs.declared.RouteError.{RouteError}
+use Rattle.transfer.specs.declared.RouteError.TheVariants.{QueueFull}
 use Rattle.transfer.specs.Routes.{route_of, with_route, registered, with_registered}
 use Rattle.answer.specs.declared.Answer.{Answer}
 use Rattle.answer.specs.declared.Answer.TheVariants as answer
-use Rattle.answer.specs.declared.Check.{Check}
-use Rattle.answer.specs.declared.Check.TheVariants.{Pass, Refuse}
+use Rattle.answer.specs.Check.{Check, Pass, Refuse}
 use Rattle.command.specs.Course.{Played, played}
 use Rattle.context.specs.Place.{Spaced, spacing_of}
 use Rattle.course_init.specs.Reading.{BringUp, control_ring, Brought}
@@ -30,12 +31,12 @@ use Rattle.device_bring_up.specs.BringUp.{device_check, queue_check, bring_up_ch
 use Rattle.device_bring_up.proofs.Checks.{Passed, passed}
 
 -- one test decides what is answered, what 17 says, and what is left of the table
-full_test : (b : Bool) → cond b register.Done register.QueueFull ≡ register.QueueFull →
+full_test : (b : Bool) (x : RouteError) → ◌≡◌ {A = Result (Unit {0}) RouteError} (cond b (Ok (tt {0})) (Err QueueFull)) (Err x) →
     Refuse answer.QueueFull ≡ cond b Pass (Refuse answer.QueueFull)
-full_test true e = let z : ◌≡◌ {A = ℕ} 0 1 = cc in absurd (omega arith)
-full_test false e = refl
+full_test true x e = let z : ◌≡◌ {A = ℕ} 0 1 = cc in absurd (omega arith)
+full_test false x e = refl
 
-free_test : (b : Bool) → cond b register.Done register.QueueFull ≡ register.Done → Pass ≡ cond b Pass (Refuse answer.QueueFull)
+free_test : (b : Bool) {u : Unit {0}} → ◌≡◌ {A = Result (Unit {0}) RouteError} (cond b (Ok (tt {0})) (Err QueueFull)) (Ok u) → Pass ≡ cond b Pass (Refuse answer.QueueFull)
 free_test true e = refl
 free_test false e = let z : ◌≡◌ {A = ℕ} 0 1 = cc in absurd (omega arith)
 
@@ -49,12 +50,12 @@ refuse_test false x y z e = refl
 
 module _ (a : BringUp) (routes : List ℕ) where
   -- control's route is there already
-  pub queue_full : registered routes a.slot 1 ≡ register.QueueFull → Refuse answer.QueueFull ≡ queue_check a routes
+  pub queue_full : (x : RouteError) → registered routes a.slot 1 ≡ Err x → Refuse answer.QueueFull ≡ queue_check a routes
   unfolding registered queue_check
-  queue_full e = full_test (eqb (route_of routes a.slot 1) 0) e
+  queue_full x e = full_test (eqb (route_of routes a.slot 1) 0) x e
 
   -- or is registered now
-  pub queue_free : registered routes a.slot 1 ≡ register.Done → Pass ≡ queue_check a routes
+  pub queue_free : {u : Unit {0}} → registered routes a.slot 1 ≡ Ok u → Pass ≡ queue_check a routes
   unfolding registered queue_check
   queue_free e = free_test (eqb (route_of routes a.slot 1) 0) e
 
@@ -88,19 +89,19 @@ module _ (a : BringUp) (ctx : ℕ) (routes : List ℕ) (log : ℕ) where
     unfolding device_check
     list_refused e f = not_entered answer.DescriptorList (sym (base ∙ rw (e, f)))
 
-    pub chain_refused : speed_known a.speed ≡ true → valid_list a.list ≡ true → chain_ok a.hubs a.has_parent a.parent ≡ false →
+    pub chain_refused : speed_known a.speed ≡ true → valid_list a.list ≡ true → chain_ok a.hubs a.parent ≡ false →
         Entered a ctx routes log (Refuse answer.HubChain) routes
     unfolding device_check
     chain_refused e f g = not_entered answer.HubChain (sym (base ∙ rw (e, f, g)))
 
-    pub ring_refused : speed_known a.speed ≡ true → valid_list a.list ≡ true → chain_ok a.hubs a.has_parent a.parent ≡ true →
+    pub ring_refused : speed_known a.speed ≡ true → valid_list a.list ≡ true → chain_ok a.hubs a.parent ≡ true →
         given_ok a.rings ≡ false → Entered a ctx routes log (Refuse answer.Rings) routes
     unfolding device_check
     ring_refused e f g h = not_entered answer.Rings (sym (base ∙ rw (e, f, g, h)))
 
     -- they pass, and 17 decides
     pub entered :
-        speed_known a.speed ≡ true → valid_list a.list ≡ true → chain_ok a.hubs a.has_parent a.parent ≡ true →
+        speed_known a.speed ≡ true → valid_list a.list ≡ true → chain_ok a.hubs a.parent ≡ true →
         given_ok a.rings ≡ true → (r : Check) (left : List ℕ) → r ≡ queue_check a routes →
         left ≡ with_registered routes a.slot 1 (control_ring a) → Entered a ctx routes log r left
     unfolding device_check

@@ -6,10 +6,8 @@ use Rattle.hub.specs.Chain.{chain_ok}
 use Rattle.transfer.specs.Routes.{route_of, with_route}
 use Rattle.record_ring.specs.Store.{GIVEN-ROOM, given_ok}
 use Rattle.answer.specs.declared.Answer.TheVariants as answer
-use Rattle.answer.specs.declared.Check.{Check}
-use Rattle.answer.specs.declared.Check.TheVariants.{Pass}
 use Rattle.answer.specs.Answer.{is_accepted}
-use Rattle.answer.specs.Check.{unless}
+use Rattle.answer.specs.Check.{Check, Pass, unless}
 use Rattle.command.specs.Command.{LOG-ROOM}
 use Rattle.command.specs.Course.{Course, Played, played}
 use Rattle.context.specs.Place.{spacing_of}
@@ -35,7 +33,7 @@ unfoldable pub device_check : BringUp → Check → Check
 device_check a next =
     unless (speed_known a.speed) answer.Speed
     (unless (valid_list a.list) answer.DescriptorList
-    (unless (chain_ok a.hubs a.has_parent a.parent) answer.HubChain
+    (unless (chain_ok a.hubs a.parent) answer.HubChain
     (unless (given_ok a.rings) answer.Rings next)))
 
 -- 17: the word of Dci 1 is not 0.

@@ -3,26 +3,19 @@ ghost use Rattle.std.specs.Prelude.{◌≡◌, cond, ◌&&◌, eqb, leb};
 ghost use Rattle.transfer.specs.Routes.{with_route};
 ghost use Rattle.record_ring.specs.Store.{least};
 ghost use Rattle.answer.specs.declared.Answer.{Answer};
-ghost use Rattle.answer.specs.declared.Check.TheVariants.{Pass, Refuse};
+ghost use Rattle.answer.specs.Check.{Pass, Refuse};
 ghost use Rattle.course_init.specs.Reading.{bring_up_of};
 ghost use Rattle.device_bring_up.specs.BringUp.{bring_up_check};
 
-use answer::{Answer, Check};
+use answer::Answer;
 use course_init::BringUpArgs;
 use def::Dci;
-use transfer::Registered;
 
 // Whether a slot is one of the slots, of which there are 255 at most.
 fn slot_fits(slot: usize, max_slots: usize) -> bool
     ensures { result ≡ (leb 1 slot && (leb slot max_slots && leb max_slots 255)) }
 {
-    if slot < 1 {
-        return false;
-    }
-    if max_slots < slot {
-        return false;
-    }
-    max_slots <= 255
+    1 <= slot && slot <= max_slots && max_slots <= 255
 }
 
 // 11, 1, 2, 3, 6, 4, 5, 10, 17; control's route is registered where they pass.
@@ -36,36 +29,31 @@ pub fn enter(
     rings: &[u64],
     hubs: &[u64],
     list: &[u32],
-) -> Check
+) -> Result<(), Answer>
     requires spacing_value { spacing ≡ cond (eqb ctx 1056) 32 64 }
     requires ring_value { ring ≡ least rings.now }
     ensures { (result ≡ bring_up_check (bring_up_of a rings.now hubs.now list.now) ctx routes.old log)
         × ((result ≡ Pass) → routes.new ≡ with_route routes.old a.slot.0 1 (least rings.now))
         × ((x : Answer) → (result ≡ Refuse x) → routes.new ≡ routes.old) }
 {
-    let slot = a.slot.0 as usize;
-    if !slot_fits(slot, a.max_slots) {
-        return Check::Refuse(Answer::SlotLimitReached);
+    if !slot_fits(a.slot.0 as usize, a.max_slots) {
+        return Err(Answer::SlotLimitReached);
     }
-    let lengths = record_checks::lengths_check(spacing, a.max_slots as u8, ctx, routes.len(), log);
-    if let Check::Refuse(x) = lengths {
-        return Check::Refuse(x);
-    }
+    record_checks::lengths_check(spacing, a.max_slots as u8, ctx, routes.len(), log)?;
     if !def::speed_known(a.speed) {
-        return Check::Refuse(Answer::Speed);
+        return Err(Answer::Speed);
     }
     if !descriptor_list::valid_list(list) {
-        return Check::Refuse(Answer::DescriptorList);
+        return Err(Answer::DescriptorList);
     }
-    if !hub::chain_ok(hubs, a.has_parent, a.parent) {
-        return Check::Refuse(Answer::HubChain);
+    if !hub::chain_ok(hubs, a.parent) {
+        return Err(Answer::HubChain);
     }
     if !record_ring::given_fit(rings) {
-        return Check::Refuse(Answer::Rings);
+        return Err(Answer::Rings);
     }
-    let r = transfer::register_queue(routes, a.slot, Dci(1), ring);
-    match r {
-        Registered::QueueFull => Check::Refuse(Answer::QueueFull),
-        Registered::Done => Check::Pass,
+    match transfer::register_queue(routes, a.slot, Dci(1), ring) {
+        Ok(()) => Ok(()),
+        Err(_) => Err(Answer::QueueFull),
     }
 }

@@ -9,7 +9,6 @@ ghost use Rattle.device.specs.Left.{leaves};
 ghost use Rattle.course_init.specs.Reading.{bring_up_of};
 ghost use Rattle.device_bring_up.specs.BringUp.{bring_up};
 
-use answer::Check;
 pub use course_init::BringUpArgs;
 use device::Called;
 
@@ -41,7 +40,7 @@ pub fn bring_up(
         hubs,
         list,
     );
-    if let Check::Refuse(x) = check {
+    if let Err(x) = check {
         return Called {
             device: device::no_device(),
             answer: x,

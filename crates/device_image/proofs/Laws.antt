@@ -109,18 +109,18 @@ module _ (d : Device) (fits : Fits d) where
 
   -- What is left where all but the list and the given rings is written over a buffer that says these.
   pub updated :
-      (l : List ℕ) → length l ≡ WORDS → FixedIn d l → {l1 l2 l3 : List ℕ} {w : ℕ} →
+      (l : List ℕ) → length l ≡ WORDS → FixedIn d l → {l1 l2 l3 l4 : List ℕ} {w : ℕ} →
       l1
       ≡ sets (sets (sets (sets l EP-REVOKED (map handle_word d.eps)) EP-ADDRESSES (map address_word d.eps)) EP-INTERFACES d.ep_interfaces) EP-RINGS
       (map ring_word d.eps) →
-      l2 ≡ sets (sets l1 INTERFACES d.interfaces) ALTERNATES d.alternates → l3 ≡ sets l2 QUARANTINED d.quarantined →
+      l2 ≡ sets l1 INTERFACES d.interfaces → l3 ≡ sets l2 ALTERNATES d.alternates → l4 ≡ sets l3 QUARANTINED d.quarantined →
       w ≡ revoked d.control_handle →
-      sets (sets (sets (sets l3 USABLE (bool_byte d.usable ∷ bool_byte d.configured ∷ w ∷ [])) SLOT (bytes_of d)) SPACING (counts_of d)) UP
+      sets (sets (sets (sets l4 USABLE (bool_byte d.usable ∷ bool_byte d.configured ∷ w ∷ [])) SLOT (bytes_of d)) SPACING (counts_of d)) UP
       (bool_byte d.up ∷ d.given_count ∷ [])
       ≡ stored d l
   unfolding encode parts read stored sum cuts
-  updated l e s a b c g =
-      rw (eq-eqb (length l) WORDS e, g, flag_byte d.usable, flag_byte d.configured, flag_byte d.up, c, b, a, s.list, s.given)
+  updated l e s a b b' c g =
+      rw (eq-eqb (length l) WORDS e, g, flag_byte d.usable, flag_byte d.configured, flag_byte d.up, c, b', b, a, s.list, s.given)
       (lay 11 (up_of d) refl
       (lay 8 (counts_of d) refl
       (lay 2 (bytes_of d) refl

@@ -1,66 +1,86 @@
 -- One turn of each loop, and what is known before and after.
 use Prim.Native.Nat.{ℕ, zero, suc, ◌+◌, ◌-◌, ◌≤◌, ◌<◌}
-use mathlib.Core.Path.{◌≡◌, refl, sym, ap, ◌∙◌}
-use mathlib.Core.Bool.{true, ◌&&◌}
+use mathlib.Core.Path.{◌≡◌, refl, sym, ap, subst, ◌∙◌}
+use mathlib.Core.Bool.{Bool, true, false, cond, ◌&&◌}
 use lib.Dec.{eqb}
 use mir.Val.{Val}
 use denote.Shadow.{shadow}
 use denote.Array.{each}
-use mathlib.Core.List.{List, [], ◌∷◌, ◌++◌, map}
+use mathlib.Core.List.{List, [], ◌∷◌, map}
 use native.Mathlib.Numerals.{add-one}
 use native.Mathlib.Nat.{add-zero}
 use native.Mathlib.Omega.{arith}
+use native.Mathlib.Decide.{dec_lt}
+use denote.Param.Members.{Mut, Called}
+use Rattle.std.specs.Array.{index_steps, IsFromFnResultFrom, IsFromFnResult}
+use Rattle.std.specs.Iterator.{CallableAtEachTurn, ActsAs}
+use Rattle.std.specs.List.{FoldsTo}
 use borrow.Author.Tests.{eqb-true}
-use lib.ListN.{length, get_or, set, take, drop, length-set, length-drop, drop_of_length-le}
-use lib.Seq.{take-suc-set, take_all, drop-cons, set_comm, sets}
+use lib.ListN.{length, get_or, set, drop, drop_of_length-le}
+use mathlib.Core.List.{append_assoc}
+use borrow.Rule.Slice.PartMut.{put_mid}
+use lib.Seq.{drop-cons, drop-drop, sets, sets-eq}
 use Rattle.laws.specs.Bounds.{Below}
 use Rattle.laws.proofs.Tests.{and_left, and_right}
-use Rattle.record_endpoint.specs.EndpointMap.{tabulated}
+use Rattle.record_endpoint.specs.EndpointMap.{tabulated, handle_of}
 use Rattle.record_endpoint.specs.declared.entry.Handle.{Handle}
+use Rattle.record_endpoint.specs.declared.entry.Handle.TheVariants.{Active, Revoked}
 use Rattle.record_endpoint.specs.declared.entry.Endpoint.{Endpoint}
 use Rattle.record_endpoint.specs.declared.entry.Endpoints.{Endpoints}
 use Rattle.record_endpoint.specs.contracts.entry.Endpoint.{the_row}
-use Rattle.record_endpoint.specs.Endpoint.{blank}
 use Rattle.descriptor_list.specs.Valid.{LIST-ROOM}
 use Rattle.record_ring.specs.Rings.{RING-ROOM}
 use Rattle.record_ring.specs.Store.{GIVEN-ROOM}
-use Rattle.record_endpoint.specs.Order.{PLACES}
 use Rattle.record_settings.specs.Held.{HELD-ROOM}
-use Rattle.device_image.specs.Layout.{USABLE, CONTROL-REVOKED, EP-REVOKED, SLOT, EP-ADDRESSES, EP-INTERFACES, INTERFACES, ALTERNATES, LIST, SPACING, EP-RINGS, QUARANTINED, UP, GIVEN-COUNT, GIVEN, WORDS}
-use Rattle.device_image.specs.Image.{handle_word, address_word, ring_word, handle_in, number_at, endpoints_in, numbered, read, below, is_image, decode}
-use Rattle.device_image.proofs.Parts.{below_in}
+use Rattle.device_image.specs.Layout.{USABLE, CONTROL-REVOKED, SLOT, INTERFACES, ALTERNATES, LIST, SPACING, QUARANTINED, UP, GIVEN-COUNT, GIVEN, WORDS}
+use denote.Enum.Declared.{tag_of}
+use Rattle.record_endpoint.specs.contracts.entry.Handle.{the_type}
+use Rattle.device_image.specs.Image.{revoked, address_word, handle_in, number_at, endpoints_in, numbered, read, below, is_image, decode}
+use Rattle.device_image.proofs.Parts.{below_in, tabulated_list}
 
-tabulated_snoc : {A : Type 0} (f : ℕ → A) (k a : ℕ) → tabulated f (suc k) a ≡ tabulated f k a ++ (f (a + k) ∷ [])
-unfolding tabulated
-tabulated_snoc f zero a = rw add-zero
-tabulated_snoc f (suc k) a =
-    let e : a + 1 + k ≡ a + suc k = omega arith in rw (tabulated_snoc f k (a + 1), e)
+-- An array that a closure makes, where no call changes the closure: it may be called at each index, and each element is what it says there.
+module _ {F B : Type 0} (g : Mut F (ℕ × Unit {0}) B) (f : F) (n : ℕ) where
+  abbrev Turn : F → ℕ → F → Type 0
+  Turn p i q = (y : B) × Called g p (i, tt) y q
 
--- An array of m places, of which the first p say what f says from a place on.
-pub record Read {A : Type 0} (m : ℕ) (f : ℕ → A) (from p : ℕ) (l : List A) : Type 0 where
-  pub said : take p l ≡ tabulated f p from
-  pub room : length l ≡ m
+  module _ (still : (i : ℕ) (y : B) (q : F) → Called g f (i, tt) y q → q ≡ f) (may : (i : ℕ) → i < n → g.pre f (i, tt)) where
+    stays : (xs : List ℕ) (p q : F) → p ≡ f → FoldsTo Turn p xs q → q ≡ f
+    stays [] p q e h = sym h ∙ e
+    stays (i ∷ xs) p q e h = stays xs h.0 q (still i h.1.0 h.0 (rw e at h.1.1)) h.2
 
-pub read_none : {A : Type 0} (m : ℕ) (f : ℕ → A) (from : ℕ) (l : List A) → length l ≡ m → Read m f from 0 l
-unfolding tabulated
-read_none m f from l e = record { said = refl; room = e }
+    pub callable : CallableAtEachTurn (index_steps n) Turn (λ p i. g.pre p (i, tt)) 0 f
+    callable = record { at = λ xs t q i u ys h s. rw (stays xs f q refl h) (may i (omega (arith, s.0, s.1))) }
 
-pub read_next :
-    {A : Type 0} {m : ℕ} {f : ℕ → A} {from p : ℕ} {l : List A} (v : A) → Read m f from p l → p < m → v ≡ f (from + p) →
-    Read m f from (p + 1) (set l p v)
-read_next {m = m} {f} {from} {p} {l} v w h q =
-    record {
-      said = rw (add-one p, take-suc-set l p v (rw w.room h), tabulated_snoc f p from, w.said, q);
-      room = length-set l p v ∙ w.room;
-    }
+  module _ (said : ℕ → B) (from : ℕ) (acts : ActsAs g f (λ i. said (from + i))) where
+    made_at :
+        (k i : ℕ) (p : F) (ys : List B) → p ≡ f → IsFromFnResultFrom g p ys i k →
+        (j : ℕ) (d : B) → i ≤ j → j < i + k → said (from + j) ≡ get_or ys j d
+    made_at zero i p ys e h j d low high = absurd (omega arith)
+    made_at (suc k) i p ys e h j d low high =
+        let here = acts i h.1 h.0 (rw e at h.3) in
+        go (dec_lt i j) here.1 (made_at k (i + 1) h.0 ys here.0 h.4 j d)
+      where
+        go : Dec (i < j) → h.1 ≡ said (from + i) → (i + 1 ≤ j → j < i + 1 + k → said (from + j) ≡ get_or ys j d) → said (from + j) ≡ get_or ys j d
+        go (yes later) here rest = rest (omega arith) (omega arith)
+        go (no later) here rest =
+            let same : i ≡ j = omega arith in
+            subst (λ (m : ℕ). said (from + m) ≡ get_or ys m d) same (sym here ∙ sym (h.2.1 d))
 
-pub read_done :
-    {A : Type 0} {m : ℕ} {f : ℕ → A} {from p : ℕ} {l : List A} → Read m f from p l → m ≤ p → p ≤ m →
-    l ≡ tabulated f m from
-read_done {m = m} {f} {from} {p} {l} w g h =
-    let r : length l ≡ m = w.room in
-    let same : p ≡ m = omega arith in
-    sym (take_all p l (omega arith)) ∙ w.said ∙ ap (λ (k : ℕ). tabulated f k from) same
+    pub made : (ys : List B) → IsFromFnResult g f ys n → B → ys ≡ tabulated said n from
+    made ys h d = sym (tabulated_list said ys n from d h.long (λ i k. made_at n 0 f ys refl h.each i d (omega arith) (omega arith)))
+
+pub handle_is : (w : ℕ) → handle_of (eqb w 0) ≡ handle_in w
+unfolding handle_of handle_in
+handle_is w = go (eqb w 0)
+  where
+    go : (b : Bool) → handle_of b ≡ cond b Active Revoked
+    go true = refl
+    go false = refl
+
+pub handle_tag : (h : Handle) → tag_of the_type h ≡ revoked h
+unfolding revoked
+handle_tag Active = refl
+handle_tag Revoked = refl
 
 -- A list's elements from i on, still to be written over the words from a on.
 unfoldable pub rest : ℕ → List ℕ → ℕ → List ℕ → List ℕ
@@ -79,57 +99,12 @@ pub rest_next :
 unfolding rest
 rest_next a vs i l h = let e : a + (i + 1) ≡ suc (a + i) = omega arith in rw (e, drop-cons vs i 0 h, add-one i)
 
-sets_past :
-    (vs l : List ℕ) (i j v : ℕ) → i + length vs ≤ j → set (sets l i vs) j v ≡ sets (set l j v) i vs
-sets_past [] l i j v h = refl
-sets_past (x ∷ vs) l i j v h =
-    sets_past vs (set l i x) (suc i) j v (omega arith)
-    ∙ ap (λ (m : List ℕ). sets m (suc i) vs) (set_comm l i j x v (λ e. omega arith))
-
-rest_past :
-    (a b : ℕ) (vs : List ℕ) (i : ℕ) (l : List ℕ) (v : ℕ) → i < length vs → a + length vs ≤ b →
-    set (rest a vs (i + 1) l) (b + i) v ≡ rest a vs (i + 1) (set l (b + i) v)
-unfolding rest
-rest_past a b vs i l v g h = sets_past (drop (i + 1) vs) l (a + (i + 1)) (b + i) v (omega (arith, length-drop (i + 1) vs))
-
-module _ (a b : ℕ) (vs ws : List ℕ) (i : ℕ) (l : List ℕ) where
-  abbrev one : List ℕ
-  one = set l (a + i) (get_or vs i 0)
-
-  abbrev two : List ℕ
-  two = set one (b + i) (get_or ws i 0)
-
-  -- Two lists side by side.
-  pub pair_next :
-      i < length vs → i < length ws → a + length vs ≤ b →
-      rest b ws i (rest a vs i l) ≡ rest b ws (i + 1) (rest a vs (i + 1) two)
-  pair_next f g r =
-      ap (rest b ws i) (rest_next a vs i l f) ∙ rest_next b ws i (rest a vs (i + 1) one) g
-      ∙ ap (rest b ws (i + 1)) (rest_past a b vs i one (get_or ws i 0) f r)
-
-  pair_past :
-      (c v : ℕ) (m : List ℕ) → i < length vs → i < length ws → a + length vs ≤ b → b + length ws ≤ c →
-      set (rest b ws (i + 1) (rest a vs (i + 1) m)) (c + i) v ≡ rest b ws (i + 1) (rest a vs (i + 1) (set m (c + i) v))
-  pair_past c v m f g r s =
-      rest_past b c ws i (rest a vs (i + 1) m) v g s ∙ ap (rest b ws (i + 1)) (rest_past a c vs i m v f (omega arith))
-
-  -- Four of them.
-  four_next :
-      (c d : ℕ) (xs ys : List ℕ) → i < length vs → i < length ws → i < length xs → i < length ys →
-      a + length vs ≤ b → b + length ws ≤ c → c + length xs ≤ d →
-      rest d ys i (rest c xs i (rest b ws i (rest a vs i l)))
-      ≡ rest d ys (i + 1) (rest c xs (i + 1) (rest b ws (i + 1) (rest a vs (i + 1)
-      (set (set two (c + i) (get_or xs i 0)) (d + i) (get_or ys i 0)))))
-  four_next c d xs ys f g h k r s t =
-      let three : List ℕ = set two (c + i) (get_or xs i 0) in
-      ap (λ (m : List ℕ). rest d ys i (rest c xs i m)) (pair_next f g r)
-      ∙ ap (rest d ys i)
-      (rest_next c xs i (rest b ws (i + 1) (rest a vs (i + 1) two)) h
-      ∙ ap (rest c xs (i + 1)) (pair_past c (get_or xs i 0) two f g r s))
-      ∙ rest_next d ys i (rest c xs (i + 1) (rest b ws (i + 1) (rest a vs (i + 1) three))) k
-      ∙ ap (rest d ys (i + 1))
-      (rest_past c d xs i (rest b ws (i + 1) (rest a vs (i + 1) three)) (get_or ys i 0) h t
-      ∙ ap (rest c xs (i + 1)) (pair_past d (get_or ys i 0) three f g r (omega arith)))
+-- A part of a buffer written over.
+pub part_written :
+    (a k : ℕ) (l part vs : List ℕ) → part ≡ vs → length vs ≡ k → a + k ≤ length l → put_mid a k l part ≡ sets l a vs
+part_written a k l part vs e n h =
+    let there = sets-eq vs l a (omega arith) in
+    rw e (sym (there ∙ rw (n, append_assoc, ← drop-drop k a l)))
 
 -- What a list's elements say, element by element.
 length_map : {A B : Type 0} (f : A → B) (l : List A) → length (map f l) ≡ length l
@@ -149,6 +124,13 @@ mapped {A = A} f l i d e h = go l i (rw e h)
     go (x ∷ l) zero h = refl
     go (x ∷ l) (suc i) h = go l i (omega arith)
 
+pub put_next :
+    {A : Type 0} (a i : ℕ) (l : List ℕ) (f : A → ℕ) (xs : List A) {x : A} {w : ℕ} → i < length xs → x ≡ get_or xs i x → w ≡ f x →
+    rest a (map f xs) i l ≡ rest a (map f xs) (i + 1) (set l (a + i) w)
+put_next a i l f xs {x} {w} h e v =
+    let said : w ≡ get_or (map f xs) i 0 = v ∙ ap f e ∙ mapped f xs i x refl h in
+    rw said (rest_next a (map f xs) i l (rw (length_mapped f xs refl) h))
+
 -- What owning a record tells of its endpoints.
 each_address :
     (eps : List Endpoint) (us : List Val) (i : ℕ) →
@@ -163,37 +145,6 @@ pub endpoints_known :
     (eps : List Endpoint) (us : List Val) → shadow (each the_row.Denot the_row.own_val eps us) → Below 256 (map address_word eps)
 endpoints_known eps us p = λ i h. each_address eps us i p
 
--- One endpoint more written.
-pub endpoints_next :
-    (eps : List Endpoint) (owners l : List ℕ) (i : ℕ) {h : ℕ} → length eps ≡ PLACES → length owners ≡ PLACES → i < PLACES →
-    h ≡ handle_word (get_or eps i blank) →
-    rest EP-RINGS (map ring_word eps) i (rest EP-INTERFACES owners i (rest EP-ADDRESSES (map address_word eps) i (rest EP-REVOKED (map handle_word eps) i l)))
-    ≡ rest EP-RINGS (map ring_word eps) (i + 1)
-    (rest EP-INTERFACES owners (i + 1)
-    (rest EP-ADDRESSES (map address_word eps) (i + 1)
-    (rest EP-REVOKED (map handle_word eps) (i + 1)
-    (set (set (set (set l (EP-REVOKED + i) h) (EP-ADDRESSES + i) (address_word (get_or eps i blank))) (EP-INTERFACES + i) (get_or owners i 0)) (EP-RINGS + i)
-    (ring_word (get_or eps i blank))))))
-endpoints_next eps owners l i e o g q =
-    let a : length (map handle_word eps) ≡ PLACES = length_mapped handle_word eps e in
-    let b : length (map address_word eps) ≡ PLACES = length_mapped address_word eps e in
-    let c : length (map ring_word eps) ≡ PLACES = length_mapped ring_word eps e in
-    rw (q, mapped handle_word eps i blank e g, mapped address_word eps i blank e g, mapped ring_word eps i blank e g)
-    (four_next EP-REVOKED EP-ADDRESSES (map handle_word eps) (map address_word eps) i l EP-INTERFACES EP-RINGS owners (map ring_word eps)
-    (omega arith) (omega arith) (omega arith) (omega arith) (omega arith) (omega arith) (omega arith))
-
-pub endpoints_all :
-    (eps : List Endpoint) (owners l : List ℕ) (i : ℕ) → length eps ≡ PLACES → length owners ≡ PLACES → PLACES ≤ i →
-    rest EP-RINGS (map ring_word eps) i (rest EP-INTERFACES owners i (rest EP-ADDRESSES (map address_word eps) i (rest EP-REVOKED (map handle_word eps) i l)))
-    ≡ l
-endpoints_all eps owners l i e o g =
-    let a : length (map handle_word eps) ≡ PLACES = length_mapped handle_word eps e in
-    let b : length (map address_word eps) ≡ PLACES = length_mapped address_word eps e in
-    let c : length (map ring_word eps) ≡ PLACES = length_mapped ring_word eps e in
-    rest_all _ _ _ _ (omega arith) ∙ rest_all _ _ _ _ (omega arith) ∙ rest_all _ _ _ _ (omega arith)
-    ∙ rest_all _ _ _ _ (omega arith)
-
--- One word more tested.
 -- What an image is.
 module _ (l : List ℕ) (e : is_image l ≡ true) where
   bounds :

@@ -11,7 +11,7 @@ use lib.ListN.{length}
 use Rattle.laws.proofs.Tests.{and_left, and_right}
 use Rattle.def.specs.Speed.{FULL, LOW, HIGH}
 use Rattle.hub.specs.declared.translator.Translator.{Translator}
-use Rattle.hub.specs.declared.think.ThinkTime.TheVariants.{Value, Refused}
+use Rattle.std.proofs.Common.{Option, Some, None}
 use Rattle.hub.specs.HubWord.{hub_info, hub_at}
 use Rattle.hub.specs.Chain.{chain_from, chain_ok}
 use Rattle.hub.specs.Route.{ports, route_of_ports, route_string}
@@ -25,7 +25,7 @@ unfolding hub_at hub_info
 depth_below hubs at = mod-lt _ (omega arith)
 
 -- An accepted parent has a depth of at most 4.
-pub chain_depth : (hubs : List ℕ) (at : ℕ) → chain_ok hubs true at ≡ true → (hub_at hubs at).depth_plus_one ≤ 5
+pub chain_depth : (hubs : List ℕ) (at : ℕ) → chain_ok hubs (Some at) ≡ true → (hub_at hubs at).depth_plus_one ≤ 5
 unfolding chain_ok
 chain_depth hubs at e =
     let d = (hub_at hubs at).depth_plus_one in
@@ -45,10 +45,10 @@ ports_below hubs at port d k h =
     omega (arith, rw (length_ports hubs at port d) at (route_below (ports hubs at port d)))
 
 -- The route string of an accepted chain fits its field.
-pub route_fits : (hubs : List ℕ) (has_parent : Bool) (at port : ℕ) → chain_ok hubs has_parent at ≡ true → route_string hubs has_parent at port < 2 ^ 20
+pub route_fits : (hubs : List ℕ) (parent : Option ℕ) (port : ℕ) → chain_ok hubs parent ≡ true → route_string hubs parent port < 2 ^ 20
 unfolding route_string
-route_fits hubs true at port e = ports_below hubs at port (hub_at hubs at).depth_plus_one 5 (chain_depth hubs at e)
-route_fits hubs false at port e = omega arith
+route_fits hubs (Some at) port e = ports_below hubs at port (hub_at hubs at).depth_plus_one 5 (chain_depth hubs at e)
+route_fits hubs None port e = omega arith
 
 -- A translator whose slot and port are bytes.
 abbrev pub Bytes : Translator → Type 0
@@ -70,20 +70,19 @@ high_bytes hubs at port (suc d) h =
     (high_bytes hubs (hub_at hubs at).parent (hub_at hubs at).port_id d (mod-lt _ (omega arith)))
 
 -- The translator of a device on a port that is a byte.
-pub translator_bytes : (speed : ℕ) (hubs : List ℕ) (has_parent : Bool) (at port : ℕ) → port < 256 → Bytes (translator_of speed hubs has_parent at port)
+pub translator_bytes : (speed : ℕ) (hubs : List ℕ) (parent : Option ℕ) (port : ℕ) → port < 256 → Bytes (translator_of speed hubs parent port)
 unfolding translator_of
-translator_bytes speed hubs has_parent at port h =
-    choice_bytes (eqb speed FULL || eqb speed LOW) _ _
-    (choice_bytes has_parent _ _ (high_bytes hubs at port (hub_at hubs at).depth_plus_one h) no_bytes)
-    no_bytes
+translator_bytes speed hubs None port h = no_bytes
+translator_bytes speed hubs (Some at) port h =
+    choice_bytes (eqb speed FULL || eqb speed LOW) _ _ (high_bytes hubs at port (hub_at hubs at).depth_plus_one h) no_bytes
 
-think_choice : (a b : Bool) (q v : ℕ) → (b ≡ true → q ≤ 4) → cond a (Value 0) (cond b (Value (q - 1)) Refused) ≡ Value v → v < 4
+think_choice : (a b : Bool) (q v : ℕ) → (b ≡ true → q ≤ 4) → cond a (Some 0) (cond b (Some (q - 1)) None) ≡ Some v → v < 4
 think_choice true b q v f e = let z : 0 ≡ v = cc in omega arith
 think_choice false true q v f e = let z : q - 1 ≡ v = cc in omega (arith, f refl)
-think_choice false false q v f e = let z : ◌≡◌ {A = ℕ} 0 1 = cc in absurd (omega arith)
+think_choice false false q v f e = absurd cc
 
 -- A think time that has a value fits its two bits.
-pub think_below : (ns v : ℕ) → think_time ns ≡ Value v → v < 4
+pub think_below : (ns v : ℕ) → think_time ns ≡ Some v → v < 4
 unfolding think_time
 think_below ns v e =
     think_choice (eqb ns 0) (leb 1 (ns / 666) && leb (ns / 666) 4) (ns / 666) v

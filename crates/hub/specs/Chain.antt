@@ -1,5 +1,5 @@
 -- The hubs from a device up to the root hub, from 01, "address" and "Hub word". A hub's depth plus one is 0 at a root hub (depth -1).
-use Rattle.std.specs.Prelude.{ℕ, zero, suc, Bool, true, cond, ◌&&◌, List, eqb, ltb, leb, length}
+use Rattle.std.specs.Prelude.{ℕ, zero, suc, Bool, ◌&&◌, Option, Some, None, List, eqb, ltb, leb, length}
 use Rattle.def.specs.Speed.{speed_known}
 use Rattle.hub.specs.HubWord.{hub_at}
 use Rattle.hub.specs.declared.hub_word.HubInfo.{HubInfo}
@@ -16,7 +16,8 @@ chain_from hubs at (suc d) =
     && ((hub_at hubs at).has_parent && chain_from hubs (hub_at hubs at).parent d)
 
 -- Whether the hub list and a device's parent in it are accepted; otherwise the answer is 5.
-unfoldable pub chain_ok : List ℕ → Bool → ℕ → Bool
-chain_ok hubs has_parent at =
+unfoldable pub chain_ok : List ℕ → Option ℕ → Bool
+chain_ok hubs None = leb (length hubs) 256
+chain_ok hubs (Some at) =
     leb (length hubs) 256
-    && cond has_parent (leb (hub_at hubs at).depth_plus_one 5 && chain_from hubs at (hub_at hubs at).depth_plus_one) true
+    && (leb (hub_at hubs at).depth_plus_one 5 && chain_from hubs at (hub_at hubs at).depth_plus_one)

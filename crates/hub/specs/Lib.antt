@@ -4,3 +4,4 @@ pub mod Route
 pub mod Sockets
 pub mod ThinkTime
 pub mod Translator
+pub mod Way

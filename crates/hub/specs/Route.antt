@@ -1,5 +1,5 @@
 -- The route string of 01, "address".
-use Rattle.std.specs.Prelude.{ℕ, zero, suc, ◌+◌, ◌*◌, ◌^◌, min, Bool, cond, List, [], ◌∷◌, length}
+use Rattle.std.specs.Prelude.{ℕ, zero, suc, ◌+◌, ◌*◌, ◌^◌, min, Option, Some, None, List, [], ◌∷◌, length}
 use Rattle.hub.specs.HubWord.{hub_at}
 
 -- The ports on the way up over d hubs: first `port`, on the hub at an index, then the port of that hub on its parent, and so on.
@@ -18,5 +18,6 @@ route_of_ports [] = 0
 route_of_ports (p ∷ ps) = clamp p * 16 ^ length ps + route_of_ports ps
 
 -- The Route String of a device on a port of its parent hub; 0 without a parent.
-unfoldable pub route_string : List ℕ → Bool → ℕ → ℕ → ℕ
-route_string hubs has_parent at port = cond has_parent (route_of_ports (ports hubs at port (hub_at hubs at).depth_plus_one)) 0
+unfoldable pub route_string : List ℕ → Option ℕ → ℕ → ℕ
+route_string hubs None port = 0
+route_string hubs (Some at) port = route_of_ports (ports hubs at port (hub_at hubs at).depth_plus_one)

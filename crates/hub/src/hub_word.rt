@@ -6,6 +6,7 @@ ghost use Rattle.hub.specs.HubWord.{hub_at};
 #[derive(Clone, Copy)]
 pub struct HubInfo {
     pub present: bool,
+    // Two words and not an Option: a walk reads the parent index whether or not the flag stands.
     pub has_parent: bool,
     pub parent: usize,
     pub slot_id: u8,
@@ -34,13 +35,11 @@ const PORT_ID: u64 = 0x0000_0001_0000_0000;
 const MULTI: u64 = 0x0000_0000_8000_0000;
 
 // The hub at an index of the list; past its end, one with every field 0.
+#[tactic(auto, unfolding(crate::specs::HubWord::hub_info, crate::specs::HubWord::hub_at))]
 pub fn hub_at(hubs: &[u64], at: usize) -> HubInfo
     ensures { result ≡ hub_at hubs.now at }
 {
-    let mut w = 0;
-    if at < hubs.len() {
-        w = hubs[at];
-    }
+    let w = hubs.get(at).copied().unwrap_or(0);
     HubInfo {
         present: w / PRESENT % 2 == 1,
         has_parent: w / HAS_PARENT % 2 == 1,

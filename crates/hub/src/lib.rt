@@ -6,8 +6,9 @@ mod hub_word;
 mod route;
 mod think;
 mod translator;
+mod way;
 
 pub use chain::chain_ok;
 pub use route::route_string;
-pub use think::{ThinkTime, think_time};
+pub use think::think_time;
 pub use translator::{Translator, transaction_translator};

@@ -5,26 +5,16 @@ ghost use Rattle.hub.specs.ThinkTime.{think_time};
 // Eight bit times at Full speed, in nanoseconds.
 const EIGHT_BIT_TIMES: u32 = 666;
 
-// The think time field of a hub's slot context.
-#[derive(Clone, Copy)]
-pub enum ThinkTime {
-    Value(u8),
-    Refused,
-}
-
-// The think time field for a hub's think time in nanoseconds.
-pub fn think_time(ns: u32) -> ThinkTime
+// The think time field of a hub's slot context, for a hub's think time in nanoseconds.
+#[tactic(auto, unfolding(crate::specs::ThinkTime::think_time))]
+pub fn think_time(ns: u32) -> Option<u8>
     ensures { result ≡ think_time ns }
 {
     if ns == 0 {
-        return ThinkTime::Value(0);
+        return Some(0);
     }
-    let q = ns / EIGHT_BIT_TIMES;
-    if q < 1 {
-        return ThinkTime::Refused;
+    match ns / EIGHT_BIT_TIMES {
+        q @ 1..=4 => Some((q - 1) as u8),
+        _ => None,
     }
-    if 4 < q {
-        return ThinkTime::Refused;
-    }
-    ThinkTime::Value((q - 1) as u8)
 }

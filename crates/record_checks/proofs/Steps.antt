@@ -1,40 +1,36 @@
 -- One turn of each loop over rings.
 use Prim.Native.Nat.{ℕ, suc, ◌+◌, ◌-◌, ◌≤◌, ◌<◌}
 use mathlib.Core.Path.{◌≡◌, refl, sym, ap, ◌∙◌}
-use mathlib.Core.Logic.{◌⊎◌, inl, inr}
-use mathlib.Core.Bool.{Bool, true, false, not, cond, ◌&&◌}
+use mathlib.Core.Bool.{true, false, cond}
 use mathlib.Core.List.{List, [], ◌∷◌, ◌++◌}
 use native.Mathlib.Numerals.{add-one}
 use native.Mathlib.Omega.{arith}
-use borrow.Author.Tests.{eqb-true, eqb-false, le-leb, lt-leb, leb-true, not-true, not-false}
-use lib.Dec.{eqb, leb}
-use lib.ListN.{length, get_or, set, take, drop, replicate, length-append, length-set, length-take, length-drop, get_or-append, drop_of_length-le}
-use lib.Seq.{take-suc, take-suc-set, length-take-le, take-append_seam, take-length, get_or-append_seam, get_or-append-add, drop-cons}
-use Rattle.laws.proofs.Cases.{Decided, decided, false_if}
-use Rattle.laws.proofs.Tests.{and_left, and_right, and-true, not_both}
-use Rattle.laws.specs.Distinct.{elem, distinct}
+use borrow.Author.Tests.{le-leb, lt-leb}
+use lib.Dec.{eqb}
+use lib.ListN.{length, get_or, set, take, drop, replicate, length-append, length-set, length-take, length-drop, drop_of_length-le}
+use lib.Seq.{take-suc, take-suc-set, length-take-le, take-append_seam, take-length, get_or-append_seam, drop-cons}
+use Rattle.laws.specs.Distinct.{elem}
 use Rattle.answer.specs.declared.Answer.{Answer}
 use Rattle.answer.specs.declared.Answer.TheVariants as answer
-use Rattle.answer.specs.declared.Check.{Check}
-use Rattle.answer.specs.declared.Check.TheVariants as check
-use Rattle.descriptor_list.specs.declared.Found.{Found}
-use Rattle.descriptor_list.specs.declared.Found.TheVariants.{Endpoints, NotFound}
+use Rattle.answer.specs.Check.{Check, Pass, Refuse}
+use Rattle.std.proofs.Common.{Option, Some, None, Result, Ok, Err}
+use Rattle.descriptor_list.specs.declared.EndpointWords.{EndpointWords}
 use Rattle.descriptor_list.specs.Lookup.{find_endpoints}
 use Rattle.descriptor_list.proofs.Laws.{found_inside}
-use Rattle.record_ring.specs.Rings.{rings_ok, not_among, entered}
-use Rattle.record_ring.proofs.Entered.{entered_longer, not_among_short}
+use Rattle.record_ring.specs.Rings.{entered}
+use Rattle.record_ring.proofs.Entered.{entered_longer}
 use Rattle.record_endpoint.specs.declared.entry.Endpoint.{Endpoint}
 use Rattle.record_endpoint.specs.declared.endpoint_map.EndpointMap.{EndpointMap}
 use Rattle.record_endpoint.specs.Endpoint.{blank, rings_of, padded}
 use Rattle.record_endpoint.proofs.Laws.{padded_next}
 use Rattle.record_endpoint.proofs.Clean.{padded_length}
-use Rattle.record_settings.specs.Held.{is_found, found_words, setting_words}
+use Rattle.record_settings.specs.Held.{found_words, setting_words}
 use Rattle.record_settings.specs.Match.{addresses_free}
-use Rattle.record_checks.specs.declared.draw.Checked.{Checked}
-use Rattle.record_checks.specs.declared.draw.Checked.TheVariants as checked
 use Rattle.record_checks.specs.Draw.{draw_check, check_of, CheckedAs}
-use Rattle.record_checks.specs.Rings.{each_once, sound_rings}
-use Rattle.record_checks.proofs.Together.{SoundRings, once_length, rings_told, rings_sound}
+use Rattle.record_checks.specs.declared.quarantine.Quarantine.{Quarantine}
+use Rattle.record_checks.specs.Rings.{quarantined_by, QuarantinedAs}
+use Rattle.record_settings.proofs.Laws.{eqb_turned}
+use Rattle.std.specs.List.{list_any}
 
 pub rings_length : (es : List Endpoint) → length (rings_of es) ≡ length es
 unfolding rings_of
@@ -52,214 +48,146 @@ rings_count eps n h = rings_length (take n eps) ∙ length-take-le n eps h
 
 -- Control's ring and those of i endpoints at the front of an array.
 pub record Gathered (eps : List Endpoint) (control : ℕ) (rings : List ℕ) (i : ℕ) : Type 0 where
-  pub full : length eps ≡ 30
   pub room : length rings ≡ 61
   pub written : take (i + 1) rings ≡ control ∷ rings_of (take i eps)
 
 -- one more
-pub gather_next : {eps : List Endpoint} {control : ℕ} {rings : List ℕ} {i : ℕ} → Gathered eps control rings i → i < 30 →
+pub gather_next : {eps : List Endpoint} {control : ℕ} {rings : List ℕ} {i : ℕ} → Gathered eps control rings i → length eps ≤ 30 → i < length eps →
     Gathered eps control (set rings (i + 1) (get_or eps i blank).ring) (i + 1)
 unfolding rings_of
-gather_next {eps} {control} {rings} {i} g h =
-    let f : length eps ≡ 30 = g.full in
+gather_next {eps} {control} {rings} {i} g m h =
     let r : length rings ≡ 61 = g.room in
     let x : ℕ = (get_or eps i blank).ring in
     record {
-      full = f;
       room = length-set rings (i + 1) x ∙ r;
       written =
-          rw (add-one (i + 1), take-suc-set rings (i + 1) x (omega arith), g.written, add-one i, take-suc eps i blank (omega arith), rings_append);
+          rw (add-one (i + 1), take-suc-set rings (i + 1) x (omega arith), g.written, add-one i, take-suc eps i blank h, rings_append);
     }
 
 -- all
-pub gather_all : {eps : List Endpoint} {control : ℕ} {rings : List ℕ} {i : ℕ} (n : ℕ) → Gathered eps control rings i → i ≤ n → n ≤ i →
-    (length rings ≡ 61) × (take (n + 1) rings ≡ control ∷ rings_of (take n eps))
-gather_all {eps} {control} {rings} {i} n g p q = let e : i ≡ n = omega arith in (g.room, rw (← e) g.written)
-
-abbrev pub fit : List ℕ → Bool
-fit l = rings_ok l && distinct l
-
--- Sound rings, as the code tests them.
-module _ (usable : Bool) (live quarantined : List ℕ) where
-  -- while the record is usable none is quarantined
-  pub sound_open : (m : ℕ) → length quarantined ≡ m → usable ≡ true → not (eqb m 0) ≡ true → false ≡ sound_rings usable live quarantined
-  sound_open m c u e = sym (false_if (sound_rings usable live quarantined) (λ s. eqb-false m 0 (not-true (eqb m 0) e) (sym c ∙ (rings_told usable live quarantined s).free u)))
-
-  pub sound_unfit : (fit live ≡ false) ⊎ (fit quarantined ≡ false) → false ≡ sound_rings usable live quarantined
-  sound_unfit w = sym (false_if (sound_rings usable live quarantined) (λ s. go w (rings_told usable live quarantined s)))
-    where
-      go : (fit live ≡ false) ⊎ (fit quarantined ≡ false) → SoundRings usable live quarantined → ⊥
-      go (inl e) t = not_both (fit live) (and-true (rings_ok live) (distinct live) t.live_ok t.live_distinct) e
-      go (inr e) t = not_both (fit quarantined) (and-true (rings_ok quarantined) (distinct quarantined) t.ok t.apart) e
-
-  -- and else it is the room that counts
-  module _ (m : ℕ) (counted : length quarantined ≡ m) (shut : ((usable ≡ true) × (not (eqb m 0) ≡ false)) ⊎ (usable ≡ false))
-      (l : fit live ≡ true) (q : fit quarantined ≡ true) where
-    none : ((usable ≡ true) × (not (eqb m 0) ≡ false)) ⊎ (usable ≡ false) → usable ≡ true → length quarantined ≡ 0
-    none (inl p) u = counted ∙ eqb-true m 0 (not-false (eqb m 0) p.1)
-    none (inr p) u = not_both usable u p
-
-    pub sound_room : (n k : ℕ) → length live ≡ n → k ≡ length (not_among live quarantined) → leb (n + k) 61 ≡ sound_rings usable live quarantined
-    sound_room n k e f = go (decided (leb (n + k) 61))
-      where
-        all : length (each_once live quarantined) ≡ n + k
-        all = once_length live quarantined ∙ rw (e, f)
-
-        go : Decided (leb (n + k) 61) → leb (n + k) 61 ≡ sound_rings usable live quarantined
-        go (inl t) =
-            t ∙ sym (rings_sound usable live quarantined
-            (record {
-              few = rw all (leb-true (n + k) 61 t);
-              live_ok = and_left (rings_ok live) (distinct live) l;
-              live_distinct = and_right (rings_ok live) (distinct live) l;
-              ok = and_left (rings_ok quarantined) (distinct quarantined) q;
-              apart = and_right (rings_ok quarantined) (distinct quarantined) q;
-              free = none shut;
-            }))
-        go (inr t) =
-            t ∙ sym (false_if (sound_rings usable live quarantined) (λ s.
-            not_both (leb (n + k) 61) (rw (← all) (le-leb (length (each_once live quarantined)) 61 (rings_told usable live quarantined s).few)) t))
-
--- no more than there are
-pub count_small : (live q : List ℕ) (m k : ℕ) → k ≡ length (not_among live (take m q)) → k ≤ m
-count_small live q m k e = omega (arith, not_among_short live (take m q), length-take m q)
-
--- The i-th of rings, one, and others.
-pub ring_left : (q : List ℕ) (control : ℕ) (live : List ℕ) (i : ℕ) → i < length q → get_or q i 0 ≡ get_or (q ++ (control ∷ live)) i 0
-ring_left q control live i h = sym (get_or-append q (control ∷ live) 0 i h)
-
-pub ring_one : (q : List ℕ) (control : ℕ) (live : List ℕ) (i : ℕ) → i ≡ length q → control ≡ get_or (q ++ (control ∷ live)) i 0
-ring_one q control live i e = rw e (sym (get_or-append_seam q control live 0))
-
-pub ring_right : (q : List ℕ) (control : ℕ) (live : List ℕ) (i : ℕ) → length q < i →
-    get_or live (i - length q - 1) 0 ≡ get_or (q ++ (control ∷ live)) i 0
-ring_right q control live i h =
-    let k = i - length q - 1 in
-    let e : i ≡ length q + suc k = omega arith in
-    sym (ap (λ j. get_or (q ++ (control ∷ live)) j 0) e ∙ get_or-append-add q (control ∷ live) (suc k) 0)
-
--- how many they are
-module _ (q live : List ℕ) (control n i : ℕ) (e : n ≡ length q + 1 + length live) where
-  pub ring_within : i < n → i < length (q ++ (control ∷ live))
-  ring_within h = simp length-append (omega arith)
-
-  pub ring_past : n ≤ i → length (q ++ (control ∷ live)) ≤ i
-  ring_past h = simp length-append (omega arith)
+pub gather_all : {eps : List Endpoint} {control : ℕ} {rings : List ℕ} {i : ℕ} → Gathered eps control rings i → i ≤ length eps → length eps ≤ i →
+    (length rings ≡ 61) × (take (length eps + 1) rings ≡ control ∷ rings_of eps)
+gather_all {eps} {control} {rings} {i} g p q =
+    let e : i ≡ length eps = omega arith in
+    let f : take i eps ≡ eps = rw e (take-length eps) in
+    (g.room, rw (← e) (rw f at g.written))
 
 -- one more ring after those that an array holds
-padded_one : (l : List ℕ) (r : ℕ) → length l < 61 → set (padded 61 0 l) (length l) r ≡ padded 61 0 (l ++ (r ∷ []))
-padded_one l r h =
+padded_put : (l : List ℕ) (n r : ℕ) → length l ≡ n → n < 61 → set (padded 61 0 l) n r ≡ padded 61 0 (l ++ (r ∷ []))
+padded_put l n r e h =
     let m = l ++ (r ∷ []) in
-    let n : length m ≡ length l + 1 = length-append l (r ∷ []) in
+    let s : length m ≡ length l + 1 = length-append l (r ∷ []) in
     let p : set (padded 61 0 (take (length l) m)) (length l) (get_or m (length l) 0) ≡ padded 61 0 (take (length l + 1) m) =
     padded_next 61 0 m (length l) (omega arith) (omega arith) in
-    rw (take-append_seam l (r ∷ []), get_or-append_seam l r [] 0, ← n, take-length m) at p
+    rw (← e) (rw (take-append_seam l (r ∷ []), get_or-append_seam l r [] 0, ← s, take-length m) at p)
 
--- The first i of some rings have entered a quarantine that was empty.
-pub record Entering (all rings : List ℕ) (count i : ℕ) : Type 0 where
-  pub held : List ℕ
-  pub filled : rings ≡ padded 61 0 held
-  pub counted : count ≡ length held
-  pub few : count ≤ 61
-  pub rest : entered [] all ≡ entered held (drop i all)
+-- Rings looked up as the library does.
+pub any_elem : (x : ℕ) (l : List ℕ) → list_any (λ y. eqb y x) l ≡ elem x l
+unfolding elem
+any_elem x [] = refl
+any_elem x (y ∷ l) = rw (eqb_turned y x, any_elem x l)
 
-pub enter_start : (all : List ℕ) → Entering all (replicate 61 0) 0 0
-unfolding padded
-enter_start all = record { held = []; filled = refl; counted = refl; few = omega arith; rest = refl }
+-- A quarantine, and a ring after its last.
+module _ (q : Quarantine) where
+  quarantine_long : length (quarantined_by q) ≡ q.count
+  quarantine_long =
+      let short : length (quarantined_by q) ≤ 61 = omega (arith, length-take q.count q.rings, q.fits) in
+      length-take-le q.count q.rings (omega (arith, ap length q.zeros, padded_length 61 0 (quarantined_by q) short, q.fits))
 
-module _ {all rings : List ℕ} {count i : ℕ} (e : Entering all rings count i) where
-  pub enter_length : length rings ≡ 61
-  enter_length = rw e.filled (padded_length 61 0 e.held (omega (arith, e.counted, e.few)))
+  module _ (ring : ℕ) (room : q.count < 61) where
+    pushed : set q.rings q.count ring ≡ padded 61 0 (quarantined_by q ++ (ring ∷ []))
+    pushed = ap (λ l. set l q.count ring) q.zeros ∙ padded_put (quarantined_by q) q.count ring quarantine_long room
 
-  enter_held : take count rings ≡ e.held
-  unfolding padded
-  enter_held = rw (e.filled, e.counted) (take-append_seam e.held (replicate (61 - length e.held) 0))
+    pub push_list : take (q.count + 1) (set q.rings q.count ring) ≡ quarantined_by q ++ (ring ∷ [])
+    unfolding padded
+    push_list =
+        let all = quarantined_by q ++ (ring ∷ []) in
+        let n : length all ≡ q.count + 1 = omega (arith, length-append (quarantined_by q) (ring ∷ []), quarantine_long) in
+        rw (pushed, ← n) (take-append_seam all (replicate (61 - length all) 0))
 
-  module _ (ring : ℕ) (h : i < length all) (r : ring ≡ get_or all i 0) where
-    enter_turn : entered [] all ≡ entered (cond (elem ring e.held) e.held (e.held ++ (ring ∷ []))) (drop (i + 1) all)
-    unfolding entered
-    enter_turn = e.rest ∙ rw (add-one i, drop-cons all i 0 h, r)
+    pub push_zeros : set q.rings q.count ring ≡ padded 61 0 (take (q.count + 1) (set q.rings q.count ring))
+    push_zeros = pushed ∙ ap (padded 61 0) (sym push_list)
 
-    -- one that is there already
-    pub enter_old : elem ring (take count rings) ≡ true → Entering all rings count (i + 1)
-    enter_old t =
-        let k : elem ring e.held ≡ true = rw (← enter_held) t in
-        record { held = e.held; filled = e.filled; counted = e.counted; few = e.few; rest = enter_turn ∙ rw k }
-
-    -- one that is not
-    module _ (t : elem ring (take count rings) ≡ false) (room : length (entered [] all) ≤ 61) where
-      enter_more : entered [] all ≡ entered (e.held ++ (ring ∷ [])) (drop (i + 1) all)
-      enter_more = let k : elem ring e.held ≡ false = rw (← enter_held) t in enter_turn ∙ rw k
-
-      pub enter_room : count < 61
-      enter_room =
-          let l : length (e.held ++ (ring ∷ [])) ≤ length (entered [] all) = rw enter_more (entered_longer (e.held ++ (ring ∷ [])) (drop (i + 1) all)) in
-          omega (arith, l, e.counted, length-append e.held (ring ∷ []))
-
-      pub enter_new : Entering all (set rings count ring) (count + 1) (i + 1)
-      enter_new =
-          let c : count ≡ length e.held = e.counted in
-          record {
-            held = e.held ++ (ring ∷ []);
-            filled = rw (e.filled, c) (padded_one e.held ring (omega (arith, enter_room)));
-            counted = omega (arith, c, length-append e.held (ring ∷ []));
-            few = omega (arith, enter_room);
-            rest = enter_more;
-          }
-
-  pub enter_end : length all ≤ i → (rings ≡ padded 61 0 (entered [] all)) × (count ≡ length (entered [] all))
+-- The i-th of some rings entering it.
+module _ (all : List ℕ) (i : ℕ) (q : Quarantine) (h : i < length all) where
+  turn :
+      entered (quarantined_by q) (drop i all)
+      ≡ entered (cond (elem (get_or all i 0) (quarantined_by q)) (quarantined_by q) (quarantined_by q ++ (get_or all i 0 ∷ []))) (drop (i + 1) all)
   unfolding entered
-  enter_end h =
-      let k : entered [] all ≡ e.held = e.rest ∙ rw (drop_of_length-le all h) in
-      (rw k e.filled, rw k e.counted)
+  turn = rw (add-one i, drop-cons all i 0 h)
 
--- The first i of some rings at the front of an array, zeros after them.
-pub record Filled (rings out : List ℕ) (i : ℕ) : Type 0 where
-  pub full : length rings ≡ 30
-  pub room : length out ≡ 61
-  pub written : out ≡ padded 61 0 (take i rings)
+  -- one that is there already
+  pub enter_old :
+      elem (get_or all i 0) (quarantined_by q) ≡ true → entered (quarantined_by q) (drop i all) ≡ entered (quarantined_by q) (drop (i + 1) all)
+  enter_old t = turn ∙ rw t
 
--- one more
-pub fill_next : {rings out : List ℕ} {i : ℕ} → Filled rings out i → i < 30 → Filled rings (set out i (get_or rings i 0)) (i + 1)
-fill_next {rings} {out} {i} f h =
-    let l : length rings ≡ 30 = f.full in
-    record {
-      full = l;
-      room = length-set out i (get_or rings i 0) ∙ f.room;
-      written = rw f.written (padded_next 61 0 rings i (omega arith) (omega arith));
-    }
+  -- one that is not
+  module _ (t : elem (get_or all i 0) (quarantined_by q) ≡ false) where
+    pub enter_new :
+        entered (quarantined_by q) (drop i all) ≡ entered (quarantined_by q ++ (get_or all i 0 ∷ [])) (drop (i + 1) all)
+    enter_new = turn ∙ rw t
+
+    pub enter_room : length (entered (quarantined_by q) (drop i all)) ≤ 61 → q.count < 61
+    enter_room room =
+        let more = quarantined_by q ++ (get_or all i 0 ∷ []) in
+        let l : length more ≤ length (entered (quarantined_by q) (drop i all)) = rw enter_new (entered_longer more (drop (i + 1) all)) in
+        omega (arith, l, quarantine_long q, length-append (quarantined_by q) (get_or all i 0 ∷ []))
+
+pub enter_end : (all : List ℕ) (i : ℕ) (held : List ℕ) → length all ≤ i → entered held (drop i all) ≡ held
+unfolding entered
+enter_end all i held h = rw (drop_of_length-le all h)
+
+-- Some rings enter after others.
+entered_append : (held rs ss : List ℕ) → entered held (rs ++ ss) ≡ entered (entered held rs) ss
+unfolding entered
+entered_append held [] ss = refl
+entered_append held (r ∷ rs) ss = entered_append (cond (elem r held) held (held ++ (r ∷ []))) rs ss
+
+-- The quarantined rings, control's and the live ones, one after another.
+module _ (q live : List ℕ) (control : ℕ) where
+  pub enter_all : entered [] (q ++ (control ∷ live)) ≡ entered (entered (entered [] q) (control ∷ [])) live
+  enter_all = entered_append [] q (control ∷ live) ∙ entered_append (entered [] q) (control ∷ []) live
+
+  module _ (room : length (entered [] (q ++ (control ∷ live))) ≤ 61) where
+    pub enter_second : length (entered (entered [] q) (control ∷ [])) ≤ 61
+    enter_second = omega (arith, ap length enter_all, entered_longer (entered (entered [] q) (control ∷ [])) live, room)
+
+    pub enter_first : length (entered [] q) ≤ 61
+    enter_first = omega (arith, entered_longer (entered [] q) (control ∷ []), enter_second)
+
+pub quarantined_as : (q : Quarantine) (rings : List ℕ) → quarantined_by q ≡ rings → QuarantinedAs q rings
+quarantined_as q rings e =
+    record { rings_are = q.zeros ∙ ap (padded 61 0) e; counted = sym (quarantine_long q) ∙ ap length e }
 
 -- A part of a list is as long as it is said to be.
 pub part_count : (l : List ℕ) (start count : ℕ) → start + count ≤ length l → length (take count (drop start l)) ≡ count
 part_count l start count h = length-take-le count (drop start l) (rw (length-drop start l) (omega arith))
 
 -- `draw_check`
-refused_as : (a : Answer) (k : Check) (f : Found) → check.Refuse a ≡ k → CheckedAs (checked.Refuse a) k f
+refused_as : (a : Answer) (k : Check) (f : Option EndpointWords) → Refuse a ≡ k → CheckedAs (Err a) k f
 unfolding check_of
-refused_as a k f e =
-    record { check = e; words = λ start count p. let z : ◌≡◌ {A = ℕ} 0 1 = cc in absurd (omega arith) }
+refused_as a k f e = record { check = e; words = λ words p. cc }
 
 module _ (list : List ℕ) (i a : ℕ) (c : EndpointMap) (rings : ℕ) where
-  abbrev Drawn : Checked → Type 0
-  Drawn r = CheckedAs r (draw_check list i a c rings check.Pass) (find_endpoints list i a)
+  abbrev Drawn : Result EndpointWords Answer → Type 0
+  Drawn r = CheckedAs r (draw_check list i a c rings Pass) (find_endpoints list i a)
 
-  pub not_found : find_endpoints list i a ≡ NotFound → Drawn (checked.Refuse answer.NotFound)
-  unfolding is_found
+  pub not_found : find_endpoints list i a ≡ None → Drawn (Err answer.NotFound)
   not_found e = refused_as _ _ _ (sym (rw e))
 
-  module _ (start count : ℕ) (e : find_endpoints list i a ≡ Endpoints start count) where
-    pub not_free : addresses_free (take count (drop start list)) i c ≡ false → Drawn (checked.Refuse answer.InvalidParameter)
-    unfolding setting_words found_words is_found
+  module _ (f : EndpointWords) (e : find_endpoints list i a ≡ Some f) where
+    pub not_free : addresses_free (take f.count (drop f.start list)) i c ≡ false → Drawn (Err answer.InvalidParameter)
+    unfolding setting_words found_words
     not_free n = refused_as _ _ _ (sym (rw (e, n)))
 
-    module _ (free : addresses_free (take count (drop start list)) i c ≡ true) where
-      counted : length (take count (drop start list)) ≡ count
-      counted = part_count list start count (found_inside list i a start count e)
+    module _ (free : addresses_free (take f.count (drop f.start list)) i c ≡ true) where
+      counted : length (take f.count (drop f.start list)) ≡ f.count
+      counted = part_count list f.start f.count (found_inside list i a f e)
 
-      pub too_few : rings < count → Drawn (checked.Refuse answer.TooFewRings)
-      unfolding setting_words found_words is_found
-      too_few n = refused_as _ _ _ (sym (rw (e, free, counted, lt-leb count rings n)))
+      pub too_few : rings < f.count → Drawn (Err answer.TooFewRings)
+      unfolding setting_words found_words
+      too_few n = refused_as _ _ _ (sym (rw (e, free, counted, lt-leb f.count rings n)))
 
-      pub passes : count ≤ rings → Drawn (checked.Words start count)
-      unfolding setting_words found_words is_found check_of
-      passes n = record { check = sym (rw (e, free, counted, le-leb count rings n)); words = λ s t p. cc }
+      pub passes : f.count ≤ rings → Drawn (Ok f)
+      unfolding setting_words found_words check_of
+      passes n = record { check = sym (rw (e, free, counted, le-leb f.count rings n)); words = λ words p. cc }

@@ -1,6 +1,6 @@
 -- What sound rings are: the live ones and the quarantined ones fit, and all together, each once, have room.
 use Prim.Native.Nat.{ℕ, ◌+◌, ◌≤◌}
-use mathlib.Core.Path.{◌≡◌, refl}
+use mathlib.Core.Path.{◌≡◌, refl, sym}
 use mathlib.Core.Logic.{◌⊎◌, inl, inr, ⊎_elim}
 use mathlib.Core.Bool.{Bool, true, false, not, ◌&&◌, ◌||◌}
 use mathlib.Core.List.{List, [], ◌∷◌, ◌++◌}
@@ -99,6 +99,11 @@ once_fits live quarantined l q d e f g =
     distinct_fits (each_once l q) (each_once live quarantined) (once_distinct l q d e)
     (λ x h. ⊎_elim (f x) (g x) (once_from l q x h))
 
+pub both_ways : (a b : Bool) → (a ≡ true → b ≡ true) → (b ≡ true → a ≡ true) → a ≡ b
+both_ways true b f g = sym (f refl)
+both_ways false true f g = g refl
+both_ways false false f g = refl
+
 module _ (usable : Bool) (live quarantined : List ℕ) where
   none_if : (u : Bool) (n : ℕ) → (not u || eqb n 0) ≡ true → u ≡ true → n ≡ 0
   none_if true n e h = eqb-true n 0 e
@@ -138,3 +143,35 @@ module _ (usable : Bool) (live quarantined : List ℕ) where
       (and-true few (rings_ok all && distinct all) (le-leb (length all) 61 s.few)
       (and-true (rings_ok all) (distinct all) (once_ok live quarantined s.live_ok s.ok) (once_distinct live quarantined s.live_distinct s.apart)))
       (and-true (distinct quarantined) free s.apart (if_none usable (length quarantined) s.free))
+
+  -- As the code tests them: nothing is quarantined while the record is usable, each fits, and there is room.
+  pub sound_tests :
+      sound_rings usable live quarantined
+      ≡ ((((not usable || eqb (length quarantined) 0) && (rings_ok live && distinct live)) && (rings_ok quarantined && distinct quarantined))
+      && leb (length live + length (not_among live quarantined)) 61)
+  sound_tests =
+      let free = not usable || eqb (length quarantined) 0 in
+      let first = rings_ok live && distinct live in
+      let second = rings_ok quarantined && distinct quarantined in
+      let room = leb (length live + length (not_among live quarantined)) 61 in
+      both_ways (sound_rings usable live quarantined) (((free && first) && second) && room)
+      (λ e. let s = rings_told e in
+      and-true ((free && first) && second) room
+      (and-true (free && first) second
+      (and-true free first (if_none usable (length quarantined) s.free) (and-true (rings_ok live) (distinct live) s.live_ok s.live_distinct))
+      (and-true (rings_ok quarantined) (distinct quarantined) s.ok s.apart))
+      (le-leb (length live + length (not_among live quarantined)) 61 (rw (once_length live quarantined) at s.few)))
+      (λ e.
+      let tests : ((free && first) && second) ≡ true = and_left ((free && first) && second) room e in
+      let one : (free && first) ≡ true = and_left (free && first) second tests in
+      let fits : first ≡ true = and_right free first one in
+      let kept : second ≡ true = and_right (free && first) second tests in
+      rings_sound
+      (record {
+        few = rw (once_length live quarantined) (leb-true (length live + length (not_among live quarantined)) 61 (and_right ((free && first) && second) room e));
+        live_ok = and_left (rings_ok live) (distinct live) fits;
+        live_distinct = and_right (rings_ok live) (distinct live) fits;
+        ok = and_left (rings_ok quarantined) (distinct quarantined) kept;
+        apart = and_right (rings_ok quarantined) (distinct quarantined) kept;
+        free = none_if usable (length quarantined) (and_left free first one);
+      }))

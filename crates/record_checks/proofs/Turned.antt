@@ -1,12 +1,11 @@
 -- Control's ring before the others or behind them.
-use Prim.Native.Nat.{ℕ, ◌≤◌}
+use Prim.Native.Nat.{ℕ}
 use mathlib.Core.Path.{◌≡◌, refl, sym, ap, ◌∙◌}
 use mathlib.Core.Logic.{⊎_elim}
 use mathlib.Core.Bool.{Bool, true, false, ◌&&◌, ◌||◌}
 use mathlib.Core.List.{List, [], ◌∷◌, ◌++◌}
 use native.Mathlib.Omega.{arith}
 use lib.Dec.{eqb}
-use lib.ListN.{length, take, length-take}
 use Rattle.laws.specs.Distinct.{elem, distinct}
 use Rattle.laws.proofs.Tests.{not_both}
 use Rattle.laws.proofs.Cases.{false_if, or_right}
@@ -14,7 +13,7 @@ use Rattle.laws.proofs.Distinct.{elem_none, elem_here, elem_cases, elem_append, 
 use Rattle.record_ring.specs.Store.{given_ok, among}
 use Rattle.record_checks.specs.Rings.{sound_rings}
 use Rattle.record_checks.specs.Store.{sound_store}
-use Rattle.record_checks.proofs.Together.{SoundRings, rings_told, rings_sound, once_live, once_kept, once_fits, rings_ok_elem, rings_ok_each, distinct_left}
+use Rattle.record_checks.proofs.Together.{SoundRings, both_ways, rings_told, rings_sound, once_live, once_kept, once_fits, rings_ok_elem, rings_ok_each, distinct_left}
 
 module _ (control : ℕ) (l : List ℕ) where
   turned_elem : (x : ℕ) → elem x (control ∷ l) ≡ elem x (l ++ (control ∷ []))
@@ -62,11 +61,6 @@ module _ (usable : Bool) (a b quarantined : List ℕ) (same : (x : ℕ) → elem
         free = s.free;
       }
 
-both_ways : (a b : Bool) → (a ≡ true → b ≡ true) → (b ≡ true → a ≡ true) → a ≡ b
-both_ways true b f g = sym (f refl)
-both_ways false true f g = g refl
-both_ways false false f g = refl
-
 pub sound_turned :
     (usable : Bool) (control : ℕ) (l quarantined : List ℕ) →
     sound_rings usable (control ∷ l) quarantined ≡ sound_rings usable (l ++ (control ∷ [])) quarantined
@@ -111,7 +105,3 @@ module _ (usable : Bool) (control : ℕ) (l rings quarantined given : List ℕ) 
       s ≡ (sound_rings usable (l ++ (control ∷ [])) quarantined && sound_store given (l ++ (control ∷ [])) quarantined)
   all_sound s f g =
       rw (sym turned ∙ f) (g ∙ ap (λ (m : List ℕ). sound_store given m quarantined) front ∙ store_turned control l quarantined given)
-
--- The front of an array of 61 rings.
-pub front_few : (n : ℕ) (rings : List ℕ) → length rings ≡ 61 → length (take n rings) ≤ 61
-front_few n rings e = omega (arith, length-take n rings, e)

@@ -1,17 +1,13 @@
 -- What a claim asks of a setting and of the number of free rings, and a release of a setting.
-use Rattle.std.specs.Prelude.{ℕ, ◌≡◌, Bool, true, false, ◌&&◌, ◌||◌, List, [], ◌∷◌, eqb, leb, length}
+use Rattle.std.specs.Prelude.{ℕ, ◌≡◌, Bool, true, false, ◌&&◌, ◌||◌, List, [], ◌∷◌, Option, Some, Result, Ok, Err, eqb, leb, length}
 use Rattle.answer.specs.declared.Answer.TheVariants as answer
-use Rattle.answer.specs.declared.Check.{Check}
-use Rattle.answer.specs.declared.Check.TheVariants as check
-use Rattle.answer.specs.Check.{unless}
-use Rattle.descriptor_list.specs.declared.Found.{Found}
-use Rattle.descriptor_list.specs.declared.Found.TheVariants.{Endpoints}
+use Rattle.answer.specs.declared.Answer.{Answer}
+use Rattle.answer.specs.Check.{Check, Pass, Refuse, unless}
+use Rattle.descriptor_list.specs.declared.EndpointWords.{EndpointWords}
 use Rattle.descriptor_list.specs.Lookup.{find_endpoints}
 use Rattle.record_endpoint.specs.declared.endpoint_map.EndpointMap.{EndpointMap}
 use Rattle.record_settings.specs.Held.{Held, is_held, is_found, setting_words}
 use Rattle.record_settings.specs.Match.{addresses_free}
-use Rattle.record_checks.specs.declared.draw.Checked.{Checked}
-use Rattle.record_checks.specs.declared.draw.Checked.TheVariants as checked
 
 -- 8, 9, 21, and then what follows: an alternate that lookup finds in a list, beside the endpoints of a record and so many free rings.
 abbrev pub draw_check : List ℕ → ℕ → ℕ → EndpointMap → ℕ → Check → Check
@@ -24,7 +20,7 @@ draw_check list interface alternate c free next =
 -- 8, for an interface that is not held and has no alternate 0.
 abbrev pub held_check : List ℕ → List Held → ℕ → Check
 held_check list hs interface =
-    unless (is_held interface hs || is_found (find_endpoints list interface 0)) answer.NotFound check.Pass
+    unless (is_held interface hs || is_found (find_endpoints list interface 0)) answer.NotFound Pass
 
 -- Rings that are the same in number and order.
 unfoldable pub same_rings : List ℕ → List ℕ → Bool
@@ -34,10 +30,10 @@ same_rings (r ∷ rs) [] = false
 same_rings (r ∷ rs) (s ∷ ss) = eqb r s && same_rings rs ss
 
 -- What the code's check of a claim hands on: where it passes, where lookup found the words.
-unfoldable pub check_of : Checked → Check
-check_of (checked.Words start count) = check.Pass
-check_of (checked.Refuse a) = check.Refuse a
+unfoldable pub check_of : Result EndpointWords Answer → Check
+check_of (Ok words) = Pass
+check_of (Err a) = Refuse a
 
-pub record CheckedAs (r : Checked) (k : Check) (found : Found) : Type 0 where
+pub record CheckedAs (r : Result EndpointWords Answer) (k : Check) (found : Option EndpointWords) : Type 0 where
   pub check : check_of r ≡ k
-  pub words : (start count : ℕ) → r ≡ checked.Words start count → found ≡ Endpoints start count
+  pub words : (words : EndpointWords) → r ≡ Ok words → found ≡ Some words

@@ -1,8 +1,7 @@
 -- The lengths of what is lent to a call.
 use Rattle.std.specs.Prelude.{ℕ, ◌+◌, ◌*◌, eqb, leb}
 use Rattle.answer.specs.declared.Answer.TheVariants as answer
-use Rattle.answer.specs.declared.Check.{Check}
-use Rattle.answer.specs.Check.{unless}
+use Rattle.answer.specs.Check.{Check, unless}
 use Rattle.command.specs.Command.{LOG-ROOM}
 
 -- 1, 2, 3, and then the call's own.

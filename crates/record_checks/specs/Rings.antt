@@ -1,9 +1,9 @@
 -- The rings of a record together.
-use Rattle.std.specs.Prelude.{ℕ, ◌≡◌, Bool, not, ◌&&◌, ◌||◌, List, ◌++◌, eqb, leb, length}
+use Rattle.std.specs.Prelude.{ℕ, ◌≡◌, Bool, not, ◌&&◌, ◌||◌, List, ◌++◌, eqb, leb, length, take}
 use Rattle.laws.specs.Distinct.{distinct}
 use Rattle.record_ring.specs.Rings.{RING-ROOM, rings_ok, not_among}
 use Rattle.record_endpoint.specs.Endpoint.{padded}
-use Rattle.record_checks.specs.declared.rings.Quarantine.{Quarantine}
+use Rattle.record_checks.specs.declared.quarantine.Quarantine.{Quarantine}
 
 -- Distinct nonzero multiples of 16, no more than there is room for.
 abbrev pub rings_fit : List ℕ → Bool
@@ -17,6 +17,10 @@ each_once live quarantined = live ++ not_among live quarantined
 abbrev pub sound_rings : Bool → List ℕ → List ℕ → Bool
 sound_rings usable live quarantined =
     rings_fit (each_once live quarantined) && (distinct quarantined && (not usable || eqb (length quarantined) 0))
+
+-- The rings in the code's array.
+abbrev pub quarantined_by : Quarantine → List ℕ
+quarantined_by q = take q.count q.rings
 
 -- Some rings as an array has them, zeros after them.
 pub record QuarantinedAs (q : Quarantine) (rings : List ℕ) : Type 0 where

@@ -2,15 +2,19 @@
 #![tactic(auto)]
 
 mod draw;
+mod enter;
 mod held;
 mod lengths;
+mod quarantine;
 mod rings;
 mod sound;
 mod think;
 
-pub use draw::{Checked, draw_check, drawn_in_order, drawn_rings, same_rings};
+pub use draw::{draw_check, drawn_in_order, drawn_rings, same_rings};
+pub use enter::enter_rings;
 pub use held::held_check;
 pub use lengths::lengths_check;
-pub use rings::{Quarantine, enter_rings, quarantined_rings, rings_sound};
+pub use quarantine::Quarantine;
+pub use rings::{quarantined_rings, rings_sound};
 pub use sound::{counts_fit, lists_sound, slot_sound};
 pub use think::{think_check, think_value};

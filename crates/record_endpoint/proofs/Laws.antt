@@ -24,7 +24,7 @@ use Rattle.record_endpoint.specs.Endpoint.{padded}
 use Rattle.record_endpoint.specs.Order.{address_at, dci_at, place_of}
 use Rattle.record_endpoint.specs.EndpointMap.{Whole, gathered, owns, is_owned, tabulated, owned_rings, queues_of, pending_from, pending_rings, claimed_ring, claimed_owner, claimed_active, claimed_or, claimed_endpoints, active_from, with_active, queue_dcis, queue_rings, QueuesAs}
 use Rattle.record_endpoint.proofs.Steps.{gathered_le, get_d_set, padded_put}
-use Rattle.record_endpoint.specs.declared.pending.Queues.{Queues}
+use Rattle.record_endpoint.specs.declared.queues.Queues.{Queues}
 use Rattle.record_endpoint.specs.declared.endpoint_map.EndpointMap.{EndpointMap}
 use Rattle.record_endpoint.specs.declared.endpoint_map.Owner.{Owner}
 use Rattle.record_endpoint.specs.declared.endpoint_map.Owner.TheVariants.{Any, Interface}

@@ -1,13 +1,14 @@
 // The endpoints of a record by place: what the arrays say, whatever their order.
-ghost use Rattle.std.specs.Prelude.{◌≡◌, not, ◌&&◌, ◌≤◌, eqb};
+ghost use Rattle.std.specs.Prelude.{◌≡◌, ◌<◌, ◌≤◌};
 ghost use Rattle.record_endpoint.specs.Order.{PLACES};
-ghost use Rattle.record_endpoint.specs.EndpointMap.{no_endpoints, endpoint_map_of, owns, owned_rings, with_active};
+ghost use Rattle.record_endpoint.specs.EndpointMap.{no_endpoints, endpoint_map_of, is_owned, owned_rings, with_active};
 
-use super::entry::{Endpoint, Handle};
+use super::entry::Endpoint;
 use super::order;
 use super::order::PLACES;
 
-// Ring 0: no endpoint at that place.
+// Ring 0: no endpoint at that place, as a word 0 of the routes is no ring. Three arrays and not one of structs is plainer, since the
+// rings alone go on as queues and the theorems speak of them alone.
 #[derive(Clone, Copy)]
 pub struct EndpointMap {
     pub rings: [u64; PLACES],
@@ -15,7 +16,7 @@ pub struct EndpointMap {
     pub active: [bool; PLACES],
 }
 
-// The endpoints of every interface, or of one.
+// The endpoints of every interface, or of one. No Option: `Any` is not the absence of an interface.
 #[derive(Clone, Copy)]
 pub enum Owner {
     Any,
@@ -32,43 +33,36 @@ pub fn no_endpoints() -> EndpointMap
     }
 }
 
-// The map of the first n endpoints of the arrays.
+// The map of the first n endpoints of the arrays, which stand beside their count in the record.
 pub fn endpoint_map_of(eps: [Endpoint; PLACES], owners: [u8; PLACES], n: usize) -> EndpointMap
     requires { n ≤ PLACES }
     ensures { result ≡ endpoint_map_of n eps owners }
 {
     let mut c = no_endpoints();
-    let mut i = 0;
-    while i < n {
+    for i in 0..n {
         let e = eps[i];
-        let handle = e.handle;
-        let on = match handle {
-            Handle::Active => true,
-            Handle::Revoked => false,
-        };
-        let owner = owners[i];
-        let place = order::place_of(e.address);
-        i += 1;
-        // A place past the end is none.
-        if place < PLACES {
+        if let Some(place) = order::place_of(e.address) {
             c.rings[place] = e.ring;
-            c.owners[place] = owner;
-            c.active[place] = on;
+            c.owners[place] = owners[i];
+            c.active[place] = e.handle.is_active();
         }
     }
     c
 }
 
-// Whether an endpoint is an owner's; there is none where the ring is 0.
-pub fn is_owned(who: Owner, ring: u64, owner: u8) -> bool
-    ensures { result ≡ not (eqb ring 0) && owns who owner }
-{
-    if ring == 0 {
-        return false;
-    }
-    match who {
-        Owner::Any => true,
-        Owner::Interface(i) => owner == i,
+impl EndpointMap {
+    // Whether an owner has an endpoint at a place.
+    pub(crate) fn is_owned(&self, who: Owner, place: usize) -> bool
+        requires { place < PLACES }
+        ensures { result ≡ is_owned who self.now place }
+    {
+        if self.rings[place] == 0 {
+            return false;
+        }
+        match who {
+            Owner::Any => true,
+            Owner::Interface(i) => self.owners[place] == i,
+        }
     }
 }
 
@@ -77,13 +71,9 @@ pub fn owned_rings(who: Owner, c: EndpointMap) -> [u64; PLACES]
     ensures { result ≡ owned_rings who c }
 {
     let mut rings = c.rings;
-    let mut p = 0;
-    while p < PLACES {
-        let place = p;
-        let owned = is_owned(who, rings[p], c.owners[p]);
-        p += 1;
-        if !owned {
-            rings[place] = 0;
+    for p in 0..PLACES {
+        if !c.is_owned(who, p) {
+            rings[p] = 0;
         }
     }
     rings
@@ -94,13 +84,9 @@ pub fn with_active(who: Owner, n: usize, mut c: EndpointMap) -> EndpointMap
     ensures { result ≡ with_active who n c }
 {
     let mut seen = 0;
-    let mut p = 0;
-    while p < PLACES {
-        let place = p;
-        let owned = is_owned(who, c.rings[p], c.owners[p]);
-        p += 1;
-        if owned {
-            c.active[place] = seen < n;
+    for p in 0..PLACES {
+        if c.is_owned(who, p) {
+            c.active[p] = seen < n;
             seen += 1;
         }
     }

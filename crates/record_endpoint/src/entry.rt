@@ -2,17 +2,37 @@
 ghost use Rattle.std.specs.Prelude.{◌≡◌, ◌≤◌, take};
 ghost use Rattle.record_endpoint.specs.Order.{PLACES};
 ghost use Rattle.record_endpoint.specs.Endpoint.{addresses, addresses_fit};
-ghost use Rattle.record_endpoint.specs.EndpointMap.{EndpointsAs};
+ghost use Rattle.record_endpoint.specs.EndpointMap.{EndpointsAs, handle_of, is_active};
 
 use super::endpoint_map::EndpointMap;
 use super::order;
 use super::order::PLACES;
 
 // Whether transfers may be submitted to an endpoint.
-#[derive(Clone, Copy)]
+#[derive(Clone, Copy, PartialEq, Eq)]
 pub enum Handle {
     Active,
     Revoked,
+}
+
+impl From<bool> for Handle {
+    ghost from_gives = { λ active handle. handle ≡ handle_of active };
+
+    fn from(active: bool) -> Handle {
+        if active {
+            Handle::Active
+        } else {
+            Handle::Revoked
+        }
+    }
+}
+
+impl Handle {
+    pub fn is_active(self) -> bool
+        ensures { result ≡ is_active self }
+    {
+        self == Handle::Active
+    }
 }
 
 #[derive(Clone, Copy)]
@@ -22,6 +42,7 @@ pub struct Endpoint {
     pub handle: Handle,
 }
 
+// The arrays and the count of the record.
 #[derive(Clone, Copy)]
 pub struct Endpoints {
     pub eps: [Endpoint; PLACES],
@@ -38,33 +59,23 @@ pub fn endpoints_of(c: EndpointMap) -> Endpoints
         ring: 0,
         handle: Handle::Active,
     }; PLACES];
-    let mut owners = [0u8; PLACES];
+    let mut owners = [0; PLACES];
     let mut n = 0;
-    let mut p = 0;
-    while p < PLACES {
-        let ring = c.rings[p];
-        let handle = if c.active[p] {
-            Handle::Active
-        } else {
-            Handle::Revoked
-        };
-        // Numbers 1 to 15 of each direction; IN addresses have the top bit.
-        let e = Endpoint {
-            address: (128 * (p / 15) + p % 15 + 1) as u8,
-            ring: ring,
-            handle: handle,
-        };
-        let owner = c.owners[p];
-        p += 1;
-        if ring != 0 {
-            eps[n] = e;
-            owners[n] = owner;
+    for p in 0..PLACES {
+        if c.rings[p] != 0 {
+            // Numbers 1 to 15 of each direction; IN addresses have the top bit.
+            eps[n] = Endpoint {
+                address: (128 * (p / 15) + p % 15 + 1) as u8,
+                ring: c.rings[p],
+                handle: Handle::from(c.active[p]),
+            };
+            owners[n] = c.owners[p];
             n += 1;
         }
     }
     Endpoints {
-        eps: eps,
-        owners: owners,
+        eps,
+        owners,
         count: n,
     }
 }
@@ -75,14 +86,10 @@ pub fn addresses_fit(eps: [Endpoint; PLACES], n: usize) -> bool
     ensures { result ≡ addresses_fit (addresses (take n eps)) }
 {
     let mut taken = [false; PLACES];
-    let mut i = 0;
-    while i < n {
-        let e = eps[i];
-        let place = order::place_of(e.address);
-        i += 1;
-        if place == PLACES {
+    for i in 0..n {
+        let Some(place) = order::place_of(eps[i].address) else {
             return false;
-        }
+        };
         if taken[place] {
             return false;
         }

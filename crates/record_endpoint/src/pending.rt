@@ -3,39 +3,28 @@ ghost use Rattle.std.specs.Prelude.{◌≡◌};
 ghost use Rattle.record_endpoint.specs.EndpointMap.{pending_rings, claimed_endpoints, QueuesAs};
 
 use super::endpoint_map::{EndpointMap, Owner};
+use super::order;
 use super::order::PLACES;
-use super::{endpoint_map, order};
-
-// Endpoints and their rings side by side, by rising address.
-#[derive(Clone, Copy)]
-pub struct Queues {
-    pub dcis: [u8; PLACES],
-    pub rings: [u64; PLACES],
-    pub count: usize,
-}
+use super::queues::Queues;
 
 // Rings by place as queues.
 pub fn queues_of(by: [u64; PLACES]) -> Queues
     ensures { QueuesAs result by }
 {
-    let mut dcis = [0u8; PLACES];
-    let mut rings = [0u64; PLACES];
+    let mut dcis = [0; PLACES];
+    let mut rings = [0; PLACES];
     let mut n = 0;
-    let mut p = 0;
-    while p < PLACES {
-        let ring = by[p];
-        // Twice the number, and 1 more for IN.
-        let dci = (2 * (p % 15 + 1) + p / 15) as u8;
-        p += 1;
-        if ring != 0 {
-            dcis[n] = dci;
-            rings[n] = ring;
+    for p in 0..PLACES {
+        if by[p] != 0 {
+            // Twice the number, and 1 more for IN.
+            dcis[n] = (2 * (p % 15 + 1) + p / 15) as u8;
+            rings[n] = by[p];
             n += 1;
         }
     }
     Queues {
-        dcis: dcis,
-        rings: rings,
+        dcis,
+        rings,
         count: n,
     }
 }
@@ -44,15 +33,11 @@ pub fn queues_of(by: [u64; PLACES]) -> Queues
 pub fn pending_rings(words: &[u32], rings: &[u64]) -> [u64; PLACES]
     ensures { result ≡ pending_rings words.now rings.now }
 {
-    let mut by = [0u64; PLACES];
-    let mut i = 0;
-    while i < words.len() {
-        let e = descriptor::endpoint_descriptor(words[i]);
-        let place = order::place_of(e.address);
-        let ring = if i < rings.len() { rings[i] } else { 0 };
-        i += 1;
-        if place < PLACES {
-            by[place] = ring;
+    let mut by = [0; PLACES];
+    for (i, &word) in words.iter().enumerate() {
+        let e = descriptor::endpoint_descriptor(word);
+        if let Some(place) = order::place_of(e.address) {
+            by[place] = rings.get(i).copied().unwrap_or(0);
         }
     }
     by
@@ -63,20 +48,15 @@ pub fn pending_rings(words: &[u32], rings: &[u64]) -> [u64; PLACES]
 pub fn claimed_endpoints(interface: u8, pending: [u64; PLACES], mut c: EndpointMap) -> EndpointMap
     ensures { result ≡ claimed_endpoints interface pending c }
 {
-    let mut p = 0;
-    while p < PLACES {
-        let place = p;
-        let ring = pending[p];
-        let owned = endpoint_map::is_owned(Owner::Interface(interface), c.rings[p], c.owners[p]);
-        p += 1;
-        if ring != 0 {
-            c.rings[place] = ring;
-            c.owners[place] = interface;
-            c.active[place] = true;
-        } else if owned {
-            c.rings[place] = 0;
-            c.owners[place] = 0;
-            c.active[place] = false;
+    for p in 0..PLACES {
+        if pending[p] != 0 {
+            c.rings[p] = pending[p];
+            c.owners[p] = interface;
+            c.active[p] = true;
+        } else if c.is_owned(Owner::Interface(interface), p) {
+            c.rings[p] = 0;
+            c.owners[p] = 0;
+            c.active[p] = false;
         }
     }
     c

@@ -22,24 +22,22 @@ pub fn ring_ok(ring: u64) -> bool
     ring % 16 == 0
 }
 
-// Where a ring stands from an index on; the number of rings if it does not.
-fn place_from(rings: &[u64], from: usize, ring: u64) -> usize
+// Where a ring stands from an index on.
+fn place_from(rings: &[u64], from: usize, ring: u64) -> Option<usize>
     ensures { PlaceIn rings.now from ring result }
 {
-    let mut i = from;
-    while i < rings.len() {
+    for i in from..rings.len() {
         if rings[i] == ring {
-            return i;
+            return Some(i);
         }
-        i += 1;
     }
-    rings.len()
+    None
 }
 
 pub fn has_ring(rings: &[u64], from: usize, ring: u64) -> bool
     ensures { result ≡ elem ring (drop from rings.now) }
 {
-    place_from(rings, from, ring) < rings.len()
+    place_from(rings, from, ring).is_some()
 }
 
 // Whether rings rise from one to the next, and are nonzero multiples of 16: then they fit.
@@ -47,10 +45,7 @@ fn rings_rise(rings: &[u64]) -> bool
     ensures { result ≡ true → (rings_ok rings.now && distinct rings.now) ≡ true }
 {
     let mut last = 0;
-    let mut i = 0;
-    while i < rings.len() {
-        let ring = rings[i];
-        i += 1;
+    for &ring in rings {
         if ring <= last || ring % 16 != 0 {
             return false;
         }
@@ -63,11 +58,8 @@ fn rings_rise(rings: &[u64]) -> bool
 fn rings_apart(rings: &[u64]) -> bool
     ensures { result ≡ (rings_ok rings.now && distinct rings.now) }
 {
-    let mut i = 0;
-    while i < rings.len() {
-        let ring = rings[i];
-        i += 1;
-        if !ring_ok(ring) || has_ring(rings, i, ring) {
+    for (i, &ring) in rings.iter().enumerate() {
+        if !ring_ok(ring) || has_ring(rings, i + 1, ring) {
             return false;
         }
     }
@@ -88,14 +80,8 @@ pub fn rings_fit(rings: &[u64]) -> bool
 pub fn count_not_among(others: &[u64], rings: &[u64]) -> usize
     ensures { result ≡ length (not_among others.now rings.now) }
 {
-    let mut count = 0;
-    let mut i = 0;
-    while i < rings.len() {
-        let ring = rings[i];
-        i += 1;
-        if !has_ring(others, 0, ring) {
-            count += 1;
-        }
-    }
-    count
+    rings
+        .iter()
+        .filter(|&&ring| !has_ring(others, 0, ring))
+        .count()
 }

@@ -10,6 +10,7 @@ use borrow.Author.Tests.{eq-eqb, ne_eqb, eqb-true, eqb-false, not-true, not-fals
 use lib.Dec.{eqb}
 use lib.ListN.{length, get_or, drop, replicate, length-append, length-take}
 use lib.Seq.{get_or-take, get_or-drop}
+use Rattle.std.proofs.Common.{Option, Some, None}
 use Rattle.laws.proofs.Tests.{and_left, and_right, and-true, not_both}
 use Rattle.laws.proofs.Cases.{Decided, decided, false_if, or_left, or_right, or_cases, or_none}
 use Rattle.laws.specs.Distinct.{elem, distinct}
@@ -18,8 +19,7 @@ use Rattle.descriptor.specs.Endpoint.{dci_of}
 use Rattle.descriptor.specs.Word.{ENDPOINT, kind, word_ok, endpoint_descriptor}
 use Rattle.descriptor_list.specs.Lookup.{find_endpoints}
 use Rattle.descriptor_list.specs.Valid.{has_interface, valid_list}
-use Rattle.descriptor_list.specs.declared.Found.{Found}
-use Rattle.descriptor_list.specs.declared.Found.TheVariants.{Endpoints, NotFound}
+use Rattle.descriptor_list.specs.declared.EndpointWords.{EndpointWords}
 use Rattle.descriptor_list.proofs.Laws.{found_interface, found_endpoints, valid_count, valid_found, valid_held}
 use Rattle.record_endpoint.specs.Order.{dci_at, place_of}
 use Rattle.record_endpoint.specs.Endpoint.{padded}
@@ -30,7 +30,7 @@ use Rattle.record_endpoint.specs.declared.endpoint_map.Owner.TheVariants.{Interf
 use Rattle.record_endpoint.proofs.Laws.{word_place, word_dcis, word_at, pending_some, claimed_ring_lem, claimed_owner_lem}
 use Rattle.record_settings.specs.Match.{has_place, agree, each_from, each_place, owns_places, all_own, owners_held, endpoints_match, address_free, addresses_free}
 use Rattle.record_settings.specs.declared.held.Settings.{Settings}
-use Rattle.record_settings.specs.Held.{Held, held_in, interfaces_of, alternates_of, is_held, alternate_of, without_setting, with_setting, found_words, setting_words, is_found, each_setting, all_found, settings_sound, SettingsAs}
+use Rattle.record_settings.specs.Held.{Held, held_in, interfaces_of, alternates_of, is_held, alternate_of, held_alternate, without_setting, with_setting, found_words, setting_words, is_found, each_setting, all_found, settings_sound, SettingsAs}
 
 -- A test of equality turned around.
 pub eqb_turned : (a b : ℕ) → eqb a b ≡ eqb b a
@@ -65,12 +65,6 @@ pub held_length : (n : ℕ) (interfaces alternates : List ℕ) → length (held_
 unfolding held_in
 held_length zero is alts = refl
 held_length (suc n) is alts = ap suc (held_length n (drop 1 is) (drop 1 alts))
-
--- The interfaces do not depend on the alternates.
-pub interfaces_any : (n : ℕ) (is alts bs : List ℕ) → interfaces_of (held_in n is alts) ≡ interfaces_of (held_in n is bs)
-unfolding held_in interfaces_of
-interfaces_any zero is alts bs = refl
-interfaces_any (suc n) is alts bs = rw (interfaces_any n (drop 1 is) (drop 1 alts) (drop 1 bs))
 
 held_back : (hs : List Held) (is alts : List ℕ) → held_in (length hs) (interfaces_of hs ++ is) (alternates_of hs ++ alts) ≡ hs
 unfolding held_in interfaces_of alternates_of
@@ -121,6 +115,19 @@ unfolding alternate_of is_held
 alternate_none j [] e = refl
 alternate_none j (h ∷ hs) e =
     let t = or_none (eqb h.interface j) (is_held j hs) e in rw t.0 (alternate_none j hs t.1)
+
+-- The alternate that an interface holds, where it holds one.
+pub held_alternate_is : (j : ℕ) (hs : List Held) → held_alternate j hs ≡ cond (is_held j hs) (Some (alternate_of j hs)) None
+unfolding held_alternate alternate_of is_held
+held_alternate_is j [] = refl
+held_alternate_is j (h ∷ hs) = rw (held_alternate_is j hs) (go (eqb h.interface j) (is_held j hs))
+  where
+    go :
+        (t u : Bool) →
+        cond t (Some h.alternate) (cond u (Some (alternate_of j hs)) None)
+        ≡ cond {A = Option ℕ} (t || u) (Some (cond t h.alternate (alternate_of j hs))) None
+    go true u = refl
+    go false u = refl
 
 -- Without an interface's setting.
 module _ (i : ℕ) where
@@ -411,10 +418,9 @@ unfolding all_found
 held_found list hs e i h = passed_at _ hs e i h
 
 -- Where endpoint words stand that lookup finds.
-pub found_at : (f : Found) → is_found f ≡ true → (start : ℕ) × (count : ℕ) × (f ≡ Endpoints start count)
-unfolding is_found
-found_at (Endpoints start count) e = (start, count, refl)
-found_at NotFound e = not_both false e refl
+pub found_at : (o : Option EndpointWords) → is_found o ≡ true → (f : EndpointWords) × (o ≡ Some f)
+found_at (Some f) e = (f, refl)
+found_at None e = not_both false e refl
 
 -- Sound settings of a valid list fit the arrays.
 pub sound_fits :
@@ -426,7 +432,7 @@ sound_fits list hs v sound =
     listed x e =
         let f = held_found list hs (sound_found list hs sound) x (held_elem x hs ∙ e) in
         let w = found_at (find_endpoints list x (alternate_of x hs)) f in
-        found_interface list x (alternate_of x hs) w.0 w.1 w.2
+        found_interface list x (alternate_of x hs) w.0 w.1
 
 -- And so do those with one more that lookup finds.
 pub with_fits :
@@ -466,11 +472,10 @@ place_word p (w ∷ ws) e = go (or_cases (eqb (place_of (endpoint_descriptor w).
 
 -- The words of a setting of a valid list.
 module _ (list : List ℕ) (v : valid_list list ≡ true) (i a : ℕ) where
-  length_found : (f : Found) → find_endpoints list i a ≡ f → length (found_words f list) ≤ 30
+  length_found : (o : Option EndpointWords) → find_endpoints list i a ≡ o → length (found_words o list) ≤ 30
   unfolding found_words
-  length_found (Endpoints start count) e =
-      rw (length-take count (drop start list)) (omega (arith, valid_count list v i a start count e))
-  length_found NotFound e = omega arith
+  length_found (Some f) e = omega (arith, length-take f.count (drop f.start list), valid_count list v i a f e)
+  length_found None e = omega arith
 
   -- There are at most 30.
   pub setting_length : length (setting_words list i a) ≤ 30
@@ -478,14 +483,14 @@ module _ (list : List ℕ) (v : valid_list list ≡ true) (i a : ℕ) where
   setting_length = length_found (find_endpoints list i a) refl
 
   word_found :
-      (f : Found) → find_endpoints list i a ≡ f → (k : ℕ) → k < length (found_words f list) →
-      (kind (get_or (found_words f list) k 0) ≡ ENDPOINT) × (word_ok (get_or (found_words f list) k 0) ≡ true)
+      (o : Option EndpointWords) → find_endpoints list i a ≡ o → (k : ℕ) → k < length (found_words o list) →
+      (kind (get_or (found_words o list) k 0) ≡ ENDPOINT) × (word_ok (get_or (found_words o list) k 0) ≡ true)
   unfolding found_words
-  word_found (Endpoints start count) e k h =
-      let l : k < count = omega (arith, length-take count (drop start list)) in
-      rw (get_or-take count (drop start list) k 0 l, get_or-drop start list k 0)
-      (found_endpoints list i a start count e k l, valid_found list v i a start count e k l)
-  word_found NotFound e k h = absurd (omega arith)
+  word_found (Some f) e k h =
+      let l : k < f.count = omega (arith, length-take f.count (drop f.start list)) in
+      rw (get_or-take f.count (drop f.start list) k 0 l, get_or-drop f.start list k 0)
+      (found_endpoints list i a f e k l, valid_found list v i a f e k l)
+  word_found None e k h = absurd (omega arith)
 
   -- Each is an endpoint word that may stand in a list.
   pub setting_word :

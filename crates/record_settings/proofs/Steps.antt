@@ -1,6 +1,6 @@
 -- One turn of each loop.
 use Prim.Native.Nat.{ℕ, zero, suc, ◌+◌, ◌-◌, ◌≤◌, ◌<◌}
-use mathlib.Core.Path.{◌≡◌, refl, sym, ◌∙◌}
+use mathlib.Core.Path.{◌≡◌, refl, sym, ap, ◌∙◌}
 use mathlib.Core.Logic.{inl, inr}
 use mathlib.Core.Bool.{Bool, true, false, not, cond, ◌&&◌, ◌||◌, or-true, or-false, and-false, beq}
 use mathlib.Core.List.{List, [], ◌∷◌, ◌++◌, append_assoc, append-nil}
@@ -8,9 +8,12 @@ use native.Mathlib.Numerals.{add-one, one-add}
 use native.Mathlib.Nat.{add-zero}
 use native.Mathlib.Omega.{arith}
 use native.Mathlib.Decide.{dec_lt}
-use borrow.Author.Tests.{eq-eqb, ne_eqb, eqb-true, eqb-false}
-use lib.Dec.{eqb}
-use lib.ListN.{length, get_or, set, drop, length-append, drop_of_length-le, get_or-eq_default}
+use borrow.Author.Rules.{rules}
+use borrow.Author.Tests.{eq-eqb, ne_eqb, lt-ltb, eqb-true, eqb-false}
+use lib.Dec.{eqb, leb-suc-suc}
+use Rattle.std.proofs.Common.{Some, None, nat_lt, option_map, position}
+use Rattle.std.specs.List.{list_any, list_all, position_or_len, range_with_len}
+use lib.ListN.{length, get_or, set, take, drop, length-append, drop_of_length-le, get_or-eq_default}
 use lib.Seq.{drop-drop, get_or-drop, get_or-set_same, get_or-set_other, set-append_seam, drop-cons, ext_get_or}
 use Rattle.laws.proofs.Tests.{and_left, and_right, not_both}
 use Rattle.laws.proofs.Cases.{Decided, decided, false_if}
@@ -25,9 +28,9 @@ use Rattle.record_endpoint.specs.declared.endpoint_map.Owner.TheVariants.{Interf
 use Rattle.record_endpoint.specs.declared.endpoint_map.EndpointMap.{EndpointMap}
 use Rattle.record_endpoint.proofs.Laws.{tabulated_at, tabulated_length}
 use Rattle.record_settings.specs.declared.held.Settings.{Settings}
-use Rattle.record_settings.specs.Held.{Held, held_in, interfaces_of, alternates_of, is_held, without_setting, is_found, each_setting, all_found, settings_sound, SettingsAs}
+use Rattle.record_settings.specs.Held.{Held, held_in, interfaces_of, alternates_of, is_held, held_alternate, without_setting, is_found, each_setting, all_found, settings_sound, SettingsAs}
 use Rattle.record_settings.specs.Match.{has_place, places_of, agree, each_from, each_place, owns_places, all_own, owners_held, endpoints_match, address_free, addresses_free}
-use Rattle.record_settings.proofs.Laws.{eqb_turned, passed_append, held_elem, interfaces_any, interfaces_length, alternates_length, interfaces_append, alternates_append, each_same}
+use Rattle.record_settings.proofs.Laws.{eqb_turned, passed_append, held_elem, interfaces_length, alternates_length, interfaces_append, alternates_append, each_same}
 
 abbrev pub held_at : List ℕ → List ℕ → ℕ → Held
 held_at is alts i = record { interface = get_or is i 0; alternate = get_or alts i 0 }
@@ -59,26 +62,41 @@ module _ (is : List ℕ) (n i : ℕ) where
   unfolding held_in
   held_none alts h = let e : n - i ≡ zero = omega arith in rw e
 
-  -- whatever the alternates
-  interfaces_next :
-      (alts : List ℕ) → i < n →
-      interfaces_of (held_in (n - i) (drop i is) alts) ≡ get_or is i 0 ∷ interfaces_of (held_in (n - (i + 1)) (drop (i + 1) is) alts)
-  unfolding interfaces_of
-  interfaces_next alts h =
-      interfaces_any (n - i) (drop i is) alts (drop i alts)
-      ∙ rw (held_next alts h, interfaces_any (n - (i + 1)) (drop (i + 1) is) (drop (i + 1) alts) alts)
+-- An interface is looked up among the first n.
+pub held_any :
+    (n : ℕ) (is alts : List ℕ) (x : ℕ) → n ≤ length is → list_any (λ y. eqb y x) (take n is) ≡ is_held x (held_in n is alts)
+unfolding held_in is_held
+held_any zero is alts x h = refl
+held_any (suc n) [] alts x h = absurd (omega arith)
+held_any (suc n) (y ∷ ys) alts x h = ap (λ b. eqb y x || b) (held_any n ys (drop 1 alts) x (omega arith))
 
-  pub again_next :
-      (alts : List ℕ) (x : ℕ) → i < n →
-      is_held x (held_in (n - i) (drop i is) alts) ≡ eqb x (get_or is i 0) || is_held x (held_in (n - (i + 1)) (drop (i + 1) is) alts)
-  unfolding elem
-  again_next alts x h =
-      held_elem x (held_in (n - i) (drop i is) alts)
-      ∙ rw (interfaces_next alts h, held_elem x (held_in (n - (i + 1)) (drop (i + 1) is) alts))
+pub held_position :
+    (n : ℕ) (is alts : List ℕ) (x : ℕ) → n ≤ length is →
+    option_map (λ k. get_or alts k 0) (position (λ y. eqb y x) (take n is)) ≡ held_alternate x (held_in n is alts)
+unfolding held_in held_alternate
+held_position zero is alts x h = refl
+held_position (suc n) [] alts x h = absurd (omega arith)
+held_position (suc n) (y ∷ ys) alts x h = rw (one-add k) (go (eqb y x) (held_position n ys (drop 1 alts) x (omega arith)))
+  where
+    k : ℕ
+    k = position_or_len (λ y. eqb y x) (take n ys)
 
-  pub again_none : (alts : List ℕ) (x : ℕ) → n ≤ i → is_held x (held_in (n - i) (drop i is) alts) ≡ false
-  unfolding is_held
-  again_none alts x h = rw (held_none alts h)
+    m : ℕ
+    m = length (take n ys)
+
+    later :
+        (t : Bool) → option_map (λ k. get_or alts k 0) (cond t (Some (suc k)) None)
+        ≡ option_map (λ k. get_or (drop 1 alts) k 0) (cond t (Some k) None)
+    later true = ap Some (rw (← one-add k) (sym (get_or-drop 1 alts k 0)))
+    later false = refl
+
+    go :
+        (t : Bool) →
+        option_map (λ k. get_or (drop 1 alts) k 0) (cond (nat_lt k m) (Some k) None) ≡ held_alternate x (held_in n ys (drop 1 alts)) →
+        option_map (λ k. get_or alts k 0) (cond (nat_lt (cond (not t) (suc k) 0) (suc m)) (Some (cond (not t) (suc k) 0)) None)
+        ≡ cond t (Some (get_or alts 0 0)) (held_alternate x (held_in n ys (drop 1 alts)))
+    go true e = rw (lt-ltb 0 (suc m) (omega arith))
+    go false e = rw (leb-suc-suc (suc k) m) (later (nat_lt k m) ∙ e)
 
 -- The test of one setting.
 module _ (test : ℕ → ℕ → Bool) (is alts : List ℕ) (n i : ℕ) where
@@ -214,32 +232,32 @@ padded_put n l a h =
 
 -- One setting more at the end of the arrays.
 pub settings_put :
-    (s : Settings) (hs : List Held) (x a : ℕ) → SettingsAs s hs → length hs < 32 →
+    (s : Settings) (hs : List Held) (x a : ℕ) (fits : s.count + 1 ≤ 32) → SettingsAs s hs →
     SettingsAs
-    (record { interfaces = set s.interfaces s.count x; alternates = set s.alternates s.count a; count = s.count + 1 })
+    (record {
+      interfaces = set s.interfaces s.count x;
+      alternates = set s.alternates s.count a;
+      count = s.count + 1;
+      fits = fits;
+    })
     (hs ++ (record { interface = x; alternate = a } ∷ []))
 unfolding interfaces_of alternates_of
-settings_put s hs x a w h =
-    let i : length (interfaces_of hs) < 32 = rw (interfaces_length hs) h in
-    let b : length (alternates_of hs) < 32 = rw (alternates_length hs) h in
+settings_put s hs x a fits w =
+    let i : length (interfaces_of hs) < 32 = omega (arith, interfaces_length hs, w.count) in
+    let b : length (alternates_of hs) < 32 = omega (arith, alternates_length hs, w.count) in
     record {
       interfaces =
           rw (w.interfaces, w.count, interfaces_append hs, ← interfaces_length hs) (padded_put 32 (interfaces_of hs) x i);
       alternates =
           rw (w.alternates, w.count, alternates_append hs, ← alternates_length hs) (padded_put 32 (alternates_of hs) a b);
       count = rw (w.count, length-append) refl;
-      room = omega (arith, w.count);
     }
 
--- The test of one place.
-module _ (test : ℕ → Bool) (n p : ℕ) where
-  pub each_next : p < n → each_from test (n - p) p ≡ test p && each_from test (n - (p + 1)) (p + 1)
-  unfolding each_from
-  each_next h = let e : n - p ≡ suc (n - (p + 1)) = omega arith in rw e
-
-  pub each_none : n ≤ p → each_from test (n - p) p ≡ true
-  unfolding each_from
-  each_none h = let e : n - p ≡ zero = omega arith in rw e
+-- The tests of all places as those of a list.
+pub each_list : (test : ℕ → Bool) (k p : ℕ) → list_all test (range_with_len p k) ≡ each_from test k p
+unfolding each_from
+each_list test zero p = refl
+each_list test (suc k) p = ap (λ b. test p && b) (each_list test k (p + 1))
 
 -- The places of words: those that are marked, and those of the words left.
 abbrev pub Marked : List Bool → List ℕ → List ℕ → Type 0
@@ -305,23 +323,23 @@ pub owns_same :
 unfolding owns_places
 owns_same places words i c e = each_same _ _ (λ p h. rw (e, place_at words p h))
 
--- `addresses_free`
-module _ (words : List ℕ) (i : ℕ) (c : EndpointMap) (k q : ℕ) (h : k < length words)
-    (e : q ≡ place_of (endpoint_descriptor (get_or words k 0)).address) where
-  pub free_next :
-      addresses_free (drop k words) i c
-      ≡ ((eqb (get_or c.rings q 0) 0 || eqb (get_or c.owners q 0) i) && addresses_free (drop (k + 1) words) i c)
-  unfolding addresses_free address_free
-  free_next = rw (e, add-one k, drop-cons words k 0)
+-- The test of a word at place q, and of one that no endpoint can have.
+pub free_with :
+    (w i : ℕ) (c : EndpointMap) (q : ℕ) → q ≡ place_of (endpoint_descriptor w).address →
+    address_free w i c ≡ (eqb (get_or c.rings q 0) 0 || eqb (get_or c.owners q 0) i)
+unfolding address_free
+free_with w i c q e = rw (← e)
 
-  -- a word that no endpoint can have
-  pub free_skip : length c.rings ≡ 30 → 30 ≤ q → addresses_free (drop k words) i c ≡ addresses_free (drop (k + 1) words) i c
-  free_skip l o = let z : length c.rings ≤ q = rw l o in free_next ∙ rw (get_or-eq_default c.rings 0 z)
+pub free_without :
+    (w i : ℕ) (c : EndpointMap) → length c.rings ≡ 30 → 30 ≡ place_of (endpoint_descriptor w).address → address_free w i c ≡ true
+free_without w i c l e =
+    let z : length c.rings ≤ 30 = rw l (search rules) in free_with w i c 30 e ∙ rw (get_or-eq_default c.rings 0 z)
 
-pub free_none :
-    (words : List ℕ) (i : ℕ) (c : EndpointMap) (k : ℕ) → length words ≤ k → addresses_free (drop k words) i c ≡ true
+-- The test of each word.
+pub free_list : (ws : List ℕ) (i : ℕ) (c : EndpointMap) → list_all (λ w. address_free w i c) ws ≡ addresses_free ws i c
 unfolding addresses_free
-free_none words i c k h = rw (drop_of_length-le words h)
+free_list [] i c = refl
+free_list (w ∷ ws) i c = ap (λ b. address_free w i c && b) (free_list ws i c)
 
 -- `endpoints_match`: first the endpoints of each setting, then the owners.
 module _ (list : List ℕ) (hs : List Held) (c : EndpointMap) where

@@ -1,15 +1,11 @@
 -- The settings that a record holds: the map `interface_alternates` of the original, as arrays beside their count.
-use Rattle.std.specs.Prelude.{ℕ, zero, suc, ◌≤◌, ◌≡◌, Bool, true, false, cond, ◌&&◌, ◌||◌, List, [], ◌∷◌, ◌++◌, eqb, length, get_or, take, drop}
+use Rattle.std.specs.Prelude.{ℕ, zero, suc, ◌≡◌, Bool, true, false, cond, ◌&&◌, ◌||◌, List, [], ◌∷◌, ◌++◌, Option, Some, None, is_some, eqb, length, get_or, take, drop}
 use Rattle.laws.specs.Distinct.{distinct}
-use Rattle.descriptor_list.specs.declared.Found.{Found}
-use Rattle.descriptor_list.specs.declared.Found.TheVariants.{Endpoints, NotFound}
+use Rattle.descriptor_list.specs.declared.EndpointWords.{EndpointWords}
 use Rattle.descriptor_list.specs.Lookup.{find_endpoints}
 use Rattle.record_endpoint.specs.Endpoint.{padded}
 use Rattle.record_settings.specs.declared.held.Settings.{Settings}
-
--- How many settings a record has room for: one of each interface.
-abbrev pub HELD-ROOM : ℕ
-HELD-ROOM = 32
+pub use Rattle.record_settings.specs.Room.{HELD-ROOM}
 
 -- An interface and the alternate that it holds.
 pub record Held : Type 0 where
@@ -21,6 +17,10 @@ unfoldable pub held_in : ℕ → List ℕ → List ℕ → List Held
 held_in zero interfaces alternates = []
 held_in (suc n) interfaces alternates =
     record { interface = get_or interfaces 0 0; alternate = get_or alternates 0 0 } ∷ held_in n (drop 1 interfaces) (drop 1 alternates)
+
+-- The settings of the code's arrays.
+abbrev pub held_by : Settings → List Held
+held_by s = held_in s.count s.interfaces s.alternates
 
 unfoldable pub interfaces_of : List Held → List ℕ
 interfaces_of [] = []
@@ -39,6 +39,11 @@ unfoldable pub alternate_of : ℕ → List Held → ℕ
 alternate_of i [] = 0
 alternate_of i (h ∷ hs) = cond (eqb h.interface i) h.alternate (alternate_of i hs)
 
+-- The same, nothing where it holds none.
+unfoldable pub held_alternate : ℕ → List Held → Option ℕ
+held_alternate i [] = None
+held_alternate i (h ∷ hs) = cond (eqb h.interface i) (Some h.alternate) (held_alternate i hs)
+
 -- Without an interface's setting, and with it as the last one.
 unfoldable pub without_setting : ℕ → List Held → List Held
 without_setting i [] = []
@@ -48,9 +53,9 @@ unfoldable pub with_setting : ℕ → ℕ → List Held → List Held
 with_setting i a hs = without_setting i hs ++ (record { interface = i; alternate = a } ∷ [])
 
 -- The endpoint words of a setting that lookup finds; none where it finds none.
-unfoldable pub found_words : Found → List ℕ → List ℕ
-found_words (Endpoints start count) list = take count (drop start list)
-found_words NotFound list = []
+unfoldable pub found_words : Option EndpointWords → List ℕ → List ℕ
+found_words (Some f) list = take f.count (drop f.start list)
+found_words None list = []
 
 unfoldable pub setting_words : List ℕ → ℕ → ℕ → List ℕ
 setting_words list interface alternate = found_words (find_endpoints list interface alternate) list
@@ -59,9 +64,8 @@ unfoldable pub held_words : List ℕ → List Held → List ℕ
 held_words list [] = []
 held_words list (h ∷ hs) = setting_words list h.interface h.alternate ++ held_words list hs
 
-unfoldable pub is_found : Found → Bool
-is_found (Endpoints start count) = true
-is_found NotFound = false
+abbrev pub is_found : Option EndpointWords → Bool
+is_found found = is_some found
 
 -- Whether each setting, an interface and its alternate, passes a test.
 unfoldable pub each_setting : (ℕ → ℕ → Bool) → List Held → Bool
@@ -81,4 +85,3 @@ pub record SettingsAs (r : Settings) (hs : List Held) : Type 0 where
   pub interfaces : r.interfaces ≡ padded HELD-ROOM 0 (interfaces_of hs)
   pub alternates : r.alternates ≡ padded HELD-ROOM 0 (alternates_of hs)
   pub count : r.count ≡ length hs
-  pub room : r.count ≤ HELD-ROOM

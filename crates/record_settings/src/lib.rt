@@ -2,10 +2,9 @@
 #![tactic(auto)]
 
 mod held;
+mod lookup;
 mod matching;
 
-pub use held::{
-    HELD_ROOM, Settings, alternate_of, is_held, setting_words, settings_sound, with_setting,
-    without_setting,
-};
+pub use held::{HELD_ROOM, Settings};
+pub use lookup::setting_words;
 pub use matching::{endpoints_match, validate_endpoint_addresses};

@@ -1,10 +1,10 @@
 // Whether a record's endpoints are those of its held settings, compared by place.
-ghost use Rattle.std.specs.Prelude.{◌≡◌, List, ℕ, ◌≤◌};
-ghost use Rattle.record_settings.specs.Held.{HELD-ROOM, held_in, setting_words};
-ghost use Rattle.record_settings.specs.Match.{places_of, owns_places, owners_held, endpoints_match, addresses_free};
+ghost use Rattle.std.specs.Prelude.{◌≡◌};
+ghost use Rattle.record_settings.specs.Held.{held_by, setting_words};
+ghost use Rattle.record_settings.specs.Match.{places_of, owns_places, owners_held, endpoints_match, address_free, addresses_free};
 
-use super::held;
-use super::held::HELD_ROOM;
+use super::held::Settings;
+use super::lookup;
 use record_endpoint::{EndpointMap, PLACES};
 
 // The places of endpoint words.
@@ -12,12 +12,9 @@ fn places_of(words: &[u32]) -> [bool; PLACES]
     ensures { result ≡ places_of words.now }
 {
     let mut places = [false; PLACES];
-    let mut i = 0;
-    while i < words.len() {
-        let e = descriptor::endpoint_descriptor(words[i]);
-        let place = record_endpoint::place_of(e.address);
-        i += 1;
-        if place < PLACES {
+    for &w in words {
+        let e = descriptor::endpoint_descriptor(w);
+        if let Some(place) = record_endpoint::place_of(e.address) {
             places[place] = true;
         }
     }
@@ -28,75 +25,42 @@ fn places_of(words: &[u32]) -> [bool; PLACES]
 fn owns_places(list: &[u32], interface: u8, alternate: u8, c: EndpointMap) -> bool
     ensures { result ≡ owns_places (setting_words list.now interface alternate) interface c }
 {
-    let words = held::setting_words(list, interface, alternate);
-    let places = places_of(words);
-    let mut p = 0;
-    while p < PLACES {
-        let word = places[p];
-        let own = c.rings[p] != 0 && c.owners[p] == interface;
-        p += 1;
-        if word != own {
-            return false;
-        }
-    }
-    true
+    let places = places_of(lookup::setting_words(list, interface, alternate));
+    (0..PLACES).all(|p| places[p] == (c.rings[p] != 0 && c.owners[p] == interface))
 }
 
 // Whether each endpoint's owner holds a setting.
-fn owners_held(interfaces: [u8; HELD_ROOM], n: usize, c: EndpointMap) -> bool
-    requires { n ≤ HELD-ROOM }
-    ensures { (alternates : List ℕ) → result ≡ owners_held (held_in n interfaces alternates) c }
+fn owners_held(settings: &Settings, c: EndpointMap) -> bool
+    ensures { result ≡ owners_held (held_by settings.now) c }
 {
-    let mut p = 0;
-    while p < PLACES {
-        let ring = c.rings[p];
-        let owner = c.owners[p];
-        p += 1;
-        if ring != 0 {
-            if !held::is_held(interfaces, n, owner) {
-                return false;
-            }
-        }
-    }
-    true
+    (0..PLACES).all(|p| c.rings[p] == 0 || settings.is_held(c.owners[p]))
 }
 
 // Whether the endpoints are those of the held settings.
-pub fn endpoints_match(
-    list: &[u32],
-    interfaces: [u8; HELD_ROOM],
-    alternates: [u8; HELD_ROOM],
-    n: usize,
-    c: EndpointMap,
-) -> bool
-    requires { n ≤ HELD-ROOM }
-    ensures { result ≡ endpoints_match list.now (held_in n interfaces alternates) c }
+pub fn endpoints_match(list: &[u32], settings: &Settings, c: EndpointMap) -> bool
+    ensures { result ≡ endpoints_match list.now (held_by settings.now) c }
 {
-    let mut i = 0;
-    while i < n {
-        let ok = owns_places(list, interfaces[i], alternates[i], c);
-        i += 1;
-        if !ok {
+    for i in 0..settings.count {
+        if !owns_places(list, settings.interfaces[i], settings.alternates[i], c) {
             return false;
         }
     }
-    owners_held(interfaces, n, c)
+    owners_held(settings, c)
 }
 
-// Whether no word's address has an endpoint of another interface.
+// Whether a word's address has no endpoint of another interface.
+fn address_free(w: u32, interface: u8, c: &EndpointMap) -> bool
+    ensures { result ≡ address_free w interface c.now }
+{
+    match record_endpoint::place_of(descriptor::endpoint_descriptor(w).address) {
+        Some(place) => c.rings[place] == 0 || c.owners[place] == interface,
+        None => true,
+    }
+}
+
+// The same for each word.
 pub fn validate_endpoint_addresses(words: &[u32], interface: u8, c: EndpointMap) -> bool
     ensures { result ≡ addresses_free words.now interface c }
 {
-    let mut i = 0;
-    while i < words.len() {
-        let e = descriptor::endpoint_descriptor(words[i]);
-        let place = record_endpoint::place_of(e.address);
-        i += 1;
-        if place < PLACES {
-            if c.rings[place] != 0 && c.owners[place] != interface {
-                return false;
-            }
-        }
-    }
-    true
+    words.iter().all(|&w| address_free(w, interface, &c))
 }

@@ -3,32 +3,13 @@
 
 use std::io;
 
-fn run(rt: &(impl Input + Print), ctx: &mut [u8]) -> io::Result<()> {
-    let mut image = [0u64; xhci_device::WORDS];
-    replay_sample::words(rt, &mut image)?;
-    let mut routes = [0u64; replay_sample::ROUTES_ROOM];
-    replay_sample::words(rt, &mut routes)?;
-    let mut log = [0xa500_0000u32; replay_sample::LOG_ROOM];
-    let mut outcomes = [0u8; replay_sample::OUTCOMES_ROOM];
-    replay_sample::bytes(rt, &mut outcomes)?;
-    let n = replay_sample::count(rt, replay_sample::OUTCOMES_ROOM)?;
-    let interface = replay_sample::byte(rt)?;
-    let a = xhci_device::xhci_device_release(
-        &mut image,
-        ctx,
-        &mut routes,
-        &mut log,
-        &outcomes[0..n],
-        interface,
-    );
-    replay_sample::left(rt, a, &log, ctx, &routes, &image)
-}
-
 fn main(rt: HostRuntime) -> io::Result<()> {
-    for _ in 0..replay_sample::next(&rt)? {
-        let mut ctx = [0x5au8; replay_sample::CONTEXT_ROOM];
-        let n = replay_sample::count(&rt, replay_sample::CONTEXT_ROOM)?;
-        run(&rt, &mut ctx[0..n])?;
-    }
-    Ok(())
+    replay_sample::replay(
+        &rt,
+        replay_sample::read_record,
+        |rt, image, ctx, routes, log, outcomes| {
+            let interface = replay_sample::byte(rt)?;
+            Ok(xhci_device::xhci_device_release(image, ctx, routes, log, outcomes, interface))
+        },
+    )
 }

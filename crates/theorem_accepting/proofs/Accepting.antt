@@ -1,5 +1,5 @@
 -- The statements of specs/Accepting.antt.
-use Prim.Native.Nat.{ℕ, suc, ◌+◌, ◌-◌, ◌*◌, ◌<◌}
+use Prim.Native.Nat.{ℕ, suc, ◌+◌, ◌*◌, ◌<◌}
 use mathlib.Core.Path.{◌≡◌, refl, sym, ap, ◌∙◌}
 use mathlib.Core.Bool.{true, false, cond}
 use mathlib.Core.List.{List, [], ◌∷◌, ◌++◌}
@@ -9,8 +9,7 @@ use borrow.Author.Tests.{eq-eqb, le-leb, not-false}
 use lib.Dec.{eqb}
 use lib.ListN.{length, get_or, drop, replicate, length-append, get_or-replicate}
 use lib.Seq.{ext_get_or, get_or-append_seam}
-use Rattle.answer.specs.declared.Check.{Check}
-use Rattle.answer.specs.declared.Check.TheVariants.{Pass}
+use Rattle.answer.specs.Check.{Check, Pass}
 use Rattle.answer.specs.Answer.{number}
 use Rattle.command.specs.Course.{words, result, played}
 use Rattle.descriptor.specs.Word.{endpoint_descriptor}

@@ -1,4 +1,5 @@
 -- What the calls leave where their checks pass and every outcome is done.
+use Rattle.std.proofs.Common.{Ok}
 use Prim.Native.Nat.{ℕ, ◌+◌, ◌<◌}
 use mathlib.Core.Path.{◌≡◌, refl, sym, ◌∙◌}
 use mathlib.Core.Bool.{false, not}
@@ -10,8 +11,7 @@ use lib.Dec.{eqb}
 use lib.ListN.{length, get_or, replicate}
 use Rattle.answer.specs.declared.Answer.{Answer}
 use Rattle.answer.specs.declared.Answer.TheVariants as answer
-use Rattle.answer.specs.declared.Check.{Check}
-use Rattle.answer.specs.declared.Check.TheVariants.{Pass}
+use Rattle.answer.specs.Check.{Check, Pass}
 use Rattle.answer.specs.Answer.{number, is_lost}
 use Rattle.command.specs.declared.Sent.TheVariants as sent
 use Rattle.command.specs.Command.{outcome_at}
@@ -20,7 +20,6 @@ use Rattle.command.specs.Sweep.{stop_endpoints}
 use Rattle.command.proofs.Done.{outcome_done, result_sends, stop_all_done}
 use Rattle.command.proofs.Laws.{result_then}
 use Rattle.command.proofs.Sweeps.{stop_done}
-use Rattle.transfer.specs.declared.Replaced.TheVariants as replace
 use Rattle.transfer.specs.Routes.{replaced, with_replaced}
 use Rattle.record_ring.proofs.Laws.{ring_at, ring_nonzero}
 use Rattle.record_endpoint.specs.declared.endpoint_map.EndpointMap.{EndpointMap}
@@ -130,20 +129,20 @@ module _ (d : Device) (ctx routes log o : List ℕ) (i a : ℕ)
 -- With every outcome done and the old routes there, a release is accepted and they are out.
 module _ (a : Release) (routes o : List ℕ) where
   publish_done :
-      (ctx : List ℕ) (n : ℕ) → replaced routes a.slot a.old [] ≡ replace.Done →
+      (ctx : List ℕ) (n : ℕ) → replaced routes a.slot a.old [] ≡ Ok (tt {0}) →
       result o n (release_publish a ctx routes) ≡ settings_moved answer.Accepted ctx (with_replaced routes a.slot a.old [])
   unfolding release_publish release_published result
   publish_done ctx n r = rw r
 
   configure_done :
-      (ctx : List ℕ) (n : ℕ) → outcome_at o n ≡ sent.Done → replaced routes a.slot a.old [] ≡ replace.Done →
+      (ctx : List ℕ) (n : ℕ) → outcome_at o n ≡ sent.Done → replaced routes a.slot a.old [] ≡ Ok (tt {0}) →
       result o n (release_configure a ctx routes)
       ≡ settings_moved answer.Accepted (release_context a ctx) (with_replaced routes a.slot a.old [])
   unfolding release_configure on_sent
   configure_done ctx n e r = result_sends o n _ _ _ sent.Done e ∙ publish_done (release_context a ctx) (n + 1) r
 
   pub release_accepted :
-      (ctx : List ℕ) → AllDone o (length a.old + 1) → replaced routes a.slot a.old [] ≡ replace.Done →
+      (ctx : List ℕ) → AllDone o (length a.old + 1) → replaced routes a.slot a.old [] ≡ Ok (tt {0}) →
       result o 0 (release_course a ctx routes)
       ≡ settings_moved answer.Accepted (release_context a ctx) (with_replaced routes a.slot a.old [])
   unfolding release_course on_sent

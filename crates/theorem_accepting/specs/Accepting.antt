@@ -3,8 +3,7 @@ use Rattle.std.specs.Prelude.{ℕ, ◌+◌, ◌*◌, ◌<◌, ◌≤◌, ◌≡�
 use Rattle.def.specs.Speed.{SUPER, SUPER-PLUS}
 use Rattle.descriptor.specs.Word.{configuration_value}
 use Rattle.answer.specs.declared.Answer.TheVariants as answer
-use Rattle.answer.specs.declared.Check.{Check}
-use Rattle.answer.specs.declared.Check.TheVariants.{Pass}
+use Rattle.answer.specs.Check.{Check, Pass}
 use Rattle.command.specs.Command.{LOG-ROOM}
 use Rattle.context_block.specs.Blocks.{word_dci, some_dci}
 use Rattle.transfer.specs.Routes.{route_of}

@@ -1,7 +1,7 @@
 -- What 19 leaves: exactly what 16 leaves, a header of another length in its place.
 use Rattle.std.specs.Prelude.{ℕ, ◌≡◌, cond, false, List, eqb, length}
 use Rattle.def.specs.Speed.{exponent_ok}
-use Rattle.answer.specs.declared.Check.TheVariants.{Pass}
+use Rattle.answer.specs.Check.{Pass}
 use Rattle.answer.specs.Answer.{number}
 use Rattle.course_init.specs.Reading.{BringUp}
 use Rattle.device.specs.Left.{Left}
@@ -15,7 +15,6 @@ with_header header a =
       max_slots = a.max_slots;
       speed = a.speed;
       hubs = a.hubs;
-      has_parent = a.has_parent;
       parent = a.parent;
       port = a.port;
       root_port = a.root_port;

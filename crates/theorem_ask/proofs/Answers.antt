@@ -1,4 +1,5 @@
 -- The checks of a claim refuse neither with 0 nor with 22, and its course does not end with 22.
+use Rattle.std.proofs.Common.{Ok, Err, Result, is_some}
 use Prim.Native.Nat.{ℕ, ◌+◌, ◌*◌}
 use mathlib.Core.Path.{◌≡◌, refl, ap}
 use mathlib.Core.Bool.{Bool, true, false, not, cond, ◌&&◌, ◌||◌}
@@ -8,8 +9,7 @@ use lib.ListN.{length}
 use Rattle.laws.proofs.Tests.{not_both}
 use Rattle.answer.specs.declared.Answer.{Answer}
 use Rattle.answer.specs.declared.Answer.TheVariants as answer
-use Rattle.answer.specs.declared.Check.{Check}
-use Rattle.answer.specs.declared.Check.TheVariants.{Pass, Refuse}
+use Rattle.answer.specs.Check.{Check, Pass, Refuse}
 use Rattle.answer.specs.Answer.{number}
 use Rattle.command.specs.declared.Sent.{Sent}
 use Rattle.command.specs.declared.Sent.TheVariants as sent
@@ -20,8 +20,7 @@ use Rattle.descriptor_list.specs.Lookup.{find_endpoints}
 use Rattle.record_endpoint.specs.EndpointMap.{queue_dcis}
 use Rattle.record_settings.specs.Held.{is_found, setting_words}
 use Rattle.record_settings.specs.Match.{addresses_free}
-use Rattle.transfer.specs.declared.Replaced.{Replaced}
-use Rattle.transfer.specs.declared.Replaced.TheVariants as replace
+use Rattle.transfer.specs.declared.RouteError.{RouteError}
 use Rattle.transfer.specs.Routes.{replaced}
 use Rattle.course_steps.specs.End.{End, settings_kept, answer_of}
 use Rattle.course_claim.specs.Claim.{Claim, claim_published, claim_publish, claim_switch_back, claim_undone, claim_undo, claim_switch, claim_resume, claim_configure, claim_course}
@@ -37,8 +36,8 @@ abbrev is_other : Answer → Bool
 is_other a = not (eqb (number a) 0 || eqb (number a) 22)
 
 unfoldable refuses_other : Check → Bool
-refuses_other Pass = true
-refuses_other (Refuse a) = is_other a
+refuses_other (Ok _) = true
+refuses_other (Err a) = is_other a
 
 other_if : (b : Bool) (x : Check) (a : Answer) → is_other a ≡ true → refuses_other x ≡ true → refuses_other (cond b x (Refuse a)) ≡ true
 unfolding refuses_other
@@ -108,11 +107,10 @@ current_later code (sent.Failed later) = refl
 current_later code sent.Cut = refl
 
 module _ (a : Claim) where
-  published : (r : Replaced) (ctx routes : List ℕ) → Current (claim_published r a ctx routes)
+  published : (r : Result Unit RouteError) (ctx routes : List ℕ) → Current (claim_published r a ctx routes)
   unfolding claim_published number
-  published replace.Done ctx routes = refl
-  published replace.InvalidEndpoint ctx routes = refl
-  published replace.QueueFull ctx routes = refl
+  published (Ok _) ctx routes = refl
+  published (Err _) ctx routes = refl
 
   undone : (b : Bool) (code : ℕ) (ctx routes : List ℕ) →
       CurrentEnds (cond b (claim_switch_back a code ctx routes) (ends (settings_kept (answer.Failed code) (length a.old) ctx routes)))
@@ -122,7 +120,7 @@ module _ (a : Claim) where
 
   undo : (code : ℕ) (ctx routes : List ℕ) → CurrentEnds (claim_undo a code ctx routes)
   unfolding EachEnd claim_undo claim_undone number
-  undo code ctx routes = λ s. on_each CurrentEnds s _ _ _ (undone a.args.held code _ routes) (λ later. refl) refl
+  undo code ctx routes = λ s. on_each CurrentEnds s _ _ _ (undone (is_some a.args.held_alternate) code _ routes) (λ later. refl) refl
 
   switched : (ctx routes : List ℕ) → CurrentEnds (claim_switch a ctx routes)
   unfolding EachEnd claim_switch claim_publish number

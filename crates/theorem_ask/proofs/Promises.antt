@@ -1,4 +1,5 @@
 -- What ask, commit and claim are to each other.
+use Rattle.std.proofs.Common.{Ok, Err}
 use Prim.Native.Nat.{ℕ, zero, suc, ◌+◌, ◌/◌, ◌%◌, ◌^◌, ◌<◌, ◌≤◌}
 use mathlib.Core.Path.{◌≡◌, refl, sym, ap, ◌∙◌}
 use mathlib.Core.Logic.{inl, inr}
@@ -13,8 +14,7 @@ use Rattle.laws.proofs.Cases.{Decided, decided, false_if}
 use Rattle.laws.proofs.Tests.{and_left, and_right, not_both}
 use Rattle.answer.specs.declared.Answer.{Answer}
 use Rattle.answer.specs.declared.Answer.TheVariants as answer
-use Rattle.answer.specs.declared.Check.{Check}
-use Rattle.answer.specs.declared.Check.TheVariants.{Pass, Refuse}
+use Rattle.answer.specs.Check.{Check, Pass, Refuse}
 use Rattle.answer.specs.Answer.{number, is_accepted}
 use Rattle.command.specs.declared.Command.TheVariants as command
 use Rattle.command.specs.Command.{command_word}
@@ -135,7 +135,7 @@ ask_promise d ctx routes log o i a = go (ask_check d (length ctx) (length routes
   where
     go : (x : Check) → ask_check d (length ctx) (length routes) (length log) i a Pass ≡ x →
         AskTells d ctx routes log o i a (asked_now d ctx routes log o i a)
-    go Pass e =
+    go (Ok _) e =
         rw (asked_pass d ctx routes log o i a e)
         (record {
           accepted = λ h. sym (claim_promise d ctx routes log o i a);
@@ -143,7 +143,7 @@ ask_promise d ctx routes log o i a = go (ask_check d (length ctx) (length routes
           claims = λ h. accepted_not h;
           commits = λ h. accepted_not h;
         })
-    go (Refuse z) e =
+    go (Err z) e =
         rw (asked_refused d ctx routes log o i a z e)
         (record {
           accepted = λ h. absurd (not_accepted d _ _ _ i a z e h);
@@ -184,7 +184,7 @@ module _ (d : Device) (ctx routes log o : List ℕ) (p : Ask) where
   outdated_tells : (x : Check) → k ≡ x →
       OutdatedTells d ctx routes log o p (asked_now d ctx routes log o p.interface p.alternate) (commit d ctx routes log o p)
   unfolding refused
-  outdated_tells Pass e = rw (asked_pass d ctx routes log o p.interface p.alternate e) (go (decided (same_ask p now)))
+  outdated_tells (Ok _) e = rw (asked_pass d ctx routes log o p.interface p.alternate e) (go (decided (same_ask p now)))
     where
       go : Decided (same_ask p now) → OutdatedTells d ctx routes log o p (answer.Accepted, now) (commit d ctx routes log o p)
       go (inl s) =
@@ -202,7 +202,7 @@ module _ (d : Device) (ctx routes log o : List ℕ) (p : Ask) where
             only = λ h. (refl, λ q. not_both (same_ask p now) (ap (same_ask p) q ∙ same_ask_self p) s);
             left = λ h. (l, (checks e).0.usable);
           }
-  outdated_tells (Refuse z) e =
+  outdated_tells (Err z) e =
       let l = commit_refused d ctx routes log o p z e in
       let is : (commit d ctx routes log o p).answer ≡ z = ap (λ (y : Left). y.answer) l in
       rw (asked_refused d ctx routes log o p.interface p.alternate z e)
@@ -298,5 +298,5 @@ shown_promise d ctx routes log i a = go (ask_check d (length ctx) (length routes
         let n = length (queues_of (owned_rings (Interface i) (endpoint_map_in d))) in
         let r = asked_now d ctx routes log (replicate n 0) i a in
         r.0 ≡ answer.Accepted → FlagsShown d n r.1 (claim d ctx routes log (replicate n 0) i a)
-    go Pass e = rw (asked_pass d ctx routes log [] i a e) (λ h. flags_shown d ctx routes log i a e)
-    go (Refuse z) e = rw (asked_refused d ctx routes log [] i a z e) (λ h. absurd (not_accepted d _ _ _ i a z e h))
+    go (Ok _) e = rw (asked_pass d ctx routes log [] i a e) (λ h. flags_shown d ctx routes log i a e)
+    go (Err z) e = rw (asked_refused d ctx routes log [] i a z e) (λ h. absurd (not_accepted d _ _ _ i a z e h))

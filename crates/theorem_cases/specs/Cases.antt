@@ -1,9 +1,7 @@
 -- 01's worked examples, held against the definitions that the contracts name.
-use Rattle.std.specs.Prelude.{ℕ, ◌+◌, ◌*◌, ◌^◌, Bool, true, false, cond, ◌&&◌, List, [], ◌∷◌, eqb, take, replicate}
+use Rattle.std.specs.Prelude.{ℕ, ◌+◌, ◌*◌, ◌^◌, Bool, true, false, cond, ◌&&◌, List, [], ◌∷◌, eqb, take, replicate, Option, Some, None}
 use Rattle.def.specs.Speed.{HIGH, SUPER}
 use Rattle.hub.specs.declared.hub_word.HubInfo.{HubInfo}
-use Rattle.hub.specs.declared.think.ThinkTime.{ThinkTime}
-use Rattle.hub.specs.declared.think.ThinkTime.TheVariants.{Value, Refused}
 use Rattle.hub.specs.Chain.{chain_ok}
 use Rattle.hub.specs.Route.{route_string}
 use Rattle.hub.specs.ThinkTime.{think_time}
@@ -26,7 +24,7 @@ use Rattle.theorem_cases.specs.Example.{list, given, asked, usual, ctx, log, fre
 
 -- One example: what is given, and what 01 expects.
 pub data Case : Type 0 where
-  route : (hubs : List ℕ) (has_parent : Bool) (parent port expected : ℕ) → Case
+  route : (hubs : List ℕ) (parent : Option ℕ) (port expected : ℕ) → Case
   think : (ns expected : ℕ) → Case
   added : (spacing speed word ring first second fifth entries : ℕ) → Case
   -- what a claim of Dci 3 leaves at a spacing: doublewords 0, 1 and 4 of its block, and the entries
@@ -130,16 +128,16 @@ released spacing = let l = first_claim_at spacing in release l.device l.ctx l.ro
 -- A claim of interrupt 0x8F, whose Dci is 31.
 abbrev pub last : (spacing : ℕ) → Left
 last spacing =
-    let l = bring_up (asked 1 HIGH 8 false (0x00400000 ∷ 0x40000000 ∷ interrupt8_f ∷ [])) (replicate (33 * spacing) 0) free log done in
+    let l = bring_up (asked 1 HIGH 8 None (0x00400000 ∷ 0x40000000 ∷ interrupt8_f ∷ [])) (replicate (33 * spacing) 0) free log done in
     claim l.device (replicate (33 * spacing) 0) l.routes log done 0 0
 
 -- 01's cases, after them a call for each answer from 0 to 19, 21 and 22, and unpluggings. The ring of the added endpoint is any.
 abbrev pub cases : (ring : ℕ) → List Case
 cases ring =
-    route hubs true outer 7 0x7
-    ∷ route hubs true inner 2 0x24
-    ∷ route hubs true outer 20 0xF
-    ∷ route hubs false root 7 0
+    route hubs (Some outer) 7 0x7
+    ∷ route hubs (Some inner) 2 0x24
+    ∷ route hubs (Some outer) 20 0xF
+    ∷ route hubs None 7 0
     ∷ think 0 0
     ∷ think 666 0
     ∷ think 1331 0
@@ -161,22 +159,22 @@ cases ring =
     ∷ answered (bring_up usual (replicate 1055 0) free log done) 1 0
     ∷ answered (bring_up usual ctx (replicate 63 0) log done) 2 0
     ∷ answered (bring_up usual ctx free (replicate 63 0) done) 3 0
-    ∷ answered (bring_up (asked 1 HIGH 8 false (0xC0000000 ∷ [])) ctx free log done) 4 0
-    ∷ answered (bring_up (asked 1 HIGH 8 true list) ctx free log done) 5 0
-    ∷ answered (bring_up (asked 1 6 8 false list) ctx free log done) 6 0
+    ∷ answered (bring_up (asked 1 HIGH 8 None (0xC0000000 ∷ [])) ctx free log done) 4 0
+    ∷ answered (bring_up (asked 1 HIGH 8 (Some 0) list) ctx free log done) 5 0
+    ∷ answered (bring_up (asked 1 6 8 None list) ctx free log done) 6 0
     ∷ answered (hub_update second.device ctx second.routes log done 4 false 1) 7 0
     ∷ answered (claim second.device ctx second.routes log done 2 0) 8 0
     ∷ answered (claim second.device ctx second.routes log done 1 0) 9 0
-    ∷ answered (bring_up (given (32 ∷ 16 ∷ 32 ∷ []) 1 HIGH 8 false list) ctx free log done) 10 0
-    ∷ answered (bring_up (asked 0 HIGH 8 false list) ctx free log done) 11 0
+    ∷ answered (bring_up (given (32 ∷ 16 ∷ 32 ∷ []) 1 HIGH 8 None list) ctx free log done) 10 0
+    ∷ answered (bring_up (asked 0 HIGH 8 None list) ctx free log done) 11 0
     ∷ answered (release no_device ctx free log done 0) 12 0
     ∷ answered (set_configuration second.device ctx second.routes log (0 ∷ 7 ∷ 0 ∷ []) 1) 13 7
     ∷ answered (claim second.device ctx second.routes log (0 ∷ 0 ∷ 7 ∷ 5 ∷ []) 0 1) 14 0
     ∷ answered (release second.device ctx second.routes log [] 0) 15 0
-    ∷ answered (bring_up (asked 1 HIGH 4 false list) ctx free log done) 16 0
+    ∷ answered (bring_up (asked 1 HIGH 4 None list) ctx free log done) 16 0
     ∷ answered (bring_up usual ctx brought_up.routes log done) 17 0
     ∷ answered (release second.device ctx free log done 0) 18 0
-    ∷ answered (bring_up (asked 1 SUPER 8 false list) ctx free log done) 19 0
+    ∷ answered (bring_up (asked 1 SUPER 8 None list) ctx free log done) 19 0
     ∷ answered (claim alone.device ctx alone.routes log done 0 0) 21 0
     ∷ answered (commit second.device ctx second.routes log done (asking 0 1 0 0 [])) 22 0
     ∷ answered (commit alone.device ctx alone.routes log done (asking 0 0 0 0 [])) 21 0
@@ -187,9 +185,9 @@ cases ring =
     ∷ unplugs (disconnect no_device ctx free log done) [] 12
     ∷ []
 
-abbrev pub is_value : ℕ → ThinkTime → Bool
-is_value expected (Value v) = eqb v expected
-is_value expected Refused = false
+abbrev pub is_value : ℕ → Option ℕ → Bool
+is_value expected (Some v) = eqb v expected
+is_value expected None = false
 
 abbrev pub same_words : List ℕ → List ℕ → Bool
 same_words [] [] = true
@@ -198,8 +196,7 @@ same_words (v ∷ vs) [] = false
 same_words (v ∷ vs) (w ∷ ws) = eqb v w && same_words vs ws
 
 abbrev pub case_holds : Case → Bool
-case_holds (route hubs has_parent parent port expected) =
-    chain_ok hubs has_parent parent && eqb (route_string hubs has_parent parent port) expected
+case_holds (route hubs parent port expected) = chain_ok hubs parent && eqb (route_string hubs parent port) expected
 case_holds (think ns expected) = is_value expected (think_time ns)
 case_holds (added spacing speed word ring first second fifth entries) =
     added_holds spacing speed word ring first second fifth entries

@@ -1,5 +1,5 @@
 -- A device with one configuration and two interfaces that list endpoint 0x81, brought up, and then holding a setting.
-use Rattle.std.specs.Prelude.{ℕ, Bool, false, List, [], ◌∷◌, replicate}
+use Rattle.std.specs.Prelude.{ℕ, List, [], ◌∷◌, Option, None, replicate}
 use Rattle.def.specs.Speed.{HIGH}
 use Rattle.course_init.specs.Reading.{BringUp}
 use Rattle.device_bring_up.specs.BringUp.{bring_up}
@@ -12,15 +12,14 @@ abbrev pub list : List ℕ
 list = 0x00400000 ∷ 0x40000000 ∷ interrupt81 ∷ 0x40004000 ∷ interrupt81 ∷ 0x40400000 ∷ interrupt81 ∷ []
 
 -- A bring-up on a slot of 1 with some rings, and with three.
-abbrev pub given : (rings : List ℕ) (slot speed header : ℕ) (has_parent : Bool) (list : List ℕ) → BringUp
-given rings slot speed header has_parent list =
+abbrev pub given : (rings : List ℕ) (slot speed header : ℕ) (parent : Option ℕ) (list : List ℕ) → BringUp
+given rings slot speed header parent list =
     record {
       slot = slot;
       max_slots = 1;
       speed = speed;
       hubs = [];
-      has_parent = has_parent;
-      parent = 0;
+      parent = parent;
       port = 1;
       root_port = 1;
       rings = rings;
@@ -30,11 +29,11 @@ given rings slot speed header has_parent list =
       list = list;
     }
 
-abbrev pub asked : (slot speed header : ℕ) (has_parent : Bool) (list : List ℕ) → BringUp
+abbrev pub asked : (slot speed header : ℕ) (parent : Option ℕ) (list : List ℕ) → BringUp
 asked = given (48 ∷ 16 ∷ 32 ∷ [])
 
 abbrev pub usual : BringUp
-usual = asked 1 HIGH 8 false list
+usual = asked 1 HIGH 8 None list
 
 abbrev pub ctx : List ℕ
 ctx = replicate 1056 0
@@ -50,7 +49,7 @@ done = replicate 10 0
 
 -- The device brought up with a ring for control only; with more; and then with interface 0 holding alternate 0.
 abbrev pub alone : Left
-alone = bring_up (given (16 ∷ []) 1 HIGH 8 false list) ctx free log done
+alone = bring_up (given (16 ∷ []) 1 HIGH 8 None list) ctx free log done
 
 abbrev pub brought_up : Left
 brought_up = bring_up usual ctx free log done

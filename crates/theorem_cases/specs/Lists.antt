@@ -1,5 +1,5 @@
 -- Lists of calls on one slot, what each call answers, and what is left after them: docs/THEOREM.md works through them.
-use Rattle.std.specs.Prelude.{ℕ, zero, suc, ◌+◌, Bool, true, false, not, cond, ◌&&◌, List, [], ◌∷◌, ◌++◌, eqb, length, replicate}
+use Rattle.std.specs.Prelude.{ℕ, zero, suc, ◌+◌, Bool, true, false, not, cond, ◌&&◌, List, [], ◌∷◌, ◌++◌, eqb, length, replicate, None}
 use Rattle.def.specs.Speed.{HIGH}
 use Rattle.answer.specs.declared.Answer.{Answer}
 use Rattle.answer.specs.declared.Answer.TheVariants as answer
@@ -43,8 +43,7 @@ device =
       max_slots = 2;
       speed = HIGH;
       hubs = [];
-      has_parent = false;
-      parent = 0;
+      parent = None;
       port = 1;
       root_port = 1;
       rings = 96 ∷ 32 ∷ 64 ∷ 16 ∷ 80 ∷ 48 ∷ [];

@@ -16,7 +16,7 @@ use Rattle.descriptor_list.specs.Valid.{configurations}
 use Rattle.descriptor_list.proofs.Laws.{valid_configurations}
 use Rattle.transfer.specs.Routes.{with_route}
 use Rattle.answer.specs.declared.Answer.TheVariants as answer
-use Rattle.answer.specs.declared.Check.TheVariants.{Pass}
+use Rattle.answer.specs.Check.{Pass}
 use Rattle.command.specs.declared.Command.{Command}
 use Rattle.command.specs.declared.Command.TheVariants as command
 use Rattle.command.proofs.Reached.{CutHere, dones_before, dones_past, fails_before, fails_there, fails_past}

@@ -8,7 +8,7 @@ use lib.ListN.{length}
 use Rattle.laws.specs.Distinct.{elem}
 use Rattle.laws.proofs.Distinct.{elem_here, elem_there, elem_place}
 use Rattle.answer.specs.declared.Answer.TheVariants as answer
-use Rattle.answer.specs.declared.Check.TheVariants.{Pass}
+use Rattle.answer.specs.Check.{Pass}
 use Rattle.command.specs.declared.Command.TheVariants as command
 use Rattle.command.proofs.Reached.{CutHere, dones_before, dones_past, fails_before, fails_there, fails_past}
 use Rattle.context.specs.Place.{Spaced}

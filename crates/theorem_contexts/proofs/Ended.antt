@@ -5,8 +5,7 @@ use mathlib.Core.List.{List}
 use native.Mathlib.Omega.{arith}
 use lib.ListN.{length, get_or}
 use Rattle.answer.specs.declared.Answer.{Answer}
-use Rattle.answer.specs.declared.Check.{Check}
-use Rattle.answer.specs.declared.Check.TheVariants.{Pass}
+use Rattle.answer.specs.Check.{Check, Pass}
 use Rattle.command.specs.declared.Command.{Command}
 use Rattle.command.specs.Command.{command_word}
 use Rattle.command.specs.Course.{Course, played}

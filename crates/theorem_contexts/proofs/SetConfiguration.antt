@@ -5,11 +5,11 @@ use mathlib.Core.List.{List, []}
 use native.Mathlib.Omega.{arith}
 use lib.ListN.{length}
 use Rattle.answer.specs.declared.Answer.TheVariants as answer
-use Rattle.answer.specs.declared.Check.TheVariants.{Pass}
+use Rattle.answer.specs.Check.{Pass}
 use Rattle.command.specs.declared.Command.TheVariants as command
 use Rattle.command.proofs.Reached.{CutHere, dones_before, dones_past, fails_before, fails_there, fails_past}
 use Rattle.context.specs.Place.{Spaced}
-use Rattle.transfer.specs.declared.Replaced.TheVariants as replace
+use Rattle.std.proofs.Common.{Ok}
 use Rattle.transfer.specs.Routes.{replaced, with_replaced}
 use Rattle.record_endpoint.proofs.Laws.{queues_fit}
 use Rattle.course_steps.specs.End.{settings_kept, settings_moved}
@@ -60,7 +60,7 @@ module _ (d : Device) (ctx routes log : List ℕ) (value : ℕ)
       (fails_there (n + 1) code z)
       (let two : n + 1 + 1 ≡ n + 2 = omega arith in rw two at (fails_past (n + 1) code))
 
-  evaluate_cut : replaced routes d.slot.0 (record_endpoints d) [] ≡ replace.Done →
+  evaluate_cut : replaced routes d.slot.0 (record_endpoints d) [] ≡ Ok (tt {0}) →
       CutHere (done_times (n + 2)) (set_course s ctx routes) (n + 2) command.Evaluate
       (settings_moved answer.Cut (value_context s (drop_context s ctx)) (with_replaced routes d.slot.0 (record_endpoints d) []))
   unfolding n s settings_in

@@ -1,21 +1,20 @@
 -- What the controller reads at each command that reads the input context, by call: what the same call leaves when it is given only the
 -- outcomes before that command. Named fields have the values that the call's arguments and its record give them, spelled here; every
 -- other bit is as the command before that reads the context left it, at the first as it was lent. The proofs prove each `..Contexts`.
-use Rattle.std.specs.Prelude.{ℕ, ◌+◌, ◌^◌, ◌<◌, ◌≡◌, Bool, cond, List, [], ◌∷◌, ◌++◌, eqb, length, get_or, replicate}
+use Rattle.std.specs.Prelude.{ℕ, ◌+◌, ◌^◌, ◌<◌, ◌≡◌, Bool, cond, List, [], ◌∷◌, ◌++◌, eqb, length, get_or, replicate, Ok}
 use Rattle.def.specs.Speed.{is_super}
 use Rattle.descriptor.specs.Word.{configuration_value}
 use Rattle.descriptor_list.specs.Valid.{configurations}
 use Rattle.hub.specs.Route.{route_string}
 use Rattle.hub.specs.Translator.{translator_of}
 use Rattle.hub.specs.ThinkTime.{think_time}
-use Rattle.transfer.specs.declared.Replaced.TheVariants as replace
 use Rattle.transfer.specs.Routes.{Queue, queues, replaced}
 use Rattle.context.specs.Steps.{word_dcis}
 use Rattle.context.specs.Promises.{AddressReads, MaxPacketReads, ConfigurationReads, HubReads, ConfigureReads}
 use Rattle.command.specs.declared.Command.{Command}
 use Rattle.command.specs.declared.Command.TheVariants as command
 use Rattle.command.specs.Command.{command_word}
-use Rattle.answer.specs.declared.Check.TheVariants.{Pass}
+use Rattle.answer.specs.Check.{Pass}
 use Rattle.record_endpoint.specs.declared.endpoint_map.Owner.TheVariants.{Interface}
 use Rattle.record_endpoint.specs.EndpointMap.{owned_rings, queues_of, queue_dcis}
 use Rattle.record_settings.specs.Held.{is_held, alternate_of, setting_words, held_words}
@@ -126,7 +125,7 @@ pub record SetReads (d : Device) (value : ℕ) (ctx routes : List ℕ) (call : L
   pub evaluate :
       let stops = length (record_endpoints d) in
       let was = (call (done_times stops)).ctx in
-      replaced routes d.slot.0 (record_endpoints d) [] ≡ replace.Done →
+      replaced routes d.slot.0 (record_endpoints d) [] ≡ Ok (tt {0}) →
       SentAt (stops + 2) command.Evaluate (ConfigurationReads d.spacing value was) (call (done_times (stops + 2)))
 
 abbrev pub SetContexts : Type 0
@@ -157,8 +156,8 @@ size_said a = cond (is_super a.speed) 512 (cond (eqb a.packet 0) 8 a.packet)
 -- configurations and they are read, the set configuration of the first, with no endpoint.
 pub record BringUpReads (a : BringUp) (s : ℕ) (call : List ℕ → Left) : Type 0 where
   pub address :
-      let route = route_string a.hubs a.has_parent a.parent a.port in
-      let translator = translator_of a.speed a.hubs a.has_parent a.parent a.port in
+      let route = route_string a.hubs a.parent a.port in
+      let translator = translator_of a.speed a.hubs a.parent a.port in
       SentAt 0 command.Address (AddressReads s a.speed route translator a.root_port (control_ring a)) (call [])
   pub packet :
       HeaderRead a → SentAt 2 command.Evaluate (MaxPacketReads s (size_said a) (call []).ctx) (call (done_times 2))

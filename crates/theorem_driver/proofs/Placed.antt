@@ -91,8 +91,8 @@ module _ (o : List ℕ) where
 
       abbrev addressed : List ℕ
       addressed =
-          address_context spacing a.speed (route_string a.hubs a.has_parent a.parent a.port)
-          (translator_of a.speed a.hubs a.has_parent a.parent a.port) a.root_port (control_ring a) ctx
+          address_context spacing a.speed (route_string a.hubs a.parent a.port)
+          (translator_of a.speed a.hubs a.parent a.port) a.root_port (control_ring a) ctx
 
       abbrev sized : List ℕ
       sized = written spacing (max_packet_writes a.speed a.packet) addressed

@@ -25,7 +25,6 @@ guessing a g =
       max_slots = a.max_slots;
       speed = a.speed;
       hubs = a.hubs;
-      has_parent = a.has_parent;
       parent = a.parent;
       port = a.port;
       root_port = a.root_port;

@@ -14,7 +14,8 @@ use Rattle.device_image.specs.Image.{decode, is_image}
 use Rattle.device_image.specs.Layout.{WORDS}
 use Rattle.device_image.specs.Fits.{Fits}
 use Rattle.device_image.proofs.Laws.{image_encode, decode_encode}
-use Rattle.xhci_device.specs.Crossed.{Crossed, answered_of, crossed, CrossedAs}
+use Rattle.answer.specs.Answered.{answered_of}
+use Rattle.xhci_device.specs.Crossed.{Crossed, crossed, CrossedAs}
 use Rattle.theorem_slot.specs.Call.{Buffers, Asked, brings_up, claims, commits, releases, configures, updates_hub, disconnects, left}
 use Rattle.theorem_slot.specs.Rings.{first}
 use Rattle.theorem_slot.specs.Theorem.{State, record_after, called, after, Turns, start}

@@ -17,7 +17,7 @@ use Rattle.descriptor.specs.Endpoint.{dci_of}
 use Rattle.descriptor.proofs.Laws.{endpoint_word_lem, dci_word}
 use Rattle.context_block.specs.Blocks.{word_dci, some_dci}
 use Rattle.context.specs.Steps.{word_dcis}
-use Rattle.transfer.specs.declared.Replaced.TheVariants as replace
+use Rattle.std.specs.Prelude.{Ok}
 use Rattle.transfer.specs.Routes.{Queue, queues, names, route_index, route_of, old_match, is_free, new_free, replaced, with_replaced, ring_for, OutsideSlot}
 use Rattle.transfer.proofs.Laws.{Apart, index_same, ring_for_none, done_replaced, replaced_at, replaced_length, replaced_other, replaced_outside}
 use Rattle.record_endpoint.specs.Order.{PLACES, dci_at}
@@ -86,7 +86,7 @@ module _ (routes : List ℕ) (slot : ℕ) (c : EndpointMap) (x y : List ℕ)
   part_old n = old_from routes slot x 30 0 (omega arith) (λ p h z. n p h (λ e. z (sym (part p h z) ∙ e)) ∙ part p h z)
 
   part_at :
-      replaced routes slot (queues_of x) (queues_of y) ≡ replace.Done → InTable routes slot → (p : ℕ) → p < 30 →
+      replaced routes slot (queues_of x) (queues_of y) ≡ Ok tt → InTable routes slot → (p : ℕ) → p < 30 →
       route_of (with_replaced routes slot (queues_of x) (queues_of y)) slot (dci_at p)
       ≡ cond (eqb (get_or y p 0) 0) (cond (not (eqb (get_or x p 0) 0)) 0 (route_of routes slot (dci_at p))) (get_or y p 0)
   part_at done room p h =
@@ -113,7 +113,7 @@ module _ (routes : List ℕ) (slot : ℕ) (c : EndpointMap) (x y : List ℕ)
     unfolding queues_of queue_at
     part_new = new_from routes slot y (queues_of x) 30 0 (omega arith) part_free
 
-    part_done : replaced routes slot (queues_of x) (queues_of y) ≡ replace.Done
+    part_done : replaced routes slot (queues_of x) (queues_of y) ≡ Ok tt
     part_done = done_replaced routes slot (queues_of x) (queues_of y) (part_old (λ p h z. r p h)) part_new
 
     part_routed :
@@ -168,7 +168,7 @@ module _ (routes : List ℕ) (slot : ℕ) (i : ℕ) (pending : List ℕ) (c : En
 
   -- Whatever else the slot's words hold.
   pub claim_named :
-      replaced routes slot (queues_of old) (queues_of pending) ≡ replace.Done → NamedBy routes slot c → InTable routes slot →
+      replaced routes slot (queues_of old) (queues_of pending) ≡ Ok tt → NamedBy routes slot c → InTable routes slot →
       NamedBy (with_replaced routes slot (queues_of old) (queues_of pending)) slot (claimed_endpoints i pending c)
   unfolding claimed_ring
   claim_named done n room p h z =
@@ -217,16 +217,16 @@ no_words i c = refl
 module _ (routes : List ℕ) (slot : ℕ) (c : EndpointMap) (n : NamedBy routes slot c) where
   out_done :
       (x : List ℕ) → ((p : ℕ) → p < 30 → (get_or x p 0 ≡ 0 → ⊥) → get_or c.rings p 0 ≡ get_or x p 0) →
-      replaced routes slot (queues_of x) [] ≡ replace.Done
+      replaced routes slot (queues_of x) [] ≡ Ok tt
   unfolding new_free
   out_done x part = done_replaced routes slot (queues_of x) [] (part_old routes slot c x [] part n) refl
 
   -- An interface's, by a release.
-  pub release_done : (i : ℕ) → replaced routes slot (queues_of (owned_rings (Interface i) c)) [] ≡ replace.Done
+  pub release_done : (i : ℕ) → replaced routes slot (queues_of (owned_rings (Interface i) c)) [] ≡ Ok tt
   release_done i = out_done (owned_rings (Interface i) c) (owned_part (Interface i) c)
 
   -- All, by a set configuration.
-  pub bare_done : replaced routes slot (queues_of c.rings) [] ≡ replace.Done
+  pub bare_done : replaced routes slot (queues_of c.rings) [] ≡ Ok tt
   bare_done = out_done c.rings (λ p h z. refl)
 
 module _ (routes : List ℕ) (slot : ℕ) (c : EndpointMap) (r : RoutedBy routes slot c) (room : InTable routes slot) where

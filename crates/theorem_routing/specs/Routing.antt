@@ -1,6 +1,5 @@
 -- The routes of a slot, told by its endpoints by place.
-use Rattle.std.specs.Prelude.{ℕ, ◌+◌, ◌*◌, ◌≤◌, ◌<◌, ◌≡◌, List, length, get_or}
-use Rattle.transfer.specs.declared.Replaced.TheVariants as replace
+use Rattle.std.specs.Prelude.{ℕ, ◌+◌, ◌*◌, ◌≤◌, ◌<◌, ◌≡◌, List, length, get_or, Ok}
 use Rattle.transfer.specs.Routes.{Queue, route_of, replaced, with_replaced}
 use Rattle.record_endpoint.specs.Order.{PLACES, dci_at}
 use Rattle.record_endpoint.specs.declared.endpoint_map.EndpointMap.{EndpointMap}
@@ -20,5 +19,5 @@ NamedBy routes slot c =
 
 -- `replace_queues` finds the old routes right and the new ones free, and leaves the routes of these endpoints.
 pub record Rerouted (routes : List ℕ) (slot : ℕ) (old new : List Queue) (c : EndpointMap) : Type 0 where
-  pub done : replaced routes slot old new ≡ replace.Done
+  pub done : replaced routes slot old new ≡ Ok tt
   pub routed : RoutedBy (with_replaced routes slot old new) slot c

@@ -2,7 +2,7 @@
 use Prim.Native.Nat.{ℕ, ◌+◌, ◌*◌, ◌<◌, ◌≤◌}
 use mathlib.Core.Path.{◌≡◌, refl, sym, ◌∙◌, ap, subst}
 use mathlib.Core.List.{List, [], ◌∷◌}
-use mathlib.Core.Bool.{Bool, true, false, not, cond, ◌&&◌, or-false}
+use mathlib.Core.Bool.{Bool, true, false, not, cond, ◌&&◌, or-false, and-false, and-true as and_one}
 use mathlib.Core.Logic.{◌⊎◌, inl, inr}
 use native.Mathlib.Omega.{arith}
 use borrow.Author.Tests.{ne_eqb, eqb-true}
@@ -34,21 +34,14 @@ use Rattle.theorem_slot.specs.Groups.{given_groups}
 use Rattle.theorem_slot.specs.Plain.{Plain, is_up, is_not_up, held_queues, plain_route, is_held_dci, begins, effect_of, begun, failed, groups_after, anew, seen, observed}
 use Rattle.theorem_slot.specs.Rings.{OfRecord}
 use Rattle.theorem_slot.specs.Theorem.{State, record_after, called, start, Untouched}
-use Rattle.theorem_slot.proofs.Settings.{eqb_turned, AllFit, pairs}
+use Rattle.record_settings.proofs.Laws.{eqb_turned}
+use Rattle.theorem_slot.proofs.Settings.{AllFit, pairs}
 use Rattle.theorem_slot.proofs.Good.{Down, Unrouted, Good, Empty, Failed, Stands, stands_down}
 use Rattle.theorem_slot.proofs.Record.{used_by, in_doubt, AgreeWith}
 use Rattle.theorem_slot.proofs.Moved.{has_none}
 use Rattle.theorem_slot.proofs.Parted.{least_nonzero, agree_given, parted_given}
 use Rattle.theorem_slot.proofs.Step.{observed_refused}
 use Rattle.theorem_slot.proofs.Ends.{bring_up_sends}
-
-and_true_one : (b : Bool) → (b && true) ≡ b
-and_true_one true = refl
-and_true_one false = refl
-
-and-false : (b : Bool) → (b && not true) ≡ false
-and-false true = refl
-and-false false = refl
 
 -- The accepted bring-up.
 module _ (b : BringUp) (l : Buffers) (routes : List ℕ) where
@@ -261,7 +254,7 @@ module _ (a : BringUp) (spacing : ℕ) (e : Brought) where
             (sym (elem_not_among x (control_ring a ∷ []) a.rings ∙ rw (or-false (eqb x (least a.rings))) refl));
         live = λ x.
             rw (brought_live, record_quarantined a spacing e)
-            (sym (rw (or-false (eqb x (least a.rings))) (and_true_one (eqb x (least a.rings)))));
+            (sym (rw (or-false (eqb x (least a.rings))) (and_one (eqb x (least a.rings)))));
         quarantined = λ x. rw (record_quarantined a spacing e) refl;
       }
 

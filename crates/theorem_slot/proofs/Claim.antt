@@ -1,11 +1,12 @@
 -- A claim keeps the invariant.
+use Rattle.std.proofs.Common.{Ok}
 use Prim.Native.Nat.{ℕ, ◌≤◌, ◌<◌}
 use mathlib.Core.Path.{◌≡◌, refl, sym, ◌∙◌, ap}
-use mathlib.Core.Bool.{Bool, true, false, not, cond}
+use mathlib.Core.Bool.{true, false, not, cond}
 use mathlib.Core.List.{List, [], ◌∷◌, ◌++◌}
 use mathlib.Core.Logic.{◌⊎◌, inl, inr, ◌↔◌}
 use native.Mathlib.Omega.{arith}
-use borrow.Author.Tests.{eq-eqb, ne_eqb, eqb-true}
+use borrow.Author.Tests.{eq-eqb, ne_eqb, eqb-true, not-false}
 use lib.Dec.{eqb}
 use lib.ListN.{length, get_or}
 use Rattle.laws.proofs.Tests.{not_both}
@@ -14,7 +15,7 @@ use Rattle.record_ring.specs.Rings.{offer_ok}
 use Rattle.record_ring.proofs.Laws.{Offered}
 use Rattle.answer.specs.declared.Answer.{Answer}
 use Rattle.answer.specs.declared.Answer.TheVariants as answer
-use Rattle.answer.specs.declared.Check.TheVariants.{Pass}
+use Rattle.answer.specs.Check.{Pass}
 use Rattle.answer.specs.Answer.{number, is_accepted, is_broken, is_lost}
 use Rattle.command.specs.declared.Sent.TheVariants as sent
 use Rattle.command.specs.Command.{outcome_at}
@@ -23,7 +24,6 @@ use Rattle.command.proofs.Operations.{ByteOperands, operation, EachCommand}
 use Rattle.context_block.specs.Blocks.{some_dci}
 use Rattle.context.specs.Place.{Spaced}
 use Rattle.context.specs.Steps.{word_dcis}
-use Rattle.transfer.specs.declared.Replaced.TheVariants as replace
 use Rattle.transfer.specs.Routes.{Queue, route_of, queues, ring_for, replaced, with_replaced}
 use Rattle.record_endpoint.specs.Order.{dci_at}
 use Rattle.record_endpoint.specs.EndpointMap.{is_owned, owned_rings, queues_of, pending_rings, claimed_endpoints, with_active}
@@ -47,6 +47,7 @@ use Rattle.device.specs.Check.{record_check}
 use Rattle.device.specs.Calls.{on_check}
 use Rattle.device.specs.Ask.{asking, commit}
 use Rattle.device.specs.Claim.{claim_check, drawn, pending_of, claim_in, claim_record, claim}
+use Rattle.device.proofs.ClaimLaws.{undone_to}
 use Rattle.device.proofs.Laws.{Passed, passed}
 use Rattle.device.proofs.Kept.{ClaimPassed, claim_passed, claim_moves, claim_stays, claim_quarantined}
 use Rattle.theorem_slot.specs.Call.{Buffers, claims, commits, left, cut_at, context_cut}
@@ -62,10 +63,6 @@ use Rattle.theorem_slot.proofs.Record.{AgreeWith, draws_same}
 use Rattle.theorem_slot.proofs.Moved.{claim_keeps, agree_accepted, agree_broke}
 use Rattle.theorem_slot.proofs.Made.{fit_active, agree_made, made_moved, made_same, byte_dcis}
 use Rattle.theorem_slot.proofs.Claimed.{some_place, owned_ring, free_ring, fits_other, fits_own, pending_free, claimed_some}
-
-has_if : (b : Bool) → not b ≡ false → b ≡ true
-has_if true e = refl
-has_if false e = sym e
 
 -- What was drawn meets what 01 asks of rings offered.
 offer_ok_lem :
@@ -169,7 +166,7 @@ module _ (slot : ℕ) (before : List ℕ) (s : State) (buffers : Buffers) (i a :
         offer
 
     named :
-        replaced s.routes slot (queues_of old) (queues_of pending) ≡ replace.Done →
+        replaced s.routes slot (queues_of old) (queues_of pending) ≡ Ok (tt {0}) →
         NamedBy (with_replaced s.routes slot (queues_of old) (queues_of pending)) slot (claimed_endpoints i pending (endpoint_map_in d))
     named done =
         claim_named s.routes slot i pending (endpoint_map_in d) done
@@ -235,7 +232,7 @@ module _ (slot : ℕ) (before : List ℕ) (s : State) (buffers : Buffers) (i a :
     idle : (q : ℕ) → q < 30 → eqb (get_or pending q 0) 0 ≡ false → is_owned (Interface i) (endpoint_map_in d) q ≡ false → get_or (endpoint_map_in d).rings q 0 ≡ 0
     idle q h z o =
         eqb-true (get_or (endpoint_map_in d).rings q 0) 0
-        (free_ring new_words i (endpoint_map_in d) q tests.free h (has_if (has_place q new_words) (sym (places q h) ∙ z)) o)
+        (free_ring new_words i (endpoint_map_in d) q tests.free h (not-false (has_place q new_words) (sym (places q h) ∙ z)) o)
 
     -- The groups after each answer.
     accepted_groups : end.answer ≡ answer.Accepted → end.moved ≡ true → AgreeWith now.device now.plain.groups
@@ -337,7 +334,7 @@ module _ (slot : ℕ) (before : List ℕ) (s : State) (buffers : Buffers) (i a :
     unfolding course claim_in
     bytes =
         claim_operands (claim_in d i a rings) buffers.ctx s.routes byte alternate-byte-new
-        (rw (← l.held) (alternate_byte (endpoint_map_in d) i p.held l.fits))
+        (rw (undone_to i (held_of d), ← l.held) (alternate_byte (endpoint_map_in d) i p.held l.fits))
         (byte_dcis (owned_rings (Interface i) (endpoint_map_in d)))
 
     good_end : Good slot before now

@@ -1,11 +1,11 @@
 -- The plain slot's settings beside the endpoints that a claim or a release leaves.
 use Prim.Native.Nat.{ℕ, suc, ◌≤◌, ◌<◌}
 use mathlib.Core.Path.{◌≡◌, refl, sym, ◌∙◌}
-use mathlib.Core.Bool.{Bool, true, false, not, cond, ◌&&◌, ◌||◌}
+use mathlib.Core.Bool.{Bool, true, false, not, cond, ◌&&◌, ◌||◌, and-false, and-true as and_one, or-true, or-false}
 use mathlib.Core.List.{List, [], ◌∷◌}
 use mathlib.Core.Logic.{◌⊎◌, inl, inr, ⊎_elim}
 use native.Mathlib.Omega.{arith}
-use borrow.Author.Tests.{eq-eqb, ne_eqb, eqb-true, not-true}
+use borrow.Author.Tests.{eq-eqb, ne_eqb, eqb-true, not-true, not-false}
 use lib.Dec.{eqb}
 use lib.ListN.{length, get_or}
 use Rattle.laws.proofs.Tests.{and_left, and_right, not_both}
@@ -56,11 +56,7 @@ one_owner :
 unfolding is_owned owns
 one_owner i j c p n o =
     let w : get_or c.owners p 0 ≡ i = eqb-true (get_or c.owners p 0) i (and_right (not (eqb (get_or c.rings p 0) 0)) _ o) in
-    rw (ne_eqb (get_or c.owners p 0) j (λ e. n (sym w ∙ e))) (and_no (not (eqb (get_or c.rings p 0) 0)))
-  where
-    and_no : (a : Bool) → (a && false) ≡ false
-    and_no true = refl
-    and_no false = refl
+    rw (ne_eqb (get_or c.owners p 0) j (λ e. n (sym w ∙ e))) (and-false (not (eqb (get_or c.rings p 0) 0)))
 
 -- At a free address there is no endpoint, or the interface's.
 pub free_ring :
@@ -87,16 +83,12 @@ module _ (i j : ℕ) (pending : List ℕ) (c : EndpointMap) (p : ℕ) (h : p < 3
   other_owned : is_owned (Interface j) (claimed_endpoints i pending c) p ≡ is_owned (Interface j) c p
   other_owned = claimed_owned i j pending c p h ∙ go (decided (eqb (get_or pending p 0) 0)) (decided (is_owned (Interface i) c p))
     where
-      and_yes : (a : Bool) → (a && true) ≡ a
-      and_yes true = refl
-      and_yes false = refl
-
       go :
           Decided (eqb (get_or pending p 0) 0) → Decided (is_owned (Interface i) c p) →
           cond (eqb (get_or pending p 0) 0) (is_owned (Interface j) c p && not (is_owned (Interface i) c p)) (eqb i j)
           ≡ is_owned (Interface j) c p
       go (inl z) (inl o) = rw (z, one_owner i j c p n o)
-      go (inl z) (inr o) = rw (z, o) (and_yes (is_owned (Interface j) c p))
+      go (inl z) (inr o) = rw (z, o) (and_one (is_owned (Interface j) c p))
       go (inr z) o = rw (z, ne_eqb i j n, free z)
 
   other_ring : is_owned (Interface j) c p ≡ true → get_or (claimed_endpoints i pending c).rings p 0 ≡ get_or c.rings p 0
@@ -165,11 +157,7 @@ pub pending_free :
     ((p : ℕ) → p < 30 → eqb (get_or pending p 0) 0 ≡ not (has_place p words)) →
     (j : ℕ) → (i ≡ j → ⊥) → (p : ℕ) → p < 30 → eqb (get_or pending p 0) 0 ≡ false → is_owned (Interface j) c p ≡ false
 pending_free words i pending c free places j n p h z =
-    free_apart words i j c p free h (has (has_place p words) (sym (places p h) ∙ z)) n
-  where
-    has : (b : Bool) → not b ≡ false → b ≡ true
-    has true e = refl
-    has false e = sym e
+    free_apart words i j c p free h (not-false (has_place p words) (sym (places p h) ∙ z)) n
 
 -- What a claim makes of an endpoint's ring.
 pub claimed_some :
@@ -180,26 +168,10 @@ unfolding claimed_ring
 claimed_some i pending c p w h e =
     rw (claimed_ring_lem i pending c p h) (go w (is_owned (Interface i) c p) e)
   where
-    or_yes : (a : Bool) → (a || true) ≡ true
-    or_yes true = refl
-    or_yes false = refl
-
-    or_no : (a : Bool) → (a || false) ≡ a
-    or_no true = refl
-    or_no false = refl
-
-    and_no : (a : Bool) → (a && false) ≡ false
-    and_no true = refl
-    and_no false = refl
-
-    and_yes : (a : Bool) → (a && true) ≡ a
-    and_yes true = refl
-    and_yes false = refl
-
     go :
         (w o : Bool) → eqb (get_or pending p 0) 0 ≡ not w →
         ((not (eqb (get_or c.rings p 0) 0) && not o) || w)
         ≡ not (eqb (cond (eqb (get_or pending p 0) 0) (cond o 0 (get_or c.rings p 0)) (get_or pending p 0)) 0)
-    go true o z = rw (z, z) (or_yes (not (eqb (get_or c.rings p 0) 0) && not o))
-    go false true z = rw z (or_no (not (eqb (get_or c.rings p 0) 0) && false) ∙ and_no (not (eqb (get_or c.rings p 0) 0)))
-    go false false z = rw z (or_no (not (eqb (get_or c.rings p 0) 0) && true) ∙ and_yes (not (eqb (get_or c.rings p 0) 0)))
+    go true o z = rw (z, z) (or-true (not (eqb (get_or c.rings p 0) 0) && not o))
+    go false true z = rw z (or-false (not (eqb (get_or c.rings p 0) 0) && false) ∙ and-false (not (eqb (get_or c.rings p 0) 0)))
+    go false false z = rw z (or-false (not (eqb (get_or c.rings p 0) 0) && true) ∙ and_one (not (eqb (get_or c.rings p 0) 0)))

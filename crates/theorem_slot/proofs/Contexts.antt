@@ -1,4 +1,5 @@
 -- The context of each command is what the call leaves that is cut there.
+use Rattle.std.proofs.Common.{Ok, Err}
 use Prim.Native.Nat.{ℕ, zero, suc, ◌+◌, ◌<◌}
 use mathlib.Core.Path.{◌≡◌, refl, ◌∙◌}
 use mathlib.Core.Bool.{Bool, true, false, cond}
@@ -9,8 +10,7 @@ use lib.ListN.{length, take}
 use Rattle.def.specs.Speed.{exponent_ok}
 use Rattle.descriptor_list.specs.Valid.{configurations}
 use Rattle.answer.specs.declared.Answer.{Answer}
-use Rattle.answer.specs.declared.Check.{Check}
-use Rattle.answer.specs.declared.Check.TheVariants.{Pass, Refuse}
+use Rattle.answer.specs.Check.{Check}
 use Rattle.command.specs.declared.Command.{Command}
 use Rattle.command.specs.Course.{Course, Played, played, on_sent, context_at, EndsWith, CutsTo, CutEnds}
 use Rattle.command.proofs.Cuts.{on_sent_lem, cuts_then, cut_context}
@@ -87,11 +87,11 @@ module _ {A : Type 0} (context_in : A → List ℕ) (leaves : Played A → Left)
       i < (on_check k (leaves (played o 0 c log)) refuse).count →
       (on_check k (leaves (played (take i o) 0 c log)) refuse).ctx ≡ context_at o 0 i c
   unfolding on_check played
-  context_there Pass refuse i none h =
+  context_there (Ok _) refuse i none h =
       let z : 0 + i ≡ i = omega arith in
       let n = counts (played o 0 c log) in
       contexts (played (take i o) 0 c log) ∙ (rw z at (cut_context context_in o 0 i c cuts (omega (arith, n, h))))
-  context_there (Refuse a) refuse i none h = absurd (omega (arith, none a, h))
+  context_there (Err a) refuse i none h = absurd (omega (arith, none a, h))
 
 hub_cuts : (ctx : List ℕ) → CutEnds (λ (a : Answer). ctx) (hub_course ctx)
 unfolding CutsTo EndsWith hub_course

@@ -1,4 +1,5 @@
 -- The same call, given only the outcomes before one of its commands.
+use Rattle.std.proofs.Common.{Ok, Err}
 use Prim.Native.Nat.{ℕ, ◌+◌, ◌<◌, ◌≤◌}
 use mathlib.Core.Path.{◌≡◌, refl, sym, ◌∙◌, ap}
 use mathlib.Core.List.{List}
@@ -7,8 +8,7 @@ use lib.ListN.{length, take, length-take}
 use lib.Seq.{sets}
 use Rattle.answer.specs.declared.Answer.{Answer}
 use Rattle.answer.specs.declared.Answer.TheVariants as answer
-use Rattle.answer.specs.declared.Check.{Check}
-use Rattle.answer.specs.declared.Check.TheVariants.{Pass, Refuse}
+use Rattle.answer.specs.Check.{Check, Pass}
 use Rattle.command.specs.Course.{Course, Played, words, played, CutsTo}
 use Rattle.command.proofs.Cuts.{cut_short}
 use Rattle.transfer.specs.Routes.{with_route}
@@ -72,11 +72,11 @@ module _ {A : Type 0} (answer_in : A → Answer) (leaves : Played A → Left) (c
       (on_check k (leaves (played o 0 c log)) refuse).count ≤ 63 → i < (on_check k (leaves (played o 0 c log)) refuse).count →
       CutThere i (on_check k (leaves (played o 0 c log)) refuse) (on_check k (leaves (played (take i o) 0 c log)) refuse)
   unfolding on_check played
-  cut_checked Pass refuse i room none few h =
+  cut_checked (Ok _) refuse i room none few h =
       let n = counts (played o 0 c log) in
       let r = room refl in
       cut_there i (omega (arith, n, few, r)) (omega (arith, n, h))
-  cut_checked (Refuse a) refuse i room none few h = absurd (omega (arith, none a, h))
+  cut_checked (Err a) refuse i room none few h = absurd (omega (arith, none a, h))
 
 module _ (b : Buffers) (d : Device) (routes : List ℕ) (i : ℕ) where
   call : Asked → Call

@@ -13,7 +13,7 @@ use Rattle.laws.proofs.Cases.{or_right}
 use Rattle.def.specs.Speed.{exponent_ok}
 use Rattle.answer.specs.declared.Answer.TheVariants as answer
 use Rattle.answer.specs.Answer.{number}
-use Rattle.answer.specs.declared.Check.TheVariants.{Pass}
+use Rattle.answer.specs.Check.{Pass}
 use Rattle.command.specs.declared.Sent.TheVariants.{Done}
 use Rattle.command.specs.Command.{outcome_at}
 use Rattle.record_endpoint.specs.Order.{dci_at}

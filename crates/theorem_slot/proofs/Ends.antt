@@ -1,4 +1,5 @@
 -- How the course of each call ends: by a cut where a command is cut, and else by an answer whose code was read.
+use Rattle.std.proofs.Common.{Result, Ok, Err, is_some}
 use Prim.Native.Nat.{ℕ, zero, suc, ◌+◌, ◌≤◌}
 use mathlib.Core.Path.{◌≡◌, refl, ap}
 use mathlib.Core.Bool.{Bool, true, false, cond}
@@ -19,8 +20,7 @@ use Rattle.command.specs.declared.Sent.TheVariants.{Done, Failed, Cut}
 use Rattle.command.specs.Course.{Course, ends, on_sent, then, words, EndsWith}
 use Rattle.command.specs.Sweep.{stop_endpoints, resume_stopped_endpoints, stop_each, or_code}
 use Rattle.record_endpoint.specs.EndpointMap.{queue_dcis}
-use Rattle.transfer.specs.declared.Replaced.{Replaced}
-use Rattle.transfer.specs.declared.Replaced.TheVariants as replace
+use Rattle.transfer.specs.declared.RouteError.{RouteError}
 use Rattle.transfer.specs.Routes.{replaced}
 use Rattle.course_steps.specs.End.{End, settings_kept, answer_of, configure_failed}
 use Rattle.course_claim.specs.Claim.{Claim, claim_published, claim_publish, claim_switch_back, claim_undone, claim_undo, claim_switch, claim_resume, claim_configure, claim_course}
@@ -115,11 +115,10 @@ module _ (K : ℕ → Type 0) where
 
   -- Claim.
   module _ (a : Claim) where
-    claim_published_lem : (r : Replaced) (ctx routes : List ℕ) → Fair K (claim_published r a ctx routes).answer
+    claim_published_lem : (r : Result Unit RouteError) (ctx routes : List ℕ) → Fair K (claim_published r a ctx routes).answer
     unfolding claim_published
-    claim_published_lem replace.Done ctx routes = fair_accepted
-    claim_published_lem replace.InvalidEndpoint ctx routes = fair_broken
-    claim_published_lem replace.QueueFull ctx routes = fair_broken
+    claim_published_lem (Ok _) ctx routes = fair_accepted
+    claim_published_lem (Err _) ctx routes = fair_broken
 
     claim_publish_lem : (ctx routes : List ℕ) → TellsEnd (claim_publish a ctx routes)
     unfolding Told claim_publish
@@ -140,7 +139,7 @@ module _ (K : ℕ → Type 0) where
       claim_undo_lem : (ctx routes : List ℕ) → TellsEnd (claim_undo a code ctx routes)
       unfolding Told EndsWith claim_undo claim_undone on_sent
       claim_undo_lem ctx routes =
-          (refl, λ s r. on_read TellsEnd K s _ _ _ r (claim_undone_lem a.args.held _ routes) (λ later l. fair_broken))
+          (refl, λ s r. on_read TellsEnd K s _ _ _ r (claim_undone_lem (is_some a.args.held_alternate) _ routes) (λ later l. fair_broken))
 
       claim_resume_lem : (ctx routes : List ℕ) → TellsEnd (claim_resume a code ctx routes)
       unfolding Told EndsWith claim_resume answer_of or_code
@@ -167,11 +166,10 @@ module _ (K : ℕ → Type 0) where
 
   -- Release.
   module _ (a : Release) where
-    release_published_lem : (r : Replaced) (ctx routes : List ℕ) → Fair K (release_published r a ctx routes).answer
+    release_published_lem : (r : Result Unit RouteError) (ctx routes : List ℕ) → Fair K (release_published r a ctx routes).answer
     unfolding release_published
-    release_published_lem replace.Done ctx routes = fair_accepted
-    release_published_lem replace.InvalidEndpoint ctx routes = fair_endpoint
-    release_published_lem replace.QueueFull ctx routes = fair_endpoint
+    release_published_lem (Ok _) ctx routes = fair_accepted
+    release_published_lem (Err _) ctx routes = fair_endpoint
 
     release_publish_lem : (ctx routes : List ℕ) → TellsEnd (release_publish a ctx routes)
     unfolding Told release_publish
@@ -201,11 +199,10 @@ module _ (K : ℕ → Type 0) where
     unfolding Told EndsWith set_evaluate on_sent
     set_evaluate_lem ctx routes = (refl, λ s r. on_read TellsEnd K s _ _ _ r fair_accepted (λ code k. fair_broken))
 
-    set_published_lem : (r : Replaced) (ctx routes : List ℕ) → TellsEnd (set_published r a ctx routes)
+    set_published_lem : (r : Result Unit RouteError) (ctx routes : List ℕ) → TellsEnd (set_published r a ctx routes)
     unfolding Told set_published
-    set_published_lem replace.Done ctx routes = set_evaluate_lem ctx _
-    set_published_lem replace.InvalidEndpoint ctx routes = fair_endpoint
-    set_published_lem replace.QueueFull ctx routes = fair_endpoint
+    set_published_lem (Ok _) ctx routes = set_evaluate_lem ctx _
+    set_published_lem (Err _) ctx routes = fair_endpoint
 
     module _ (code : ℕ) (k : K code) where
       set_restored_lem : (ctx routes : List ℕ) → TellsEnd (set_restored a code ctx routes)

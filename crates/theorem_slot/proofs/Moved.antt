@@ -1,7 +1,7 @@
 -- What the calls make of a record's rings and of the plain slot's groups.
 use Prim.Native.Nat.{ℕ, ◌<◌}
 use mathlib.Core.Path.{◌≡◌, refl, sym, ◌∙◌, ap}
-use mathlib.Core.Bool.{Bool, true, false, not, cond, ◌&&◌, ◌||◌}
+use mathlib.Core.Bool.{Bool, true, false, not, cond, ◌&&◌, ◌||◌, and-not_self, or-false}
 use mathlib.Core.List.{List, ◌∷◌}
 use mathlib.Core.Logic.{⊎_elim}
 use native.Mathlib.Omega.{arith}
@@ -159,11 +159,7 @@ module _ (d : Device) (s : sound d ≡ true) (g : Groups) (a : AgreeWith d g) wh
         (old : List Queue) → ((x : ℕ) → keeps x old ≡ has c.rings x) → AgreeWith e (returned_groups old g)
     unfolding no_endpoints
     agree_bare e hs lost y q old kept =
-        agree_ended e hs no_endpoints lost y q old (has c.rings) kept (λ x h. h) (λ x. has_none x ∙ sym (never (has c.rings x)))
-      where
-        never : (b : Bool) → (b && not b) ≡ false
-        never true = refl
-        never false = refl
+        agree_ended e hs no_endpoints lost y q old (has c.rings) kept (λ x h. h) (λ x. has_none x ∙ sym (and-not_self (has c.rings x)))
 
     -- One setting ends.
     pub agree_released :
@@ -176,11 +172,7 @@ module _ (d : Device) (s : sound d ≡ true) (g : Groups) (a : AgreeWith d g) wh
         (λ x.
         claimed_has i (replicate 30 0) c long refl (sound_apart d s).different
         (λ p h z o. not_both (eqb (get_or (replicate 30 0) p 0) 0) (rw (get_or-replicate {A = ℕ} 30 p 0 0 h) refl) z) x
-        ∙ rw (has_none x) (or_no (has c.rings x && not (has (owned_rings (Interface i) c) x))))
-      where
-        or_no : (b : Bool) → (b || false) ≡ b
-        or_no true = refl
-        or_no false = refl
+        ∙ rw (has_none x) (or-false (has c.rings x && not (has (owned_rings (Interface i) c) x))))
 
     -- A claim that passed its checks.
     module _ (i w : ℕ) (pass : ClaimPassed d i w) where

@@ -1,7 +1,7 @@
 -- The queues of the plain slot's settings, by place.
 use Prim.Native.Nat.{ℕ, ◌≤◌, ◌<◌}
 use mathlib.Core.Path.{◌≡◌, refl, sym, ◌∙◌, ap}
-use mathlib.Core.Bool.{Bool, true, false, not, cond}
+use mathlib.Core.Bool.{true, false, not, cond, not-not}
 use mathlib.Core.List.{List, [], ◌∷◌}
 use mathlib.Core.Logic.{◌⊎◌, inl, inr}
 use borrow.Author.Tests.{eqb-true}
@@ -103,11 +103,7 @@ pending_by_place list valid i a rings places =
     let words = setting_words list i a in
     record {
       long = pending_length words rings;
-      named = λ p h. words_name words rings p h ∙ sym (ap not (places p h) ∙ not_not (has_place p words));
+      named = λ p h. words_name words rings p h ∙ sym (ap not (places p h) ∙ not-not (has_place p words));
       ring = λ p h. words_ring words rings p h;
       inside = λ d e. words_inside words (setting_place list valid i a) d (sym (words_dci d words rings) ∙ e);
     }
-  where
-    not_not : (b : Bool) → not (not b) ≡ b
-    not_not true = refl
-    not_not false = refl

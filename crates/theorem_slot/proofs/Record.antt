@@ -1,7 +1,7 @@
 -- A record's rings beside the plain slot's groups.
 use Prim.Native.Nat.{ℕ, zero, suc, ◌<◌}
 use mathlib.Core.Path.{◌≡◌, refl, sym, ◌∙◌, ap}
-use mathlib.Core.Bool.{Bool, true, false, not, ◌&&◌, ◌||◌}
+use mathlib.Core.Bool.{Bool, true, false, not, ◌&&◌, ◌||◌, or_assoc, or-false}
 use mathlib.Core.List.{List, [], ◌∷◌, ◌++◌}
 use mathlib.Core.Logic.{◌⊎◌, inl, inr}
 use native.Mathlib.Omega.{arith}
@@ -106,12 +106,7 @@ module _ (d : Device) (s : sound d ≡ true) where
 
   pub used_live : (x : ℕ) → used_by d x ≡ elem x (live_rings d)
   unfolding used_by live_rings elem
-  used_live x = rw (has_live x, elem_append x live (d.control ∷ [])) (go (elem x live) (eqb x d.control))
-    where
-      go : (a b : Bool) → (a || b) ≡ (a || (b || false))
-      go true b = refl
-      go false true = refl
-      go false false = refl
+  used_live x = rw (has_live x, elem_append x live (d.control ∷ [])) (ap (λ b. elem x live || b) (sym (or-false (eqb x d.control))))
 
   pub used_given : (x : ℕ) → used_by d x ≡ true → elem x (given_of d) ≡ true
   used_given x e = (sound_facts d s).store.live_given x (sym (used_live x) ∙ e)
@@ -125,11 +120,7 @@ module _ (d : Device) (s : sound d ≡ true) where
 
     used_elsewhere : (x : ℕ) → elem x (live ++ (d.control ∷ quarantined_of d)) ≡ (used_by d x || in_doubt d x)
     unfolding used_by in_doubt elem
-    used_elsewhere x = elem_append x live (d.control ∷ quarantined_of d) ∙ rw (← has_live x) (go (has (endpoint_map_in d).rings x) (eqb x d.control))
-      where
-        go : (b c : Bool) → (b || (c || elem x (quarantined_of d))) ≡ ((b || c) || elem x (quarantined_of d))
-        go true c = refl
-        go false c = refl
+    used_elsewhere x = elem_append x live (d.control ∷ quarantined_of d) ∙ rw (← has_live x) (sym (or_assoc (has (endpoint_map_in d).rings x) (eqb x d.control) (elem x (quarantined_of d))))
 
     free_here : (x : ℕ) → elem x (given_of d) ≡ true → g.free x ≡ not (elem x (live ++ (d.control ∷ quarantined_of d)))
     free_here x e =

@@ -1,7 +1,8 @@
 -- A release keeps the invariant.
+use Rattle.std.proofs.Common.{Ok}
 use Prim.Native.Nat.{ℕ, ◌≤◌, ◌<◌}
 use mathlib.Core.Path.{◌≡◌, refl, sym, ◌∙◌, ap}
-use mathlib.Core.Bool.{Bool, true, false, not, ◌&&◌, ◌||◌}
+use mathlib.Core.Bool.{Bool, true, false, not, ◌&&◌, or-false, and-true as and_one}
 use mathlib.Core.List.{List, []}
 use mathlib.Core.Logic.{inl, inr}
 use native.Mathlib.Omega.{arith}
@@ -12,13 +13,12 @@ use Rattle.laws.proofs.Tests.{not_both}
 use Rattle.laws.proofs.Cases.{Decided, decided, or_left_false, or_right_false}
 use Rattle.answer.specs.declared.Answer.{Answer}
 use Rattle.answer.specs.declared.Answer.TheVariants as answer
-use Rattle.answer.specs.declared.Check.TheVariants.{Pass}
+use Rattle.answer.specs.Check.{Pass}
 use Rattle.answer.specs.Answer.{number, is_accepted, is_lost}
 use Rattle.command.specs.Course.{Course, ends, sends, words, result, played}
 use Rattle.command.proofs.Operations.{ByteOperands, operation, EachCommand}
 use Rattle.context_block.specs.Blocks.{some_dci}
 use Rattle.context.specs.Place.{Spaced}
-use Rattle.transfer.specs.declared.Replaced.TheVariants as replace
 use Rattle.transfer.specs.Routes.{replaced, with_replaced}
 use Rattle.record_endpoint.specs.Order.{PLACES, dci_at}
 use Rattle.record_endpoint.specs.EndpointMap.{is_owned, owned_rings, queues_of, claimed_endpoints, with_active}
@@ -126,7 +126,7 @@ module _ (slot : ℕ) (before : List ℕ) (s : State) (buffers : Buffers) (i : �
     were_named : NamedBy s.routes slot (endpoint_map_in d)
     were_named = named_from slot s.routes p (endpoint_map_in d) g.named (live_tells slot d p l)
 
-    out : replaced s.routes slot (queues_of old) [] ≡ replace.Done
+    out : replaced s.routes slot (queues_of old) [] ≡ Ok (tt {0})
     out = release_done s.routes slot (endpoint_map_in d) were_named i
 
     named : NamedBy (with_replaced s.routes slot (queues_of old) (queues_of none)) slot (claimed_endpoints i none (endpoint_map_in d))
@@ -151,12 +151,8 @@ module _ (slot : ℕ) (before : List ℕ) (s : State) (buffers : Buffers) (i : �
         (not (eqb (get_or (endpoint_map_in d).rings q 0) 0) && not (is_owned (Interface i) (endpoint_map_in d) q))
         ≡ not (eqb (get_or (claimed_endpoints i none (endpoint_map_in d)).rings q 0) 0)
     released_some q h =
-        sym (or_no (not (eqb (get_or (endpoint_map_in d).rings q 0) 0) && not (is_owned (Interface i) (endpoint_map_in d) q)))
+        sym (or-false (not (eqb (get_or (endpoint_map_in d).rings q 0) 0) && not (is_owned (Interface i) (endpoint_map_in d) q)))
         ∙ claimed_some i none (endpoint_map_in d) q false h (zero_pending q h)
-      where
-        or_no : (a : Bool) → (a || false) ≡ a
-        or_no true = refl
-        or_no false = refl
 
     accepted_enabled :
         end.answer ≡ answer.Accepted → now.plain.broken ≡ false → now.plain.unheld_release ≡ false → (q : ℕ) → q < 30 →
@@ -170,16 +166,12 @@ module _ (slot : ℕ) (before : List ℕ) (s : State) (buffers : Buffers) (i : �
         sound : p.broken ≡ false
         sound = or_left_false p.broken _ b
 
-        and_yes : (a : Bool) → (a && true) ≡ a
-        and_yes true = refl
-        and_yes false = refl
-
         unsent :
             has_setting i p.held ≡ false →
             ltb 0 (length (words buffers.outcomes 0 (release_course (release_in d i) buffers.ctx s.routes))) ≡ false
         unsent t =
             let sent = ltb 0 (length (words buffers.outcomes 0 (release_course (release_in d i) buffers.ctx s.routes))) in
-            sym (and_yes sent) ∙ (rw t at (or_right_false p.unheld_release (sent && not (has_setting i p.held)) f))
+            sym (and_one sent) ∙ (rw t at (or_right_false p.unheld_release (sent && not (has_setting i p.held)) f))
 
         as_held : has_setting i p.held ≡ is_held i (held_of d)
         as_held = pairs_setting i p.held ∙ ap (is_held i) l.held
@@ -198,7 +190,7 @@ module _ (slot : ℕ) (before : List ℕ) (s : State) (buffers : Buffers) (i : �
             (sym as_held ∙ t) h in
             ap (λ x. x (dci_at q)) (silent buffers.outcomes 0 (release_course (release_in d i) buffers.ctx s.routes) p.enabled (unsent t))
             ∙ was sound quiet q h
-            ∙ sym (and_yes (not (eqb (get_or (endpoint_map_in d).rings q 0) 0)))
+            ∙ sym (and_one (not (eqb (get_or (endpoint_map_in d).rings q 0) 0)))
             ∙ ap (λ x. not (eqb (get_or (endpoint_map_in d).rings q 0) 0) && not x) (sym o)
             ∙ released_some q h
 

@@ -45,8 +45,7 @@ use Rattle.course_release.specs.Release.{release_course}
 use Rattle.course_set_configuration.specs.SetConfiguration.{set_course}
 use Rattle.course_init.specs.Reading.{BringUp, control_ring, Brought}
 use Rattle.device_bring_up.proofs.Laws.{bring_up_sound}
-use Rattle.answer.specs.declared.Check.{Check}
-use Rattle.answer.specs.declared.Check.TheVariants.{Pass}
+use Rattle.answer.specs.Check.{Check, Pass}
 use Rattle.transfer.specs.Routes.{with_route}
 use Rattle.context.specs.Place.{spacing_of}
 use Rattle.device_bring_up.specs.BringUp.{bring_up_course, brought_record, brought_left, bring_up}

@@ -1,7 +1,8 @@
 -- A set configuration keeps the invariant.
+use Rattle.std.proofs.Common.{Ok}
 use Prim.Native.Nat.{ℕ, ◌≤◌, ◌<◌}
 use mathlib.Core.Path.{◌≡◌, refl, sym, ◌∙◌, ap}
-use mathlib.Core.Bool.{Bool, true, false, not, ◌&&◌, ◌||◌, cond}
+use mathlib.Core.Bool.{Bool, true, false, not, ◌&&◌, ◌||◌, cond, or_assoc}
 use mathlib.Core.List.{List, [], ◌∷◌, ◌++◌}
 use mathlib.Core.Logic.{◌⊎◌, inl, inr}
 use native.Mathlib.Omega.{arith}
@@ -12,14 +13,13 @@ use Rattle.laws.proofs.Tests.{and_left, and_right, not_both}
 use Rattle.laws.proofs.Cases.{Decided, decided, or_left, or_right, or_cases, or_left_false, or_right_false}
 use Rattle.answer.specs.declared.Answer.{Answer}
 use Rattle.answer.specs.declared.Answer.TheVariants as answer
-use Rattle.answer.specs.declared.Check.TheVariants.{Pass}
+use Rattle.answer.specs.Check.{Pass}
 use Rattle.answer.specs.Answer.{number, is_lost}
 use Rattle.command.specs.Course.{Course, words, result, played}
 use Rattle.command.proofs.Operations.{ByteOperands, operation, EachCommand}
 use Rattle.descriptor.specs.Word.{endpoint_descriptor}
 use Rattle.context_block.specs.Blocks.{some_dci}
 use Rattle.context.specs.Place.{Spaced}
-use Rattle.transfer.specs.declared.Replaced.TheVariants as replace
 use Rattle.transfer.specs.Routes.{replaced, with_replaced}
 use Rattle.record_endpoint.specs.Order.{PLACES, place_of, dci_at}
 use Rattle.record_endpoint.specs.EndpointMap.{is_owned, owns, queues_of, no_endpoints, with_active}
@@ -61,11 +61,7 @@ use Rattle.theorem_slot.proofs.Claimed.{some_place, owned_ring}
 place_append : (q : ℕ) (x y : List ℕ) → has_place q (x ++ y) ≡ (has_place q x || has_place q y)
 unfolding has_place
 place_append q [] y = refl
-place_append q (w ∷ x) y = rw (place_append q x y) (go (eqb (place_of (endpoint_descriptor w).address) q))
-  where
-    go : (a : Bool) → (a || (has_place q x || has_place q y)) ≡ ((a || has_place q x) || has_place q y)
-    go true = refl
-    go false = refl
+place_append q (w ∷ x) y = rw (place_append q x y) (sym (or_assoc (eqb (place_of (endpoint_descriptor w).address) q) (has_place q x) (has_place q y)))
 
 -- A held setting's places are among them.
 held_place :
@@ -169,7 +165,7 @@ module _ (slot : ℕ) (before : List ℕ) (s : State) (buffers : Buffers) (value
     unfolding settings_in
     spaced = pass.spaced
 
-    out : replaced s.routes slot (queues_of rings) [] ≡ replace.Done
+    out : replaced s.routes slot (queues_of rings) [] ≡ Ok (tt {0})
     out =
         bare_done s.routes slot (endpoint_map_in d) (named_from slot s.routes p (endpoint_map_in d) g.named (live_tells slot d p l))
 
@@ -179,7 +175,7 @@ module _ (slot : ℕ) (before : List ℕ) (s : State) (buffers : Buffers) (value
         (bare_routed s.routes slot (endpoint_map_in d) (routed_from slot s.routes p (endpoint_map_in d) (g.own u) (live_tells slot d p l))
         (rw g.long g.room)).routed
 
-    allowed : replaced s.routes d.slot.0 (queues_of rings) [] ≡ replace.Done
+    allowed : replaced s.routes d.slot.0 (queues_of rings) [] ≡ Ok (tt {0})
     allowed = ap (λ x. replaced s.routes x (queues_of rings) []) l.place ∙ out
 
     -- The held settings end exactly if the settings of the record are moved.

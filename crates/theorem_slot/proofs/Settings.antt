@@ -1,11 +1,12 @@
 -- The plain slot's held settings: their queues, and the endpoints of a record that they fit.
+use Rattle.record_settings.proofs.Laws.{eqb_turned}
 use Prim.Native.Nat.{ℕ, ◌≤◌, ◌<◌}
 use mathlib.Core.Path.{◌≡◌, refl, sym, ◌∙◌}
 use native.Mathlib.Omega.{arith}
-use mathlib.Core.Bool.{Bool, true, false, not, cond, ◌&&◌, ◌||◌}
+use mathlib.Core.Bool.{Bool, true, false, not, cond, ◌&&◌, ◌||◌, and-false, and-or_distrib_left}
 use mathlib.Core.List.{List, [], ◌∷◌, ◌++◌, append_assoc, append-nil}
 use mathlib.Core.Logic.{inl, inr, ⊎_elim}
-use borrow.Author.Tests.{eq-eqb, ne_eqb, eqb-true, eqb-false}
+use borrow.Author.Tests.{eqb-false}
 use lib.Dec.{eqb}
 use lib.ListN.{get_or}
 use Rattle.laws.proofs.Tests.{not_both}
@@ -49,13 +50,6 @@ held_inside c (s ∷ ss) f d e =
     ⊎_elim (λ h. f.0.inside d h) (λ h. held_inside c ss f.1 d h)
     (or_cases (names d s.queues) (names d (held_queues ss)) (sym (names_append d s.queues (held_queues ss)) ∙ e))
 
-pub eqb_turned : (a b : ℕ) → eqb a b ≡ eqb b a
-eqb_turned a b = go (decided (eqb b a))
-  where
-    go : Decided (eqb b a) → eqb a b ≡ eqb b a
-    go (inl p) = rw p (eq-eqb a b (sym (eqb-true b a p)))
-    go (inr p) = rw p (ne_eqb a b (λ q. eqb-false b a p (sym q)))
-
 -- Endpoint p has a ring, and its owner holds one of the settings.
 abbrev pub held_at : EndpointMap → ℕ → List HeldSetting → Bool
 held_at c p ss = not (eqb (get_or c.rings p 0) 0) && has_setting (get_or c.owners p 0) ss
@@ -65,14 +59,6 @@ owned_turned :
 unfolding is_owned owns
 owned_turned c i p = rw (eqb_turned (get_or c.owners p 0) i)
 
-and_or : (a b h : Bool) → ((a && b) || (a && h)) ≡ (a && (b || h))
-and_or true b h = refl
-and_or false b h = refl
-
-and-false : (a : Bool) → (a && false) ≡ false
-and-false true = refl
-and-false false = refl
-
 -- The endpoints that the held settings name.
 pub held_names :
     (c : EndpointMap) (ss : List HeldSetting) (p : ℕ) → AllFit c ss → p < 30 → names (dci_at p) (held_queues ss) ≡ held_at c p ss
@@ -81,7 +67,7 @@ held_names c [] p f h = sym (and-false (not (eqb (get_or c.rings p 0) 0)))
 held_names c (s ∷ ss) p f h =
     names_append (dci_at p) s.queues (held_queues ss)
     ∙ rw (f.0.named p h, owned_turned c s.interface p, held_names c ss p f.1 h)
-    (and_or (not (eqb (get_or c.rings p 0) 0)) (eqb s.interface (get_or c.owners p 0)) (has_setting (get_or c.owners p 0) ss))
+    (sym (and-or_distrib_left (not (eqb (get_or c.rings p 0) 0)) (eqb s.interface (get_or c.owners p 0)) (has_setting (get_or c.owners p 0) ss)))
 
 -- One setting leaves its endpoints their rings.
 one_ring :

@@ -1,4 +1,5 @@
 -- One call, by what its check answers: what a refusal leaves, and what a course leaves.
+use Rattle.std.proofs.Common.{Ok, Err, Option, Some, None}
 use Prim.Native.Nat.{ℕ, ◌+◌, ◌*◌, ◌≤◌, ◌<◌}
 use mathlib.Core.Path.{◌≡◌, refl, sym, ◌∙◌, ap}
 use mathlib.Core.Bool.{Bool, true, false, cond, ◌&&◌, ◌||◌, or-false}
@@ -12,12 +13,8 @@ use Rattle.laws.proofs.Tests.{not_both, and_left, and_right}
 use Rattle.laws.proofs.Cases.{or_cases, or_none}
 use Rattle.answer.specs.declared.Answer.{Answer}
 use Rattle.answer.specs.declared.Answer.TheVariants as answer
-use Rattle.answer.specs.declared.Check.{Check}
-use Rattle.answer.specs.declared.Check.TheVariants.{Pass, Refuse}
+use Rattle.answer.specs.Check.{Check, Pass, unless}
 use Rattle.answer.specs.Answer.{number, is_accepted, is_broken, is_cut, is_lost}
-use Rattle.answer.specs.Check.{unless}
-use Rattle.hub.specs.declared.think.ThinkTime.{ThinkTime}
-use Rattle.hub.specs.declared.think.ThinkTime.TheVariants as think
 use Rattle.hub.specs.ThinkTime.{think_time}
 use Rattle.def.specs.Speed.{HIGH, speed_known}
 use Rattle.descriptor_list.specs.Valid.{valid_list}
@@ -90,16 +87,16 @@ lost_not x t f = not_both (is_lost x) t f
 
 -- A check that refuses with refusals only.
 unfoldable pub MildCheck : Check → Type 0
-MildCheck Pass = Unit {0}
-MildCheck (Refuse a) = is_refused a ≡ true
+MildCheck (Ok _) = Unit {0}
+MildCheck (Err a) = is_refused a ≡ true
 
 -- What holds of a call that runs after its checks, and of each refusal, holds of the call.
 pub on_mild :
     (P : Left → Type 0) (k : Check) (run : Left) (refuse : Answer → Left) → MildCheck k → (k ≡ Pass → P run) →
     ((a : Answer) → is_refused a ≡ true → P (refuse a)) → P (on_check k run refuse)
 unfolding MildCheck on_check
-on_mild P Pass run refuse m p q = p refl
-on_mild P (Refuse a) run refuse m p q = q a m
+on_mild P (Ok _) run refuse m p q = p refl
+on_mild P (Err a) run refuse m p q = q a m
 
 mild_unless : (b : Bool) (a : Answer) (next : Check) → is_refused a ≡ true → MildCheck next → MildCheck (unless b a next)
 unfolding MildCheck
@@ -126,10 +123,10 @@ pub mild_disconnect : (d : Device) (ctx routes log : ℕ) → MildCheck (disconn
 unfolding disconnect_check
 mild_disconnect d ctx routes log = mild_marked d.up d ctx routes log Pass mild_pass
 
-mild_thought : (t : ThinkTime) → MildCheck (is_thought t)
+mild_thought : (t : Option ℕ) → MildCheck (is_thought t)
 unfolding is_thought MildCheck number is_refused
-mild_thought (think.Value v) = tt
-mild_thought think.Refused = refl
+mild_thought (Some v) = tt
+mild_thought None = refl
 
 pub mild_hub : (d : Device) (ctx routes log ns : ℕ) → MildCheck (record_check d ctx routes log (hub_check d ns))
 unfolding hub_check
@@ -171,8 +168,8 @@ commit_passed d ctx routes log p e =
     (sym (ask_then d ctx routes log p.interface p.alternate (current_check d p)) ∙ e)
   where
     go : (x next : Check) → and_then x next ≡ Pass → x ≡ Pass
-    go Pass next q = refl
-    go (Refuse z) next q = q
+    go (Ok _) next q = refl
+    go (Err z) next q = q
 
 pub mild_release :
     (d : Device) (ctx routes log i : ℕ) → MildCheck (record_check d ctx routes log (release_check d i))
@@ -193,7 +190,7 @@ mild_bring_up a ctx routes log =
     (mild_unless (leb 64 log) answer.LogTooShort _ refl
     (mild_unless (speed_known a.speed) answer.Speed _ refl
     (mild_unless (valid_list a.list) answer.DescriptorList _ refl
-    (mild_unless (chain_ok a.hubs a.has_parent a.parent) answer.HubChain _ refl
+    (mild_unless (chain_ok a.hubs a.parent) answer.HubChain _ refl
     (mild_unless (given_ok a.rings) answer.Rings _ refl
     (mild_unless (eqb (route_of routes a.slot 1) 0) answer.QueueFull Pass refl mild_pass))))))))
 
@@ -265,8 +262,8 @@ module _ (P : State → Type 0) (s : State) (effect : Effect) (buffers : Buffers
       (k ≡ Pass → P (checked s effect buffers Pass run (λ a. refused s.device a ctx s.routes log))) →
       P (checked s effect buffers k run (λ a. refused s.device a ctx s.routes log))
   unfolding MildCheck checked on_check refused
-  good_checked ctx log Pass m g h = h refl
-  good_checked ctx log (Refuse a) m g h =
+  good_checked ctx log (Ok _) m g h = h refl
+  good_checked ctx log (Err a) m g h =
       rw (observed_refused effect buffers a (λ i. ctx) s.plain (refused_mild a m)) g
 
 -- The state that the end of a course makes.

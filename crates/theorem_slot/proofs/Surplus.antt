@@ -1,11 +1,11 @@
 -- Surplus outcomes are not read.
+use Rattle.std.proofs.Common.{Ok, Err}
 use Prim.Native.Nat.{ℕ}
 use mathlib.Core.Path.{◌≡◌, refl, ◌∙◌, ap}
 use mathlib.Core.List.{List}
 use lib.ListN.{take}
 use Rattle.answer.specs.declared.Answer.{Answer}
-use Rattle.answer.specs.declared.Check.{Check}
-use Rattle.answer.specs.declared.Check.TheVariants.{Pass, Refuse}
+use Rattle.answer.specs.Check.{Check}
 use Rattle.command.specs.Course.{Course, Played, played}
 use Rattle.course_claim.specs.Claim.{claim_course}
 use Rattle.course_release.specs.Release.{release_course}
@@ -33,9 +33,9 @@ unread :
     on_check k (leaves (played (take (on_check k (leaves (played o 0 c log)) refuse).count o) 0 c log)) refuse
     ≡ on_check k (leaves (played o 0 c log)) refuse
 unfolding on_check
-unread leaves c log o Pass refuse same =
+unread leaves c log o (Ok _) refuse same =
     ap (λ m. leaves (played (take m o) 0 c log)) (same (played o 0 c log)) ∙ ap leaves (played_surplus o c log)
-unread leaves c log o (Refuse a) refuse same = refl
+unread leaves c log o (Err a) refuse same = refl
 
 each :
     (a : Asked) (b : Buffers) (d : Device) (routes : List ℕ) →

@@ -1,4 +1,5 @@
 -- What the answers of an unplugging say.
+use Rattle.std.proofs.Common.{Ok, Err}
 use Prim.Native.Nat.{ℕ, suc, ◌+◌}
 use mathlib.Core.Path.{◌≡◌, refl, sym, ap, ◌∙◌}
 use mathlib.Core.Bool.{true, ◌&&◌}
@@ -9,8 +10,7 @@ use lib.ListN.{length}
 use Rattle.laws.proofs.Tests.{not_both}
 use Rattle.answer.specs.declared.Answer.{Answer}
 use Rattle.answer.specs.declared.Answer.TheVariants as answer
-use Rattle.answer.specs.declared.Check.{Check}
-use Rattle.answer.specs.declared.Check.TheVariants.{Pass, Refuse}
+use Rattle.answer.specs.Check.{Check, Pass}
 use Rattle.answer.specs.Answer.{number, is_accepted, is_broken, is_lost}
 use Rattle.command.specs.Command.{outcome_at}
 use Rattle.command.specs.Course.{result, played}
@@ -67,8 +67,8 @@ module _ (d : Device) (b : Buffers) (routes : List ℕ) where
   by_check P p q = go check (mild_disconnect d (length b.ctx) (length routes) (length b.log)) refl
     where
       go : (k : Check) → MildCheck k → check ≡ k → P (on_check k run (λ a. refused d a b.ctx routes b.log))
-      go Pass m e = p e ends
-      go (Refuse a) m e = q a (refused_mild a m)
+      go (Ok _) m e = p e ends
+      go (Err a) m e = q a (refused_mild a m)
 
 -- What an answer is not.
 accepted_mild : {P : Type 0} {a : Answer} → Mild a → a ≡ answer.Accepted → P
@@ -94,10 +94,10 @@ accepted_by_disable d b routes =
         (k : Check) → MildCheck k →
         is_accepted (on_check k (run d b routes) (λ a. refused d a b.ctx routes b.log)).answer
         ≡ (passes k && is_done (outcome_at b.outcomes at))
-    go Pass m =
+    go (Ok _) m =
         disconnect_accepted d.slot.0 (dcis d b routes) b.ctx routes b.outcomes 0
         ∙ ap (λ n. is_done (outcome_at b.outcomes n)) same
-    go (Refuse a) m = (refused_mild a m).0
+    go (Err a) m = (refused_mild a m).0
 
 -- Accepted, its end is the one without a route.
 module _ (d : Device) (b : Buffers) (routes : List ℕ) where

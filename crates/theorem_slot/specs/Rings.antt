@@ -2,7 +2,7 @@
 use Rattle.std.specs.Prelude.{ℕ, ◌≤◌, ◌≡◌, Bool, true, false, not, ◌&&◌, ◌||◌, List, length}
 use Rattle.laws.specs.Distinct.{elem}
 use Rattle.answer.specs.declared.Answer.TheVariants as answer
-use Rattle.answer.specs.declared.Check.TheVariants.{Pass}
+use Rattle.answer.specs.Check.{Pass}
 use Rattle.transfer.specs.Routes.{route_of}
 use Rattle.course_init.specs.Reading.{BringUp, control_ring}
 use Rattle.device_bring_up.specs.BringUp.{bring_up}

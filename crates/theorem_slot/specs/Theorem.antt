@@ -4,7 +4,7 @@ use Rattle.answer.specs.declared.Answer.{Answer}
 use Rattle.answer.specs.declared.Answer.TheVariants as answer
 use Rattle.def.specs.Speed.{exponent_ok}
 use Rattle.answer.specs.Answer.{is_accepted}
-use Rattle.answer.specs.declared.Check.TheVariants.{Pass}
+use Rattle.answer.specs.Check.{Pass}
 use Rattle.command.specs.declared.Sent.TheVariants.{Done}
 use Rattle.command.specs.Command.{outcome_at}
 use Rattle.context_block.specs.Blocks.{some_dci}

@@ -1,9 +1,8 @@
 -- Unplugging: when it is accepted, and what each of its answers leaves.
-use Rattle.std.specs.Prelude.{ℕ, ◌+◌, ◌<◌, ◌≤◌, ◌≡◌, Bool, true, false, ◌&&◌, List, [], length}
+use Rattle.std.specs.Prelude.{ℕ, ◌+◌, ◌<◌, ◌≤◌, ◌≡◌, Bool, true, false, ◌&&◌, List, [], length, Ok, Err}
 use Rattle.laws.specs.Distinct.{distinct}
 use Rattle.answer.specs.declared.Answer.TheVariants as answer
-use Rattle.answer.specs.declared.Check.{Check}
-use Rattle.answer.specs.declared.Check.TheVariants.{Pass, Refuse}
+use Rattle.answer.specs.Check.{Check}
 use Rattle.answer.specs.Answer.{is_accepted, is_lost}
 use Rattle.command.specs.Command.{outcome_at}
 use Rattle.transfer.specs.Routes.{route_of}
@@ -20,8 +19,8 @@ use Rattle.theorem_slot.specs.Call.{Buffers, Asked, disconnects, left}
 use Rattle.theorem_slot.specs.Answers.{is_bring_up}
 
 unfoldable pub passes : Check → Bool
-passes Pass = true
-passes (Refuse a) = false
+passes (Ok _) = true
+passes (Err a) = false
 
 -- Accepted exactly if its checks pass and Disable is done: the command after the Stops of control and of each endpoint.
 abbrev pub AcceptedByDisable : Type 0

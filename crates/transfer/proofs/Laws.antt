@@ -11,9 +11,10 @@ use lib.ListN.{length, get_or, drop, length-set, replicate, get_or-replicate}
 use lib.Seq.{length-sets, get_or-set_same, get_or-set_other}
 use Rattle.laws.proofs.Stores.{sets_past, sets_before, sets_there}
 use Rattle.laws.proofs.Tests.{not_both}
-use Rattle.transfer.specs.declared.Registered.TheVariants as register
-use Rattle.transfer.specs.declared.Replaced.{Replaced}
-use Rattle.transfer.specs.declared.Replaced.TheVariants as replace
+use Rattle.laws.proofs.Cases.{or_right, or_none}
+use Rattle.std.specs.Prelude.{Result, Ok, Err}
+use Rattle.transfer.specs.declared.RouteError.{RouteError}
+use Rattle.transfer.specs.declared.RouteError.TheVariants.{InvalidEndpoint, QueueFull}
 use Rattle.transfer.specs.Routes.{route_index, route_of, with_route, without_slot, Queue, queues, names, registered, with_registered, old_match, new_free, cleared, published, replaced, moved, with_replaced, ring_for, Small, OutsideSlot}
 
 -- A slot's endpoint is told by its word.
@@ -96,10 +97,6 @@ module _ (slot : ℕ) (q : Queue) (qs : List Queue) (k : ℕ) (h : Apart slot (q
   apart_rest : Apart slot qs k
   unfolding names
   apart_rest d e = h d (or_right (eqb q.dci d) (names d qs) e)
-    where
-      or_right : (a b : Bool) → b ≡ true → (a || b) ≡ true
-      or_right true b p = refl
-      or_right false b p = p
 
 -- Clearing touches no other word.
 pub cleared_other : (routes : List ℕ) (slot : ℕ) (qs : List Queue) (k : ℕ) → Apart slot qs k → get_or (cleared routes slot qs) k 0 ≡ get_or routes k 0
@@ -133,61 +130,52 @@ unfolding Small queues
 small_queues [] rs h = tt
 small_queues (d ∷ ds) rs h = (h 0 (omega arith), small_queues ds (drop 1 rs) (λ i l. h (suc i) (omega arith)))
 
-or-false : (a b : Bool) → (a || b) ≡ false → (a ≡ false) × (b ≡ false)
-or-false true b e = not_both true refl e
-or-false false b e = (refl, e)
-
 -- Queues that do not name an endpoint leave its route.
 pub ring_for_none : (d : ℕ) (qs : List Queue) (v : ℕ) → names d qs ≡ false → ring_for d qs v ≡ v
 unfolding ring_for names
 ring_for_none d [] v e = refl
 ring_for_none d (q ∷ qs) v e =
-    let n : (eqb q.dci d ≡ false) × (names d qs ≡ false) = or-false (eqb q.dci d) (names d qs) e in
+    let n = or_none (eqb q.dci d) (names d qs) e in
     rw n.0 (ring_for_none d qs v n.1)
 
 module _ (routes : List ℕ) (slot : ℕ) (old new : List Queue) where
-  -- `Done` says that both checks hold.
-  pub replaced_done : replaced routes slot old new ≡ replace.Done → (old_match routes slot old ≡ true) × (new_free routes slot old new ≡ true)
+  -- `Ok` says that both checks hold.
+  pub replaced_done : replaced routes slot old new ≡ Ok tt → (old_match routes slot old ≡ true) × (new_free routes slot old new ≡ true)
   unfolding replaced
   replaced_done = both (old_match routes slot old) (new_free routes slot old new)
     where
-      both : (a b : Bool) → cond a (cond b replace.Done replace.QueueFull) replace.InvalidEndpoint ≡ replace.Done → (a ≡ true) × (b ≡ true)
+      both : (a b : Bool) → cond a (cond b (Ok (tt {0})) (Err QueueFull)) (Err InvalidEndpoint) ≡ Ok tt → (a ≡ true) × (b ≡ true)
       both true true e = (refl, refl)
-      both true false e = let z : ◌≡◌ {A = ℕ} 0 1 = cc in absurd (omega arith)
-      both false b e = let z : ◌≡◌ {A = ℕ} 0 1 = cc in absurd (omega arith)
+      both true false e = cc
+      both false b e = cc
 
-  -- Where both checks hold, `Done` is answered.
-  pub done_replaced : old_match routes slot old ≡ true → new_free routes slot old new ≡ true → replaced routes slot old new ≡ replace.Done
+  -- Where both checks hold, `Ok` is answered.
+  pub done_replaced : old_match routes slot old ≡ true → new_free routes slot old new ≡ true → replaced routes slot old new ≡ Ok tt
   unfolding replaced
   done_replaced p q = rw (p, q)
 
   -- Where an old route is not its ring, `InvalidEndpoint` is answered.
-  pub invalid_replaced : old_match routes slot old ≡ false → replaced routes slot old new ≡ replace.InvalidEndpoint
+  pub invalid_replaced : old_match routes slot old ≡ false → replaced routes slot old new ≡ Err InvalidEndpoint
   unfolding replaced
   invalid_replaced p = rw p
 
   -- Where the old routes are right and a new one is not free, `QueueFull` is answered.
-  pub full_replaced : old_match routes slot old ≡ true → new_free routes slot old new ≡ false → replaced routes slot old new ≡ replace.QueueFull
+  pub full_replaced : old_match routes slot old ≡ true → new_free routes slot old new ≡ false → replaced routes slot old new ≡ Err QueueFull
   unfolding replaced
   full_replaced p q = rw (p, q)
 
-  -- `InvalidEndpoint` leaves the table.
-  pub invalid_kept : replaced routes slot old new ≡ replace.InvalidEndpoint → with_replaced routes slot old new ≡ routes
+  -- An error leaves the table.
+  pub error_kept : (r : RouteError) → replaced routes slot old new ≡ Err r → with_replaced routes slot old new ≡ routes
   unfolding with_replaced moved
-  invalid_kept e = rw e
+  error_kept r e = rw e
 
-  -- `QueueFull` leaves the table.
-  pub full_kept : replaced routes slot old new ≡ replace.QueueFull → with_replaced routes slot old new ≡ routes
-  unfolding with_replaced moved
-  full_kept e = rw e
-
-  -- `Done` clears the old routes and then publishes the new ones.
-  pub done_moved : replaced routes slot old new ≡ replace.Done → with_replaced routes slot old new ≡ published (cleared routes slot old) slot new
+  -- `Ok` clears the old routes and then publishes the new ones.
+  pub done_moved : replaced routes slot old new ≡ Ok tt → with_replaced routes slot old new ≡ published (cleared routes slot old) slot new
   unfolding with_replaced moved
   done_moved e = rw e
 
-  -- Each word of the slot after `Done`.
-  pub replaced_at : (d : ℕ) → replaced routes slot old new ≡ replace.Done → route_index slot d < length routes → route_of (with_replaced routes slot old new) slot d ≡ ring_for d new (cond (names d old) 0 (route_of routes slot d))
+  -- Each word of the slot after `Ok`.
+  pub replaced_at : (d : ℕ) → replaced routes slot old new ≡ Ok tt → route_index slot d < length routes → route_of (with_replaced routes slot old new) slot d ≡ ring_for d new (cond (names d old) 0 (route_of routes slot d))
   replaced_at d e h =
       rw (done_moved e) (published_at (cleared routes slot old) slot new d (rw (cleared_length routes slot old) h)
       ∙ rw (cleared_at routes slot old d h))
@@ -197,20 +185,18 @@ module _ (routes : List ℕ) (slot : ℕ) (old new : List Queue) where
   unfolding with_replaced moved
   replaced_length = after (replaced routes slot old new)
     where
-      after : (a : Replaced) → length (moved a routes slot old new) ≡ length routes
-      after replace.Done = published_length (cleared routes slot old) slot new ∙ cleared_length routes slot old
-      after replace.InvalidEndpoint = refl
-      after replace.QueueFull = refl
+      after : (a : Result Unit RouteError) → length (moved a routes slot old new) ≡ length routes
+      after (Ok _) = published_length (cleared routes slot old) slot new ∙ cleared_length routes slot old
+      after (Err _) = refl
 
   -- Whatever the answer, a word that no queue has stays.
   pub replaced_other : (k : ℕ) → Apart slot old k → Apart slot new k → get_or (with_replaced routes slot old new) k 0 ≡ get_or routes k 0
   unfolding with_replaced moved
   replaced_other k o n = after (replaced routes slot old new)
     where
-      after : (a : Replaced) → get_or (moved a routes slot old new) k 0 ≡ get_or routes k 0
-      after replace.Done = published_other (cleared routes slot old) slot new k n ∙ cleared_other routes slot old k o
-      after replace.InvalidEndpoint = refl
-      after replace.QueueFull = refl
+      after : (a : Result Unit RouteError) → get_or (moved a routes slot old new) k 0 ≡ get_or routes k 0
+      after (Ok _) = published_other (cleared routes slot old) slot new k n ∙ cleared_other routes slot old k o
+      after (Err _) = refl
 
   -- Whatever the answer, a word outside the slot stays.
   pub replaced_outside : (k : ℕ) → Small old → Small new → OutsideSlot slot k → get_or (with_replaced routes slot old new) k 0 ≡ get_or routes k 0
@@ -218,17 +204,17 @@ module _ (routes : List ℕ) (slot : ℕ) (old new : List Queue) where
       replaced_other k (λ d e. index_inside slot d k (small_names old d o e) h) (λ d e. index_inside slot d k (small_names new d n e) h)
 
 module _ (routes : List ℕ) (slot dci : ℕ) where
-  -- `Done` says that the endpoint had no route.
-  pub registered_done : registered routes slot dci ≡ register.Done → route_of routes slot dci ≡ 0
+  -- `Ok` says that the endpoint had no route.
+  pub registered_done : registered routes slot dci ≡ Ok tt → route_of routes slot dci ≡ 0
   unfolding registered
   registered_done e = eqb-true (route_of routes slot dci) 0 (free (eqb (route_of routes slot dci) 0) e)
     where
-      free : (a : Bool) → cond a register.Done register.QueueFull ≡ register.Done → a ≡ true
+      free : (a : Bool) → cond a (Ok (tt {0})) (Err QueueFull) ≡ Ok tt → a ≡ true
       free true p = refl
-      free false p = let z : ◌≡◌ {A = ℕ} 0 1 = cc in absurd (omega arith)
+      free false p = cc
 
-  -- Where the endpoint has no route, `Done` is answered.
-  pub done_registered : route_of routes slot dci ≡ 0 → registered routes slot dci ≡ register.Done
+  -- Where the endpoint has no route, `Ok` is answered.
+  pub done_registered : route_of routes slot dci ≡ 0 → registered routes slot dci ≡ Ok tt
   unfolding registered
   done_registered h = rw (eq-eqb (route_of routes slot dci) 0 h)
 
@@ -239,12 +225,12 @@ module _ (routes : List ℕ) (slot dci : ℕ) where
     registered_at e h = rw (eq-eqb (route_of routes slot dci) 0 e) (put_same routes slot dci ring h)
 
     -- `QueueFull` leaves the table.
-    pub registered_full : registered routes slot dci ≡ register.QueueFull → with_registered routes slot dci ring ≡ routes
+    pub registered_full : registered routes slot dci ≡ Err QueueFull → with_registered routes slot dci ring ≡ routes
     unfolding registered with_registered
     registered_full e = rw (full (eqb (route_of routes slot dci) 0) e)
       where
-        full : (a : Bool) → cond a register.Done register.QueueFull ≡ register.QueueFull → a ≡ false
-        full true p = let z : ◌≡◌ {A = ℕ} 0 1 = cc in absurd (omega arith)
+        full : (a : Bool) → cond a (Ok (tt {0})) (Err QueueFull) ≡ Err QueueFull → a ≡ false
+        full true p = cc
         full false p = refl
 
     -- Whatever the answer, the length stays.

@@ -10,9 +10,11 @@ use native.Mathlib.Numerals.{add-one}
 use borrow.Author.Tests.{not-true, not-false}
 use lib.Dec.{eqb}
 use lib.ListN.{length, get_or, set, drop, replicate, drop_of_length-le}
-use lib.Seq.{sets, set_out}
-use Rattle.transfer.proofs.Laws.{invalid_replaced, full_replaced, done_replaced, invalid_kept, full_kept, done_moved}
-use Rattle.transfer.specs.declared.Replaced.TheVariants as replace
+use lib.Seq.{sets}
+use Rattle.transfer.proofs.Laws.{invalid_replaced, full_replaced, done_replaced, error_kept, done_moved}
+use Rattle.std.specs.Prelude.{Ok, Err}
+use Rattle.std.specs.List.{list_any}
+use Rattle.transfer.specs.declared.RouteError.TheVariants.{InvalidEndpoint, QueueFull}
 use Rattle.transfer.specs.Routes.{Queue, queues, names, route_index, route_of, with_route, old_match, is_free, new_free, cleared, published, replaced, with_replaced, without_slot}
 
 length_queues : (ds rs : List ℕ) → length (queues ds rs) ≡ length ds
@@ -39,14 +41,6 @@ module _ (ds rs : List ℕ) (i : ℕ) where
 
   rest_none : length ds ≤ i → drop i (queues ds rs) ≡ []
   rest_none h = let l : length (queues ds rs) ≤ i = rw (length_queues ds rs) h in drop_of_length-le (queues ds rs) l
-
-  pub names_next : (d : ℕ) → i < length ds → names d (drop i (queues ds rs)) ≡ eqb (get_or ds i 0) d || names d (drop (i + 1) (queues ds rs))
-  unfolding names
-  names_next d h = rw (rest_next h)
-
-  pub names_none : (d : ℕ) → length ds ≤ i → names d (drop i (queues ds rs)) ≡ false
-  unfolding names
-  names_none d h = rw (rest_none h)
 
   module _ (routes : List ℕ) (slot : ℕ) where
     pub match_next : i < length ds → old_match routes slot (drop i (queues ds rs)) ≡ eqb (route_of routes slot (get_or ds i 0)) (get_or rs i 0) && old_match routes slot (drop (i + 1) (queues ds rs))
@@ -88,6 +82,12 @@ module _ (ds rs : List ℕ) (i : ℕ) where
     unfolding published
     publish_none h = rw (rest_none h)
 
+-- The endpoints that queues name are their Dcis.
+pub names_dcis : (d : ℕ) (ds rs : List ℕ) → list_any (λ y. eqb y d) ds ≡ names d (queues ds rs)
+unfolding names queues
+names_dcis d [] rs = refl
+names_dcis d (e ∷ ds) rs = rw (names_dcis d ds (drop 1 rs))
+
 -- Where only the endpoints of the queues count.
 names_rings : (d : ℕ) (ds rs : List ℕ) → names d (queues ds rs) ≡ names d (queues ds [])
 unfolding names queues
@@ -107,21 +107,21 @@ clear_rings routes slot (d ∷ ds) rs = clear_rings (with_route routes slot d 0)
 
 -- The exits of `replace_queues`, by what the code found; the newest fact comes first.
 module _ (routes : List ℕ) (slot : ℕ) (ds rs : List ℕ) (new : List Queue) where
-  pub at_invalid : not (old_match routes slot (queues ds rs)) ≡ true → (replace.InvalidEndpoint ≡ replaced routes slot (queues ds rs) new) × (routes ≡ with_replaced routes slot (queues ds rs) new)
+  pub at_invalid : not (old_match routes slot (queues ds rs)) ≡ true → (Err InvalidEndpoint ≡ replaced routes slot (queues ds rs) new) × (routes ≡ with_replaced routes slot (queues ds rs) new)
   at_invalid o =
-      let e : replaced routes slot (queues ds rs) new ≡ replace.InvalidEndpoint = invalid_replaced routes slot (queues ds rs) new (not-true (old_match routes slot (queues ds rs)) o) in
-      (sym e, sym (invalid_kept routes slot (queues ds rs) new e))
+      let e : replaced routes slot (queues ds rs) new ≡ Err InvalidEndpoint = invalid_replaced routes slot (queues ds rs) new (not-true (old_match routes slot (queues ds rs)) o) in
+      (sym e, sym (error_kept routes slot (queues ds rs) new _ e))
 
-  pub at_full : not (new_free routes slot (queues ds []) new) ≡ true → not (old_match routes slot (queues ds rs)) ≡ false → (replace.QueueFull ≡ replaced routes slot (queues ds rs) new) × (routes ≡ with_replaced routes slot (queues ds rs) new)
+  pub at_full : not (new_free routes slot (queues ds []) new) ≡ true → not (old_match routes slot (queues ds rs)) ≡ false → (Err QueueFull ≡ replaced routes slot (queues ds rs) new) × (routes ≡ with_replaced routes slot (queues ds rs) new)
   at_full n o =
       let f : new_free routes slot (queues ds rs) new ≡ false = rw (free_rings_lem routes slot ds rs new) (not-true (new_free routes slot (queues ds []) new) n) in
-      let e : replaced routes slot (queues ds rs) new ≡ replace.QueueFull = full_replaced routes slot (queues ds rs) new (not-false (old_match routes slot (queues ds rs)) o) f in
-      (sym e, sym (full_kept routes slot (queues ds rs) new e))
+      let e : replaced routes slot (queues ds rs) new ≡ Err QueueFull = full_replaced routes slot (queues ds rs) new (not-false (old_match routes slot (queues ds rs)) o) f in
+      (sym e, sym (error_kept routes slot (queues ds rs) new _ e))
 
-  pub at_done : (after : List ℕ) → after ≡ published (published routes slot (queues ds [])) slot new → not (new_free routes slot (queues ds []) new) ≡ false → not (old_match routes slot (queues ds rs)) ≡ false → (replace.Done ≡ replaced routes slot (queues ds rs) new) × (after ≡ with_replaced routes slot (queues ds rs) new)
+  pub at_done : (after : List ℕ) → after ≡ published (published routes slot (queues ds [])) slot new → not (new_free routes slot (queues ds []) new) ≡ false → not (old_match routes slot (queues ds rs)) ≡ false → (Ok tt ≡ replaced routes slot (queues ds rs) new) × (after ≡ with_replaced routes slot (queues ds rs) new)
   at_done after m n o =
       let f : new_free routes slot (queues ds rs) new ≡ true = rw (free_rings_lem routes slot ds rs new) (not-false (new_free routes slot (queues ds []) new) n) in
-      let e : replaced routes slot (queues ds rs) new ≡ replace.Done = done_replaced routes slot (queues ds rs) new (not-false (old_match routes slot (queues ds rs)) o) f in
+      let e : replaced routes slot (queues ds rs) new ≡ Ok tt = done_replaced routes slot (queues ds rs) new (not-false (old_match routes slot (queues ds rs)) o) f in
       (sym e, rw (done_moved routes slot (queues ds rs) new e, clear_rings routes slot ds rs) m)
 
 -- The slot's words as 0, from a Dci on.
@@ -138,14 +138,9 @@ module _ (routes : List ℕ) (slot : ℕ) where
     unfolding cleared_from
     clear_end h = let e : 32 - dci ≡ 0 = omega arith in rw e
 
-    -- a word that is there, and one that is not
-    module _ (word : ℕ) (h : dci < 32) (w : word ≡ route_index slot dci) where
-      pub clear_next : cleared_from routes slot dci ≡ cleared_from (set routes word 0) slot (dci + 1)
-      unfolding cleared_from route_index
-      clear_next =
-          let e : 32 - dci ≡ suc (32 - (dci + 1)) = omega arith in
-          let n : 32 * slot + (dci + 1) ≡ suc (32 * slot + dci) = omega arith in
-          rw (e, n, w)
-
-      pub clear_out : length routes ≤ word → cleared_from routes slot dci ≡ cleared_from routes slot (dci + 1)
-      clear_out l = clear_next ∙ rw (set_out routes word 0 l)
+    pub clear_next : dci < 32 → cleared_from routes slot dci ≡ cleared_from (set routes (route_index slot dci) 0) slot (dci + 1)
+    unfolding cleared_from route_index
+    clear_next h =
+        let e : 32 - dci ≡ suc (32 - (dci + 1)) = omega arith in
+        let n : 32 * slot + (dci + 1) ≡ suc (32 * slot + dci) = omega arith in
+        rw (e, n)

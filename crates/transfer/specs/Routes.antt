@@ -1,10 +1,8 @@
 -- The route table of all slots, from 01, "Routes" and "replace_queues".
-use Rattle.std.specs.Prelude.{ℕ, ◌+◌, ◌*◌, ◌≤◌, ◌<◌, Bool, true, false, cond, ◌&&◌, ◌||◌, List, [], ◌∷◌, ◌⊎◌, eqb, get_or, set, drop, replicate}
+use Rattle.std.specs.Prelude.{ℕ, ◌+◌, ◌*◌, ◌≤◌, ◌<◌, Bool, true, false, cond, ◌&&◌, ◌||◌, List, [], ◌∷◌, ◌⊎◌, eqb, get_or, set, drop, replicate, Result, Ok, Err}
 use Rattle.std.proofs.lemmas.List.Edits.{sets}
-use Rattle.transfer.specs.declared.Registered.{Registered}
-use Rattle.transfer.specs.declared.Registered.TheVariants as register
-use Rattle.transfer.specs.declared.Replaced.{Replaced}
-use Rattle.transfer.specs.declared.Replaced.TheVariants as replace
+use Rattle.transfer.specs.declared.RouteError.{RouteError}
+use Rattle.transfer.specs.declared.RouteError.TheVariants.{InvalidEndpoint, QueueFull}
 
 -- Word 32 × slot + Dci is a ring's bus address; 0 is none.
 unfoldable pub route_index : ℕ → ℕ → ℕ
@@ -26,8 +24,8 @@ pub record Queue : Type 0 where
   pub ring : ℕ
 
 -- What `register_queue` answers, and the table that it leaves.
-unfoldable pub registered : List ℕ → ℕ → ℕ → Registered
-registered routes slot dci = cond (eqb (route_of routes slot dci) 0) register.Done register.QueueFull
+unfoldable pub registered : List ℕ → ℕ → ℕ → Result Unit RouteError
+registered routes slot dci = cond (eqb (route_of routes slot dci) 0) (Ok tt) (Err QueueFull)
 
 unfoldable pub with_registered : List ℕ → ℕ → ℕ → ℕ → List ℕ
 with_registered routes slot dci ring = cond (eqb (route_of routes slot dci) 0) (with_route routes slot dci ring) routes
@@ -52,11 +50,11 @@ new_free routes slot old [] = true
 new_free routes slot old (q ∷ qs) = is_free routes slot old q && new_free routes slot old qs
 
 -- What `replace_queues` answers: all old routes are checked, then all new ones.
-unfoldable pub replaced : List ℕ → ℕ → List Queue → List Queue → Replaced
+unfoldable pub replaced : List ℕ → ℕ → List Queue → List Queue → Result Unit RouteError
 replaced routes slot old new =
     cond (old_match routes slot old)
-    (cond (new_free routes slot old new) replace.Done replace.QueueFull)
-    replace.InvalidEndpoint
+    (cond (new_free routes slot old new) (Ok tt) (Err QueueFull))
+    (Err InvalidEndpoint)
 
 unfoldable pub cleared : List ℕ → ℕ → List Queue → List ℕ
 cleared routes slot [] = routes
@@ -67,10 +65,9 @@ published routes slot [] = routes
 published routes slot (q ∷ qs) = published (with_route routes slot q.dci q.ring) slot qs
 
 -- The table that it leaves: only where both checks hold is anything moved.
-unfoldable pub moved : Replaced → List ℕ → ℕ → List Queue → List Queue → List ℕ
-moved replace.Done routes slot old new = published (cleared routes slot old) slot new
-moved replace.InvalidEndpoint routes slot old new = routes
-moved replace.QueueFull routes slot old new = routes
+unfoldable pub moved : Result Unit RouteError → List ℕ → ℕ → List Queue → List Queue → List ℕ
+moved (Ok _) routes slot old new = published (cleared routes slot old) slot new
+moved (Err _) routes slot old new = routes
 
 unfoldable pub with_replaced : List ℕ → ℕ → List Queue → List Queue → List ℕ
 with_replaced routes slot old new = moved (replaced routes slot old new) routes slot old new

@@ -1,20 +1,13 @@
 // The routes of all slots: the ring that each endpoint's completions go to (transfer.rs of the original).
 #![tactic(auto)]
 
-ghost use Rattle.std.specs.Prelude.{◌≡◌, [], get_or};
-ghost use Rattle.transfer.specs.Routes.{route_index, queues, names, registered, with_registered, old_match, new_free, published, replaced, with_replaced, without_slot};
+ghost use Rattle.std.specs.Prelude.{◌≡◌, [], get_or, set};
+ghost use Rattle.transfer.specs.Routes.{route_index, queues, registered, with_registered, old_match, new_free, published, replaced, with_replaced, without_slot};
 
 use def::{Dci, SlotId};
 
-#[derive(Clone, Copy)]
-pub enum Registered {
-    Done,
-    QueueFull,
-}
-
-#[derive(Clone, Copy)]
-pub enum Replaced {
-    Done,
+#[derive(Clone, Copy, PartialEq, Eq)]
+pub enum RouteError {
     InvalidEndpoint,
     QueueFull,
 }
@@ -32,63 +25,56 @@ pub fn route_index(slot: SlotId, dci: Dci) -> usize
 fn word_at(words: &[u64], i: usize) -> u64
     ensures { result ≡ get_or words.now i 0 }
 {
-    if i < words.len() { words[i] } else { 0 }
+    words.get(i).copied().unwrap_or(0)
 }
 
 // A word past the end is not written.
-pub fn register_queue(routes: &mut [u64], slot: SlotId, dci: Dci, ring: u64) -> Registered
+fn put_word(words: &mut [u64], i: usize, word: u64)
+    ensures { words.new ≡ set words.old i word }
+{
+    if i < words.len() {
+        words[i] = word;
+    }
+}
+
+// Gives an endpoint that has no route its ring; a word past the end is not written.
+pub fn register_queue(
+    routes: &mut [u64],
+    slot: SlotId,
+    dci: Dci,
+    ring: u64,
+) -> Result<(), RouteError>
     ensures { (result ≡ registered routes.old slot.0 dci.0) × (routes.new ≡ with_registered routes.old slot.0 dci.0 ring) }
 {
     let i = route_index(slot, dci);
-    if i < routes.len() {
-        if routes[i] != 0 {
-            return Registered::QueueFull;
-        }
-        routes[i] = ring;
+    if word_at(routes, i) != 0 {
+        return Err(RouteError::QueueFull);
     }
-    Registered::Done
+    put_word(routes, i, ring);
+    Ok(())
 }
 
 // Whether each old endpoint's route is its ring.
 fn old_match(routes: &[u64], slot: SlotId, dcis: &[u8], rings: &[u64]) -> bool
     ensures { result ≡ old_match routes.now slot.0 (queues dcis.now rings.now) }
 {
-    let mut i = 0;
-    while i < dcis.len() {
-        let word = word_at(routes, route_index(slot, Dci(dcis[i])));
+    for (i, &dci) in dcis.iter().enumerate() {
+        let word = word_at(routes, route_index(slot, Dci(dci)));
         if word != word_at(rings, i) {
             return false;
         }
-        i += 1;
     }
     true
-}
-
-// Whether an endpoint is among those of a list, whatever its ring (so the queues have none).
-fn is_among(dcis: &[u8], dci: u8) -> bool
-    ensures { result ≡ names dci (queues dcis.now []) }
-{
-    let mut i = 0;
-    while i < dcis.len() {
-        if dcis[i] == dci {
-            return true;
-        }
-        i += 1;
-    }
-    false
 }
 
 // Whether each new endpoint's route is none, its own ring already, or an old endpoint's.
 fn new_free(routes: &[u64], slot: SlotId, old_dcis: &[u8], dcis: &[u8], rings: &[u64]) -> bool
     ensures { result ≡ new_free routes.now slot.0 (queues old_dcis.now []) (queues dcis.now rings.now) }
 {
-    let mut i = 0;
-    while i < dcis.len() {
-        let dci = dcis[i];
+    for (i, &dci) in dcis.iter().enumerate() {
         let word = word_at(routes, route_index(slot, Dci(dci)));
         let ring = word_at(rings, i);
-        i += 1;
-        if word != 0 && word != ring && !is_among(old_dcis, dci) {
+        if word != 0 && word != ring && !old_dcis.contains(&dci) {
             return false;
         }
     }
@@ -99,14 +85,8 @@ fn new_free(routes: &[u64], slot: SlotId, old_dcis: &[u8], dcis: &[u8], rings: &
 fn put_routes(routes: &mut [u64], slot: SlotId, dcis: &[u8], rings: &[u64])
     ensures { routes.new ≡ published routes.old slot.0 (queues dcis.now rings.now) }
 {
-    let mut i = 0;
-    while i < dcis.len() {
-        let word = route_index(slot, Dci(dcis[i]));
-        let ring = word_at(rings, i);
-        i += 1;
-        if word < routes.len() {
-            routes[word] = ring;
-        }
+    for (i, &dci) in dcis.iter().enumerate() {
+        put_word(routes, route_index(slot, Dci(dci)), word_at(rings, i));
     }
 }
 
@@ -114,17 +94,13 @@ fn put_routes(routes: &mut [u64], slot: SlotId, dcis: &[u8], rings: &[u64])
 pub fn clear_slot(routes: &mut [u64], slot: SlotId)
     ensures { routes.new ≡ without_slot routes.old slot.0 }
 {
-    let mut dci = 0;
-    while dci < 32 {
-        let word = route_index(slot, Dci(dci));
-        dci += 1;
-        if word < routes.len() {
-            routes[word] = 0;
-        }
+    for dci in 0..32 {
+        put_word(routes, route_index(slot, Dci(dci)), 0);
     }
 }
 
-// Takes the old endpoints' routes out and puts the new ones in, or refuses and changes nothing.
+// Takes the old endpoints' routes out and puts the new ones in, or refuses and changes nothing. Dcis and rings are lists apart, as its
+// callers' arrays are: a struct of two lent lists, made for this call alone, is no plainer.
 pub fn replace_queues(
     routes: &mut [u64],
     slot: SlotId,
@@ -132,19 +108,19 @@ pub fn replace_queues(
     old_rings: &[u64],
     new_dcis: &[u8],
     new_rings: &[u64],
-) -> Replaced
+) -> Result<(), RouteError>
     ensures { (result ≡ replaced routes.old slot.0
         (queues old_dcis.now old_rings.now) (queues new_dcis.now new_rings.now))
         × (routes.new ≡ with_replaced routes.old slot.0
         (queues old_dcis.now old_rings.now) (queues new_dcis.now new_rings.now)) }
 {
     if !old_match(routes, slot, old_dcis, old_rings) {
-        return Replaced::InvalidEndpoint;
+        return Err(RouteError::InvalidEndpoint);
     }
     if !new_free(routes, slot, old_dcis, new_dcis, new_rings) {
-        return Replaced::QueueFull;
+        return Err(RouteError::QueueFull);
     }
-    put_routes(routes, slot, old_dcis, &[0u64; 0]);
+    put_routes(routes, slot, old_dcis, &[]);
     put_routes(routes, slot, new_dcis, new_rings);
-    Replaced::Done
+    Ok(())
 }

@@ -1,51 +1,38 @@
 // Runs the context facts of document 01 at both spacings, over contents that are not zero; crates/vectors_context/stdout holds what they must be.
 #![tactic(auto)]
 
+ghost use Rattle.std.specs.Prelude.{length};
+ghost use Rattle.context.specs.Place.{Spaced};
+
 mod show;
 mod steps;
 mod view;
 
 use std::io;
 
-fn narrow(rt: &impl Print) -> io::Result<()> {
-    let mut ctx = [0x5au8; 1056];
-    show::text(rt, b"spacing 32, over bytes of 0x5a\n")?;
-    steps::header(rt, &mut ctx, 32)?;
-    steps::claim_two(rt, &mut ctx, 32)?;
-    steps::configuration(rt, &mut ctx, 32)?;
-    steps::hub(rt, &mut ctx, 32, def::HIGH, 3)?;
-    steps::hub(rt, &mut ctx, 32, def::FULL, 1)
+fn over_contents(rt: &impl Print, ctx: &mut [u8], spacing: usize) -> io::Result<()>
+    requires { Spaced spacing (length ctx.old) }
+{
+    println!(rt; "spacing {spacing}, over bytes of 0x5a")?;
+    steps::header(rt, ctx, spacing)?;
+    steps::claim_two(rt, ctx, spacing)?;
+    steps::configuration(rt, ctx, spacing)?;
+    steps::hub(rt, ctx, spacing, def::HIGH, 3)?;
+    steps::hub(rt, ctx, spacing, def::FULL, 1)
 }
 
-fn narrow_address(rt: &impl Print) -> io::Result<()> {
-    let mut ctx = [0x5au8; 1056];
-    show::text(rt, b"spacing 32, after Address\n")?;
-    steps::address(rt, &mut ctx, 32)?;
-    steps::claim_one(rt, &mut ctx, 32)?;
-    view::claimed(rt, &ctx, 32, 64)
-}
-
-fn wide(rt: &impl Print) -> io::Result<()> {
-    let mut ctx = [0x5au8; 2112];
-    show::text(rt, b"spacing 64, over bytes of 0x5a\n")?;
-    steps::header(rt, &mut ctx, 64)?;
-    steps::claim_two(rt, &mut ctx, 64)?;
-    steps::configuration(rt, &mut ctx, 64)?;
-    steps::hub(rt, &mut ctx, 64, def::HIGH, 3)?;
-    steps::hub(rt, &mut ctx, 64, def::FULL, 1)
-}
-
-fn wide_address(rt: &impl Print) -> io::Result<()> {
-    let mut ctx = [0x5au8; 2112];
-    show::text(rt, b"spacing 64, after Address\n")?;
-    steps::address(rt, &mut ctx, 64)?;
-    steps::claim_one(rt, &mut ctx, 64)?;
-    view::claimed(rt, &ctx, 64, 32)
+fn after_address(rt: &impl Print, ctx: &mut [u8], spacing: usize, other: usize) -> io::Result<()>
+    requires { Spaced spacing (length ctx.old) }
+{
+    println!(rt; "spacing {spacing}, after Address")?;
+    steps::address(rt, ctx, spacing)?;
+    steps::claim_one(rt, ctx, spacing)?;
+    view::claimed(rt, ctx, spacing, other)
 }
 
 fn main(rt: HostRuntime) -> io::Result<()> {
-    narrow(&rt)?;
-    narrow_address(&rt)?;
-    wide(&rt)?;
-    wide_address(&rt)
+    over_contents(&rt, &mut [0x5a; 1056], 32)?;
+    after_address(&rt, &mut [0x5a; 1056], 32, 64)?;
+    over_contents(&rt, &mut [0x5a; 2112], 64)?;
+    after_address(&rt, &mut [0x5a; 2112], 64, 32)
 }

@@ -1,56 +1,25 @@
 // Blocks of a context on standard output.
 use std::io;
 
-pub fn text(rt: &impl Print, s: &[u8]) -> io::Result<()> {
-    rt.write_all(s)
-}
-
-pub fn number(rt: &impl Print, x: u64) -> io::Result<()> {
+// The little-endian doubleword that begins at a place; nothing where the context ends before.
+fn doubleword(rt: &impl Print, ctx: &[u8], at: usize) -> io::Result<()> {
+    let Some([a, b, c, d, ..]) = ctx.get(at..) else {
+        return Ok(());
+    };
+    let x = u32::from_le_bytes([*a, *b, *c, *d]);
     print!(rt; " {x:08x}")
 }
 
-fn byte(rt: &impl Print, ctx: &[u8], at: usize) -> io::Result<()> {
-    if at < ctx.len() {
-        let b = ctx[at];
-        print!(rt; "{b:02x}")?;
-    }
-    Ok(())
-}
-
-// A little-endian doubleword, most significant byte first.
-fn doubleword(rt: &impl Print, ctx: &[u8], at: u16) -> io::Result<()> {
-    let a = at as usize;
-    rt.print(" ")?;
-    byte(rt, ctx, a + 3)?;
-    byte(rt, ctx, a + 2)?;
-    byte(rt, ctx, a + 1)?;
-    byte(rt, ctx, a)
-}
-
 // The eight doublewords of block number b, and after them the next one where blocks are 64 bytes apart.
-pub fn block(rt: &impl Print, label: &[u8], ctx: &[u8], spacing: usize, b: u8) -> io::Result<()> {
-    rt.write_all(label)?;
+pub fn block(rt: &impl Print, label: &str, ctx: &[u8], spacing: usize, b: u8) -> io::Result<()> {
+    print!(rt; "{label}")?;
+    let at = spacing.saturating_mul(b as usize);
+    for word in 0..8 {
+        doubleword(rt, ctx, at.saturating_add(4 * word))?;
+    }
     if spacing == 64 {
-        let at = (b as u16) * 64;
-        block_at(rt, ctx, at)?;
-        rt.print(" |")?;
-        doubleword(rt, ctx, at + 32)?;
-    } else {
-        block_at(rt, ctx, (b as u16) * 32)?;
+        print!(rt; " |")?;
+        doubleword(rt, ctx, at.saturating_add(32))?;
     }
-    rt.print("\n")
-}
-
-fn block_at(rt: &impl Print, ctx: &[u8], at: u16) -> io::Result<()> {
-    if at < 60000 {
-        doubleword(rt, ctx, at)?;
-        doubleword(rt, ctx, at + 4)?;
-        doubleword(rt, ctx, at + 8)?;
-        doubleword(rt, ctx, at + 12)?;
-        doubleword(rt, ctx, at + 16)?;
-        doubleword(rt, ctx, at + 20)?;
-        doubleword(rt, ctx, at + 24)?;
-        doubleword(rt, ctx, at + 28)?;
-    }
-    Ok(())
+    println!(rt; "")
 }

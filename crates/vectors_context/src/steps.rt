@@ -16,21 +16,21 @@ pub fn address(rt: &impl Print, ctx: &mut [u8], spacing: usize) -> io::Result<()
         port: 20,
     };
     context_writer::address_context(ctx, spacing, def::FULL, 0xf4, t, 3, 0x1_2345_6780);
-    show::text(rt, b"Address\n")?;
-    show::block(rt, b"control:", ctx, spacing, 0)?;
-    show::block(rt, b"slot:", ctx, spacing, 1)?;
-    show::block(rt, b"Dci 1:", ctx, spacing, 2)?;
-    show::block(rt, b"Dci 31:", ctx, spacing, 32)
+    println!(rt; "Address")?;
+    show::block(rt, "control:", ctx, spacing, 0)?;
+    show::block(rt, "slot:", ctx, spacing, 1)?;
+    show::block(rt, "Dci 1:", ctx, spacing, 2)?;
+    show::block(rt, "Dci 31:", ctx, spacing, 32)
 }
 
 pub fn header(rt: &impl Print, ctx: &mut [u8], spacing: usize) -> io::Result<()>
     requires { Spaced spacing (length ctx.old) }
 {
     context_writer::setup_max_packet(ctx, spacing, def::FULL, 0);
-    show::text(rt, b"header byte 0\n")?;
-    show::block(rt, b"control:", ctx, spacing, 0)?;
-    show::block(rt, b"Dci 1:", ctx, spacing, 2)?;
-    show::block(rt, b"Dci 31:", ctx, spacing, 32)
+    println!(rt; "header byte 0")?;
+    show::block(rt, "control:", ctx, spacing, 0)?;
+    show::block(rt, "Dci 1:", ctx, spacing, 2)?;
+    show::block(rt, "Dci 31:", ctx, spacing, 32)
 }
 
 // 0x81, interrupt, size 64, packets 1, interval 4.
@@ -58,10 +58,10 @@ pub fn claim_one(rt: &impl Print, ctx: &mut [u8], spacing: usize) -> io::Result<
         &[0x2000],
         &[0u8; 0],
     );
-    show::text(rt, b"claim of 0x81, interrupt\n")?;
-    show::block(rt, b"control:", ctx, spacing, 0)?;
-    show::block(rt, b"slot:", ctx, spacing, 1)?;
-    show::block(rt, b"Dci 3:", ctx, spacing, 4)
+    println!(rt; "claim of 0x81, interrupt")?;
+    show::block(rt, "control:", ctx, spacing, 0)?;
+    show::block(rt, "slot:", ctx, spacing, 1)?;
+    show::block(rt, "Dci 3:", ctx, spacing, 4)
 }
 
 pub fn claim_two(rt: &impl Print, ctx: &mut [u8], spacing: usize) -> io::Result<()>
@@ -79,30 +79,27 @@ pub fn claim_two(rt: &impl Print, ctx: &mut [u8], spacing: usize) -> io::Result<
         &[0x3000, 0x4000],
         &[3],
     );
-    show::text(
-        rt,
-        b"claim of 0x02, bulk, and 0x83, isochronous, for 0x81\n",
-    )?;
-    show::block(rt, b"control:", ctx, spacing, 0)?;
-    show::block(rt, b"slot:", ctx, spacing, 1)?;
-    show::block(rt, b"Dci 3:", ctx, spacing, 4)?;
-    show::block(rt, b"Dci 4:", ctx, spacing, 5)?;
-    show::block(rt, b"Dci 7:", ctx, spacing, 8)
+    println!(rt; "claim of 0x02, bulk, and 0x83, isochronous, for 0x81")?;
+    show::block(rt, "control:", ctx, spacing, 0)?;
+    show::block(rt, "slot:", ctx, spacing, 1)?;
+    show::block(rt, "Dci 3:", ctx, spacing, 4)?;
+    show::block(rt, "Dci 4:", ctx, spacing, 5)?;
+    show::block(rt, "Dci 7:", ctx, spacing, 8)
 }
 
 pub fn configuration(rt: &impl Print, ctx: &mut [u8], spacing: usize) -> io::Result<()>
     requires { Spaced spacing (length ctx.old) }
 {
     context_writer::configuration_context(ctx, 9);
-    show::text(rt, b"configuration 9\n")?;
-    show::block(rt, b"control:", ctx, spacing, 0)
+    println!(rt; "configuration 9")?;
+    show::block(rt, "control:", ctx, spacing, 0)
 }
 
 pub fn hub(rt: &impl Print, ctx: &mut [u8], spacing: usize, speed: u8, think: u8) -> io::Result<()>
     requires { Spaced spacing (length ctx.old) }
 {
     context_writer::hub_context(ctx, spacing, speed, 4, false, think);
-    show::text(rt, b"hub of 4 ports, not multi\n")?;
-    show::block(rt, b"slot:", ctx, spacing, 1)?;
-    show::block(rt, b"Dci 31:", ctx, spacing, 32)
+    println!(rt; "hub of 4 ports, not multi")?;
+    show::block(rt, "slot:", ctx, spacing, 1)?;
+    show::block(rt, "Dci 31:", ctx, spacing, 32)
 }

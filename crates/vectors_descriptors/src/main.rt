@@ -5,6 +5,7 @@
 mod show;
 mod text;
 
+use std::alloc::Allocator;
 use std::io;
 use std::io::Read;
 
@@ -20,36 +21,30 @@ fn run(rt: &impl Print, bytes: &[u8]) -> io::Result<()> {
         return Ok(());
     }
     let mut written = [0u8; 2304];
-    let w = xhci_descriptors::xhci_device_write_descriptors(&words[0..n], &mut written);
+    let w = xhci_descriptors::xhci_device_write_descriptors(&words[..n], &mut written);
     let m = show::bytes(rt, w, &written)?;
     let mut again = [0u32; 256];
-    let a = xhci_descriptors::xhci_device_read_descriptors(&written[0..m], &mut again);
+    let a = xhci_descriptors::xhci_device_read_descriptors(&written[..m], &mut again);
     show::again(rt, a, &words, &again)
 }
 
 // The devices of a text: the lines of one, and an empty one.
-fn devices(rt: &impl Print, input: &[u8]) -> io::Result<()> {
-    let mut bytes = [0u8; 1024];
-    let mut count = 0usize;
-    let mut at = 0usize;
-    while at < input.len() {
-        let from = at;
-        let end = text::line_end(input, from);
-        at = end + 1;
-        if end == from {
-            run(rt, &bytes[0..count])?;
-            count = 0;
-        } else if input[from] == b'#' {
-            show::line(rt, &input[from..end])?;
+fn devices<A: Allocator>(rt: &impl Print, alloc: A, input: &str) -> io::Result<()> {
+    let mut bytes = Vec::new(alloc);
+    for line in input.lines() {
+        if line.is_empty() {
+            run(rt, &bytes)?;
+            bytes.clear();
+        } else if line.starts_with('#') {
+            rt.println(line)?;
         } else {
-            count = text::put_line(&input[from..end], &mut bytes, count);
+            text::put_line(line, &mut bytes)?;
         }
     }
     Ok(())
 }
 
 fn main(rt: HostRuntime) -> io::Result<()> {
-    let mut lines = Vec::new(rt.alloc());
-    rt.reader().take(ROOM).read_to_end(&mut lines)?;
-    devices(&rt, &lines)
+    let lines = io::read_to_string(rt.alloc(), rt.reader().take(ROOM))?;
+    devices(&rt, rt.alloc(), &lines)
 }

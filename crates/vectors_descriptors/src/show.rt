@@ -4,19 +4,8 @@ ghost use Rattle.std.specs.Prelude.{◌≤◌, IfOk, length};
 use std::io;
 use xhci_descriptors::Answered;
 
-pub fn line(rt: &impl Print, s: &[u8]) -> io::Result<()> {
-    rt.write_all(s)?;
-    rt.print("\n")
-}
-
 fn answer(rt: &impl Print, a: Answered) -> io::Result<()> {
     println!(rt; "{} {}", a.answer, a.count)
-}
-
-fn held(n: usize, most: usize) -> usize
-    ensures { result ≤ most }
-{
-    if n < most { n } else { most }
 }
 
 // The answer of the reader and its words. Says how many there are.
@@ -25,7 +14,7 @@ pub fn words(rt: &impl Print, a: Answered, words: &[u32]) -> io::Result<usize>
 {
     rt.print("read ")?;
     answer(rt, a)?;
-    let n = held(a.count, words.len());
+    let n = a.count.min(words.len());
     for w in &words[..n] {
         println!(rt; "{w:08x}")?;
     }
@@ -38,7 +27,7 @@ pub fn bytes(rt: &impl Print, a: Answered, bytes: &[u8]) -> io::Result<usize>
 {
     rt.print("written ")?;
     answer(rt, a)?;
-    let n = held(a.count, bytes.len());
+    let n = a.count.min(bytes.len());
     for b in &bytes[..n] {
         print!(rt; "{b:02x}")?;
     }
@@ -46,16 +35,11 @@ pub fn bytes(rt: &impl Print, a: Answered, bytes: &[u8]) -> io::Result<usize>
     Ok(n)
 }
 
-// Whether two lists agree as far as both go.
-fn same(a: &[u32], b: &[u32]) -> bool {
-    a.iter().zip(b).all(|(x, y)| x == y)
-}
-
 // The answer of the second reading, and whether its words are those of the first.
 pub fn again(rt: &impl Print, a: Answered, first: &[u32], second: &[u32]) -> io::Result<()> {
     rt.print("again ")?;
     answer(rt, a)?;
-    let text = if same(first, second) {
+    let text = if first == second {
         "the same words"
     } else {
         "other words"

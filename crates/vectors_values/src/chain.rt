@@ -1,6 +1,5 @@
 // Chains of hubs accepted, and refused for each reason; routes, translators and think times.
 use super::out;
-use hub::ThinkTime;
 use std::io;
 
 const PRESENT: u64 = 0x8000_0000_0000_0000;
@@ -25,24 +24,24 @@ const MULTI: u64 = 0xc041d30280000000;
 const ORPHAN: u64 = 0x80004b0100000000;
 
 fn alone(rt: &impl Print) -> io::Result<()> {
-    out::text(rt, b"no parent:")?;
-    out::truth(rt, hub::chain_ok(&[ROOT], false, 9))?;
-    out::hex(rt, hub::route_string(&[ROOT], false, 9, 7) as u64)?;
+    out::text(rt, "no parent:")?;
+    out::truth(rt, hub::chain_ok(&[ROOT], None))?;
+    out::hex(rt, hub::route_string(&[ROOT], None, 7) as u64)?;
     out::end(rt)
 }
 
 // The verdict on a chain, then route, and slot, multi and port of the translator of a Full speed device.
 fn chain_line(
     rt: &impl Print,
-    label: &[u8],
+    label: &str,
     hubs: &[u64],
     parent: usize,
     port: u8,
 ) -> io::Result<()> {
     out::text(rt, label)?;
-    out::truth(rt, hub::chain_ok(hubs, true, parent))?;
-    out::hex(rt, hub::route_string(hubs, true, parent, port) as u64)?;
-    let t = hub::transaction_translator(def::FULL, hubs, true, parent, port);
+    out::truth(rt, hub::chain_ok(hubs, Some(parent)))?;
+    out::hex(rt, hub::route_string(hubs, Some(parent), port) as u64)?;
+    let t = hub::transaction_translator(def::FULL, hubs, Some(parent), port);
     out::number(rt, t.slot_id as u64)?;
     out::truth(rt, t.multi)?;
     out::number(rt, t.port as u64)?;
@@ -50,7 +49,7 @@ fn chain_line(
 }
 
 pub fn accepted(rt: &impl Print) -> io::Result<()> {
-    out::text(rt, b"verdict, route, translator's slot, multi, port\n")?;
+    out::text(rt, "verdict, route, translator's slot, multi, port\n")?;
     shallow(rt)?;
     deep(rt)?;
     alone(rt)
@@ -58,10 +57,10 @@ pub fn accepted(rt: &impl Print) -> io::Result<()> {
 
 fn shallow(rt: &impl Print) -> io::Result<()> {
     let hubs = [ROOT, child(0, 5, 1, 3, 4), child(1, 6, 2, 1, 200), MULTI];
-    chain_line(rt, b"on the root hub:", &hubs, 0, 7)?;
-    chain_line(rt, b"on a hub of depth 0:", &hubs, 1, 7)?;
-    chain_line(rt, b"on a Full hub of depth 1 on port 200:", &hubs, 2, 20)?;
-    chain_line(rt, b"on a High hub of depth 1, multi:", &hubs, 3, 20)
+    chain_line(rt, "on the root hub:", &hubs, 0, 7)?;
+    chain_line(rt, "on a hub of depth 0:", &hubs, 1, 7)?;
+    chain_line(rt, "on a Full hub of depth 1 on port 200:", &hubs, 2, 20)?;
+    chain_line(rt, "on a High hub of depth 1, multi:", &hubs, 3, 20)
 }
 
 fn deep(rt: &impl Print) -> io::Result<()> {
@@ -73,12 +72,12 @@ fn deep(rt: &impl Print) -> io::Result<()> {
         child(3, 4, 4, 1, 4),
         child(4, 5, 5, 1, 5),
     ];
-    chain_line(rt, b"on a hub of depth 4:", &hubs, 5, 15)
+    chain_line(rt, "on a hub of depth 4:", &hubs, 5, 15)
 }
 
-fn refusal(rt: &impl Print, label: &[u8], hubs: &[u64], parent: usize) -> io::Result<()> {
+fn refusal(rt: &impl Print, label: &str, hubs: &[u64], parent: usize) -> io::Result<()> {
     out::text(rt, label)?;
-    out::truth(rt, hub::chain_ok(hubs, true, parent))?;
+    out::truth(rt, hub::chain_ok(hubs, Some(parent)))?;
     out::end(rt)
 }
 
@@ -89,26 +88,26 @@ pub fn refused(rt: &impl Print) -> io::Result<()> {
 }
 
 fn refused_hubs(rt: &impl Print) -> io::Result<()> {
-    refusal(rt, b"not in the list:", &[ROOT], 1)?;
-    refusal(rt, b"not present:", &[ROOT - PRESENT], 0)?;
-    refusal(rt, b"speed 0:", &[PRESENT], 0)?;
-    refusal(rt, b"speed 6:", &[0x8000_0600_0000_0000], 0)?;
-    refusal(rt, b"unused bit:", &[ROOT + 1], 0)
+    refusal(rt, "not in the list:", &[ROOT], 1)?;
+    refusal(rt, "not present:", &[ROOT - PRESENT], 0)?;
+    refusal(rt, "speed 0:", &[PRESENT], 0)?;
+    refusal(rt, "speed 6:", &[0x8000_0600_0000_0000], 0)?;
+    refusal(rt, "unused bit:", &[ROOT + 1], 0)
 }
 
 fn refused_depths(rt: &impl Print) -> io::Result<()> {
-    refusal(rt, b"depth 5:", &[ROOT, child(0, 1, 6, 3, 1)], 1)?;
+    refusal(rt, "depth 5:", &[ROOT, child(0, 1, 6, 3, 1)], 1)?;
     refusal(
         rt,
-        b"parent's depth not one less:",
+        "parent's depth not one less:",
         &[ROOT, child(0, 1, 2, 3, 1)],
         1,
     )?;
-    refusal(rt, b"depth 0 without a parent:", &[ORPHAN], 0)?;
-    refusal(rt, b"its own parent:", &[child(0, 1, 1, 3, 1)], 0)?;
+    refusal(rt, "depth 0 without a parent:", &[ORPHAN], 0)?;
+    refusal(rt, "its own parent:", &[child(0, 1, 1, 3, 1)], 0)?;
     refusal(
         rt,
-        b"root hub not present:",
+        "root hub not present:",
         &[ROOT - PRESENT, child(0, 1, 1, 3, 1)],
         1,
     )
@@ -116,38 +115,27 @@ fn refused_depths(rt: &impl Print) -> io::Result<()> {
 
 fn too_many(rt: &impl Print) -> io::Result<()> {
     let hubs = [ROOT; 257];
-    refusal(rt, b"256 hubs:", &hubs[0..256], 0)?;
-    refusal(rt, b"257 hubs:", &hubs, 0)?;
-    out::text(rt, b"257 hubs, no parent:")?;
-    out::truth(rt, hub::chain_ok(&hubs, false, 0))?;
+    refusal(rt, "256 hubs:", &hubs[0..256], 0)?;
+    refusal(rt, "257 hubs:", &hubs, 0)?;
+    out::text(rt, "257 hubs, no parent:")?;
+    out::truth(rt, hub::chain_ok(&hubs, None))?;
     out::end(rt)
 }
 
 fn think(rt: &impl Print, ns: u32) -> io::Result<()> {
-    let t = hub::think_time(ns);
-    match t {
-        ThinkTime::Value(v) => {
-            out::number(rt, v as u64)?;
-        }
-        ThinkTime::Refused => {
-            out::text(rt, b" refused")?;
-        }
+    match hub::think_time(ns) {
+        Some(v) => out::number(rt, v as u64),
+        None => out::text(rt, " refused"),
     }
-    Ok(())
 }
 
 pub fn think_times(rt: &impl Print) -> io::Result<()> {
     out::text(
         rt,
-        b"think times of 0, 1, 665, 666, 1331, 1332, 3329, 3330 ns:",
+        "think times of 0, 1, 665, 666, 1331, 1332, 3329, 3330 ns:",
     )?;
-    think(rt, 0)?;
-    think(rt, 1)?;
-    think(rt, 665)?;
-    think(rt, 666)?;
-    think(rt, 1331)?;
-    think(rt, 1332)?;
-    think(rt, 3329)?;
-    think(rt, 3330)?;
+    for ns in [0, 1, 665, 666, 1331, 1332, 3329, 3330] {
+        think(rt, ns)?;
+    }
     out::end(rt)
 }

@@ -1,8 +1,8 @@
 // Lines on standard output.
 use std::io;
 
-pub fn text(rt: &impl Print, s: &[u8]) -> io::Result<()> {
-    rt.write_all(s)
+pub fn text(rt: &impl Print, s: &str) -> io::Result<()> {
+    rt.print(s)
 }
 
 pub fn number(rt: &impl Print, n: u64) -> io::Result<()> {

@@ -2,44 +2,34 @@
 use super::out;
 use def::{Dci, SlotId};
 use std::io;
-use transfer::{Registered, Replaced};
+use transfer::RouteError;
 
 // The words of Dcis 1 to 4 of slot 1.
 fn slot_words(rt: &impl Print, routes: [u64; 64]) -> io::Result<()> {
-    out::hex(rt, routes[33])?;
-    out::hex(rt, routes[34])?;
-    out::hex(rt, routes[35])?;
-    out::hex(rt, routes[36])?;
+    for word in &routes[33..37] {
+        out::hex(rt, *word)?;
+    }
     out::end(rt)
 }
 
-fn registered(rt: &impl Print, r: Registered) -> io::Result<()> {
+fn routed(rt: &impl Print, r: Result<(), RouteError>) -> io::Result<()> {
     match r {
-        Registered::Done => out::text(rt, b" done;")?,
-        Registered::QueueFull => out::text(rt, b" queue full;")?,
+        Ok(()) => out::text(rt, " done;"),
+        Err(RouteError::InvalidEndpoint) => out::text(rt, " invalid endpoint;"),
+        Err(RouteError::QueueFull) => out::text(rt, " queue full;"),
     }
-    Ok(())
-}
-
-fn replaced(rt: &impl Print, r: Replaced) -> io::Result<()> {
-    match r {
-        Replaced::Done => out::text(rt, b" done;")?,
-        Replaced::InvalidEndpoint => out::text(rt, b" invalid endpoint;")?,
-        Replaced::QueueFull => out::text(rt, b" queue full;")?,
-    }
-    Ok(())
 }
 
 pub fn table(rt: &impl Print) -> io::Result<()> {
     let mut routes = [0u64; 64];
-    out::text(rt, b"register Dci 1:")?;
-    registered(
+    out::text(rt, "register Dci 1:")?;
+    routed(
         rt,
         transfer::register_queue(&mut routes, SlotId(1), Dci::CTRL, 0x1000),
     )?;
     slot_words(rt, routes)?;
-    out::text(rt, b"register Dci 1 again:")?;
-    registered(
+    out::text(rt, "register Dci 1 again:")?;
+    routed(
         rt,
         transfer::register_queue(&mut routes, SlotId(1), Dci::CTRL, 0x2000),
     )?;
@@ -49,7 +39,7 @@ pub fn table(rt: &impl Print) -> io::Result<()> {
 // Replaces two endpoints by two others in a table where Dcis 1 to 3 are taken.
 fn replace(
     rt: &impl Print,
-    label: &[u8],
+    label: &str,
     old: [u8; 2],
     old_rings: [u64; 2],
     new: [u8; 2],
@@ -60,7 +50,7 @@ fn replace(
     routes[34] = 0x20;
     routes[35] = 0x30;
     out::text(rt, label)?;
-    replaced(
+    routed(
         rt,
         transfer::replace_queues(&mut routes, SlotId(1), &old, &old_rings, &new, &new_rings),
     )?;
@@ -70,7 +60,7 @@ fn replace(
 pub fn replacements(rt: &impl Print) -> io::Result<()> {
     replace(
         rt,
-        b"3 and 4 for 2 and 3:",
+        "3 and 4 for 2 and 3:",
         [2, 3],
         [0x20, 0x30],
         [3, 4],
@@ -78,7 +68,7 @@ pub fn replacements(rt: &impl Print) -> io::Result<()> {
     )?;
     replace(
         rt,
-        b"an old ring that is not there:",
+        "an old ring that is not there:",
         [2, 3],
         [0x20, 0x40],
         [3, 4],
@@ -86,7 +76,7 @@ pub fn replacements(rt: &impl Print) -> io::Result<()> {
     )?;
     replace(
         rt,
-        b"a new Dci that is taken:",
+        "a new Dci that is taken:",
         [2, 2],
         [0x20, 0x20],
         [3, 4],
@@ -94,7 +84,7 @@ pub fn replacements(rt: &impl Print) -> io::Result<()> {
     )?;
     replace(
         rt,
-        b"a new Dci that has its ring already:",
+        "a new Dci that has its ring already:",
         [2, 2],
         [0x20, 0x20],
         [3, 4],

@@ -1,43 +1,39 @@
 // The reader and the writer of raw descriptors that crates/xhci_descriptors_c exports to C.
 #![tactic(auto)]
 
-ghost use Rattle.std.specs.Prelude.{◌≡◌};
+ghost use Rattle.std.specs.Prelude.{◌≡◌, Err};
+ghost use Rattle.descriptor_raw.specs.Answer.{number};
 ghost use Rattle.descriptor_raw.specs.Read.{read_descriptors};
 ghost use Rattle.descriptor_raw.specs.Write.{write_descriptors};
 ghost use Rattle.xhci_descriptors.specs.Crossed.{answered_of, crosses, crossed};
 
-use descriptor_raw::RawAnswer;
+pub use answer::Answered;
+use descriptor_raw::RawRefusal;
 
-// The number of an answer, no code, and how many words or bytes were written: laid out as what the calls return.
-#[repr(C)]
-#[derive(Clone, Copy)]
-pub struct Answered {
-    pub answer: u32,
-    pub code: u32,
-    pub count: usize,
+#[tactic(auto, unfolding(descriptor_raw::specs::Answer::number))]
+fn refusal_number(refusal: RawRefusal) -> u32
+    ensures { result ≡ number (Err refusal) }
+{
+    match refusal {
+        RawRefusal::TooShort => 3,
+        RawRefusal::DescriptorList => 4,
+        RawRefusal::Malformed => 20,
+    }
 }
 
-fn as_answered(a: RawAnswer) -> Answered
+// The number of an answer, no code, and how many words or bytes were written.
+#[tactic(auto, unfolding(crate::specs::Crossed::answered_of, descriptor_raw::specs::Answer::number, descriptor_raw::specs::Answer::count_of))]
+fn as_answered(a: Result<usize, RawRefusal>) -> Answered
     ensures { result ≡ answered_of a }
 {
     match a {
-        RawAnswer::Accepted(count) => Answered {
+        Ok(count) => Answered {
             answer: 0,
             code: 0,
             count,
         },
-        RawAnswer::TooShort => Answered {
-            answer: 3,
-            code: 0,
-            count: 0,
-        },
-        RawAnswer::DescriptorList => Answered {
-            answer: 4,
-            code: 0,
-            count: 0,
-        },
-        RawAnswer::Malformed => Answered {
-            answer: 20,
+        Err(refusal) => Answered {
+            answer: refusal_number(refusal),
             code: 0,
             count: 0,
         },

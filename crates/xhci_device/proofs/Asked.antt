@@ -1,20 +1,19 @@
 -- An ask across the boundary.
-use Prim.Native.Nat.{ℕ, suc, ◌+◌, ◌≤◌, ◌<◌}
+use Prim.Native.Nat.{ℕ, ◌≤◌}
 use mathlib.Core.Path.{◌≡◌, refl, sym, ap, ◌∙◌}
 use mathlib.Core.Logic.{inl, inr}
 use mathlib.Core.Bool.{Bool, true, false, cond}
-use mathlib.Core.List.{List, [], ◌∷◌, ◌++◌, append_assoc}
-use native.Mathlib.Numerals.{add-one}
+use mathlib.Core.List.{List}
 use native.Mathlib.Omega.{arith}
 use borrow.Author.Tests.{ltb-false}
 use lib.Dec.{ltb}
-use lib.ListN.{length, get_or, set, take, drop, length-set}
-use lib.Seq.{take-suc, length-take-le, set-append_seam, drop-cons}
+use lib.ListN.{length, take}
+use lib.Seq.{length-take-le}
 use Rattle.laws.proofs.Cases.{Decided, decided}
 use Rattle.answer.specs.declared.Answer.{Answer}
 use Rattle.answer.specs.declared.Answer.TheVariants.{Unusable}
-use Rattle.answer.specs.declared.Check.{Check}
-use Rattle.answer.specs.declared.Check.TheVariants.{Pass, Refuse}
+use Rattle.std.specs.Prelude.{Ok, Err}
+use Rattle.answer.specs.Check.{Check, Pass, Refuse}
 use Rattle.answer.specs.Answer.{number}
 use Rattle.device.specs.declared.record.Device.{Device}
 use Rattle.device.specs.declared.ask.Preview.{Preview}
@@ -25,31 +24,6 @@ use Rattle.device.proofs.Laws.{passed}
 use Rattle.device_image.specs.Image.{is_image, decode}
 use Rattle.xhci_device.specs.Ask.{log_room, asked_in, shown_of, in_front}
 use Rattle.xhci_device.proofs.Steps.{zeros_slot, none_passed}
-
--- One ring more in front of lent words.
-pub record Put (rings was words : List ℕ) (i : ℕ) : Type 0 where
-  pub full : length rings ≡ 30
-  pub same : length words ≡ length was
-  pub put : words ≡ in_front (take i rings) was
-
-pub put_next : {rings was words : List ℕ} {i : ℕ} → Put rings was words i → i < 30 → i < length was → Put rings was (set words i (get_or rings i 0)) (i + 1)
-unfolding in_front
-put_next {rings} {was} {words} {i} p h k =
-    let f : i < length rings = omega (arith, p.full) in
-    let l : length (take i rings) ≡ i = length-take-le i rings (omega arith) in
-    let m : length (take (suc i) rings) ≡ suc i = length-take-le (suc i) rings (omega arith) in
-    let s : set (take i rings ++ (get_or was i 0 ∷ drop (suc i) was)) (length (take i rings)) (get_or rings i 0) ≡ take i rings ++ (get_or rings i 0 ∷ drop (suc i) was) =
-    set-append_seam (take i rings) (get_or was i 0) (drop (suc i) was) (get_or rings i 0) in
-    record {
-      full = p.full;
-      same = length-set words i (get_or rings i 0) ∙ p.same;
-      put =
-          rw (p.put, l, drop-cons was i 0 k) ((rw l at s)
-          ∙ rw (add-one i, m, take-suc rings i 0 f, append_assoc (take i rings) (get_or rings i 0 ∷ []) (drop (suc i) was)));
-    }
-
-pub put_all : {rings was words : List ℕ} {i n : ℕ} → Put rings was words i → i ≤ n → n ≤ i → words ≡ in_front (take n rings) was
-put_all {i = i} {n = n} p h g = let e : i ≡ n = omega arith in rw (← e) p.put
 
 -- The record's ask is the image's.
 module _ (image : List ℕ) (ctx routes log i a n : ℕ) (d : Device) (e : d ≡ decode image) where
@@ -71,8 +45,8 @@ unfolding ask ask_check returned
 short d ctx routes i a = go (record_check d ctx routes 0 (claim_check d i a Pass)) refl
   where
     go : (x : Check) → record_check d ctx routes 0 (claim_check d i a Pass) ≡ x → (returned x (ask_of d i a)).1 ≡ no_ask
-    go Pass q = absurd (omega (arith, (passed d ctx routes 0 (claim_check d i a Pass) q).0.room))
-    go (Refuse z) q = refl
+    go (Ok _) q = absurd (omega (arith, (passed d ctx routes 0 (claim_check d i a Pass) q).0.room))
+    go (Err z) q = refl
 
 module _ (p : Preview) (x : Answer × Ask) (s : PreviewAs p x) (full : length p.rings ≡ 30) where
   counted : length (take p.count p.rings) ≡ p.count

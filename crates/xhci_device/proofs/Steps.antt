@@ -9,8 +9,8 @@ use borrow.Author.Tests.{eq-eqb, ne_eqb, eqb-true}
 use Rattle.laws.proofs.Tests.{not_both}
 use Rattle.answer.specs.declared.Answer.{Answer}
 use Rattle.answer.specs.declared.Answer.TheVariants.{Unusable}
-use Rattle.answer.specs.declared.Check.{Check}
-use Rattle.answer.specs.declared.Check.TheVariants.{Pass, Refuse}
+use Rattle.std.specs.Prelude.{Ok, Err}
+use Rattle.answer.specs.Check.{Check, Refuse}
 use Rattle.answer.specs.Answer.{is_accepted, is_broken, is_lost}
 use Rattle.course_steps.specs.End.{End}
 use Rattle.device.specs.declared.record.Device.{Device}
@@ -29,8 +29,9 @@ use Rattle.device_image.specs.Layout.{WORDS}
 use Rattle.device_image.specs.Image.{encode, FixedIn, stored, is_set, read, is_image, decode}
 use Rattle.device_image.specs.Fits.{Fits}
 use Rattle.device_image.proofs.Laws.{image_length, encode_decode, fits_decode}
-use Rattle.xhci_device.specs.declared.returned.Answered.{Answered}
-use Rattle.xhci_device.specs.Crossed.{Crossed, crosses, answered_of, crossed, CrossedAs}
+use Rattle.answer.specs.declared.Answered.{Answered}
+use Rattle.answer.specs.Answered.{answered_of}
+use Rattle.xhci_device.specs.Crossed.{Crossed, crosses, crossed, CrossedAs}
 
 -- A test that fails on a record of zeros holds of images only.
 pub only_image : (f : Device → Bool) → f (read []) ≡ false → (l : List ℕ) → f (decode l) ≡ (is_image l && f (decode l))
@@ -89,8 +90,8 @@ unfolding on_check refused
 checked d ctx routes log c left h e = record { same = go c; none = λ z. rw (h z) refl }
   where
     go : (c : Check) → fixed (on_check c left (λ a. refused d a ctx routes log)).device ≡ fixed d
-    go Pass = e
-    go (Refuse a) = refl
+    go (Ok _) = e
+    go (Err a) = refl
 
 marked_fixed : (a : Answer) (d : Device) → fixed (marked a d) ≡ fixed d
 unfolding marked unusable

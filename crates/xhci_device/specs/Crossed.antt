@@ -1,12 +1,11 @@
 -- A call across the C boundary: the record comes in a lent buffer as an image, and goes back in it.
 use Rattle.std.specs.Prelude.{ℕ, ◌≡◌, Bool, true, false, List}
-use Rattle.answer.specs.declared.Answer.{Answer}
 use Rattle.answer.specs.declared.Answer.TheVariants.{Unusable}
-use Rattle.answer.specs.Answer.{number, code_of}
+use Rattle.answer.specs.Answered.{answered_of}
 use Rattle.device.specs.Left.{Left}
 use Rattle.device_image.specs.Image.{encode}
 use Rattle.device_image.specs.Fits.{Fits}
-use Rattle.xhci_device.specs.declared.returned.Answered.{Answered}
+use Rattle.answer.specs.declared.Answered.{Answered}
 
 -- What a function returns, and leaves in the four buffers.
 pub record Crossed : Type 0 where
@@ -18,9 +17,6 @@ pub record Crossed : Type 0 where
 
 abbrev pub crosses : Answered → List ℕ → List ℕ → List ℕ → List ℕ → Crossed
 crosses r image ctx routes log = record { answered = r; image = image; ctx = ctx; routes = routes; log = log }
-
-unfoldable pub answered_of : Answer → ℕ → Answered
-answered_of a count = record { answer = number a; code = code_of a; count = count }
 
 -- Where the buffer holds no record, 12 and nothing changed; else what the call leaves.
 unfoldable pub crossed : Bool → Left → List ℕ → List ℕ → List ℕ → List ℕ → Crossed

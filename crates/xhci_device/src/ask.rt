@@ -1,13 +1,12 @@
 // A claim in two calls: the ask, which shows what it would do, and the commit.
-ghost use Rattle.std.specs.Prelude.{◌≡◌, ◌≤◌, length, take};
-ghost use Rattle.record_endpoint.specs.Order.{PLACES};
+ghost use Rattle.std.specs.Prelude.{◌≡◌, ◌≤◌, length};
 ghost use Rattle.device.specs.Ask.{asking, commit};
 ghost use Rattle.device_image.specs.Image.{decode, is_image};
 ghost use Rattle.xhci_device.specs.Crossed.{crosses, CrossedAs};
 ghost use Rattle.xhci_device.specs.Ask.{in_front, shown_of, asked_in};
 
 use super::returned;
-use super::returned::Answered;
+use answer::Answered;
 use record_endpoint::PLACES;
 
 // What an ask returns beside the rings. Of a refused one all but the answer is 0.
@@ -25,15 +24,12 @@ pub struct Shown {
 }
 
 // Rings put in front of lent words, the rest of which stay.
-fn put_rings(words: &mut [u64], rings: [u64; PLACES], n: usize)
-    requires { (n ≤ PLACES) × (n ≤ length words.old) }
-    ensures { words.new ≡ in_front (take n rings) words.old }
+#[tactic(auto, unfolding(crate::specs::Ask::in_front))]
+fn put_rings(words: &mut [u64], rings: &[u64])
+    requires { length rings.now ≤ length words.old }
+    ensures { words.new ≡ in_front rings.now words.old }
 {
-    let mut i = 0;
-    while i < n {
-        words[i] = rings[i];
-        i += 1;
-    }
+    words[..rings.len()].copy_from_slice(rings);
 }
 
 // What a claim that is lent a context, a table and a log of these lengths would do. The rings that it would draw go to the lent words.
@@ -52,12 +48,9 @@ pub fn xhci_device_ask(
     let d = device_image::decode(image);
     let room = if rings.len() < PLACES { 0 } else { log };
     let p = d.ask(ctx, routes, room, interface, alternate);
-    let a = p.answer;
-    let number = answer::answer_number(a);
-    let drawn = p.rings;
-    put_rings(rings, drawn, p.count);
+    put_rings(rings, &p.rings[..p.count]);
     Shown {
-        answer: number as u32,
+        answer: u32::from(answer::answer_number(p.answer)),
         interface: p.interface,
         alternate: p.alternate,
         drops: p.drops,

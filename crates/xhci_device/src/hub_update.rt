@@ -4,7 +4,7 @@ ghost use Rattle.device_image.specs.Image.{is_set, decode, is_image};
 ghost use Rattle.xhci_device.specs.Crossed.{crosses, CrossedAs};
 
 use super::returned;
-use super::returned::Answered;
+use answer::Answered;
 
 pub fn xhci_device_hub_update(
     image: &mut [u64],

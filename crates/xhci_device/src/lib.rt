@@ -13,6 +13,7 @@ mod returned;
 mod set_configuration;
 mod sound;
 
+pub use answer::Answered;
 pub use ask::{Shown, xhci_device_ask, xhci_device_commit};
 pub use claim::xhci_device_claim;
 pub use device_image::WORDS;
@@ -22,6 +23,5 @@ pub use log_word::xhci_device_command_of;
 pub use new_record::xhci_device_bring_up;
 pub use record::{xhci_device_is_up, xhci_device_is_usable, xhci_device_record_words};
 pub use release::xhci_device_release;
-pub use returned::Answered;
 pub use set_configuration::xhci_device_set_configuration;
 pub use sound::xhci_device_is_sound;

@@ -1,14 +1,12 @@
 // The bring-up of a slot, which makes its record.
-ghost use Rattle.std.specs.Prelude.{eqb, length};
+ghost use Rattle.std.specs.Prelude.{◌≡◌, eqb, length};
 ghost use Rattle.course_init.specs.Reading.{bring_up_of};
 ghost use Rattle.device_bring_up.specs.BringUp.{bring_up};
 ghost use Rattle.device_image.specs.Layout.{WORDS};
-ghost use Rattle.device_image.specs.Image.{is_set};
+ghost use Rattle.xhci_device.specs.Parent.{parent_of};
 ghost use Rattle.xhci_device.specs.Crossed.{crosses, CrossedAs};
 
-use super::returned;
-use super::returned::Answered;
-use answer::Answer;
+use answer::{Answer, Answered};
 use def::SlotId;
 use device_bring_up::BringUpArgs;
 
@@ -31,13 +29,19 @@ fn bring_up_into(
         image.old ctx.old routes.old log.old }
 {
     if image.len() != device_image::WORDS {
-        return returned::answer_of(Answer::Unusable, 0);
+        return answer::answered_of(Answer::Unusable, 0);
     }
     let called = device_bring_up::bring_up(ctx, routes, log, outcomes, a, rings, hubs, list);
-    let d = called.device;
-    let answer = called.answer;
-    device_image::encode(d, image);
-    returned::answer_of(answer, called.count)
+    device_image::encode(called.device, image);
+    answer::answered_of(called.answer, called.count)
+}
+
+// C gives a parent as a flag and a number.
+#[tactic(auto, unfolding(crate::specs::Parent::parent_of, device_image::specs::Image::is_set))]
+fn parent_of(has_parent: u8, parent: usize) -> Option<usize>
+    ensures { result ≡ parent_of has_parent parent }
+{
+    if has_parent == 0 { None } else { Some(parent) }
 }
 
 pub fn xhci_device_bring_up(
@@ -67,8 +71,7 @@ pub fn xhci_device_bring_up(
           max_slots = max_slots;
           speed = speed;
           hubs = hubs.now;
-          has_parent = is_set has_parent;
-          parent = parent;
+          parent = parent_of has_parent parent;
           port = port;
           root_port = root_port;
           rings = rings.now;
@@ -82,15 +85,14 @@ pub fn xhci_device_bring_up(
 {
     let a = BringUpArgs {
         slot: SlotId(slot),
-        max_slots: max_slots,
-        speed: speed,
-        has_parent: has_parent != 0,
-        parent: parent,
-        port: port,
-        root_port: root_port,
-        header: header,
-        packet: packet,
-        value: value,
+        max_slots,
+        speed,
+        parent: parent_of(has_parent, parent),
+        port,
+        root_port,
+        header,
+        packet,
+        value,
     };
     bring_up_into(image, ctx, routes, log, outcomes, a, rings, hubs, list)
 }

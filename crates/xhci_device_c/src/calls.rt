@@ -8,6 +8,7 @@ ghost use Rattle.device.specs.Disconnect.{disconnect};
 ghost use Rattle.device_bring_up.specs.BringUp.{bring_up};
 ghost use Rattle.device_image.specs.Layout.{WORDS};
 ghost use Rattle.device_image.specs.Image.{decode, is_image, is_set};
+ghost use Rattle.xhci_device.specs.Parent.{parent_of};
 ghost use Rattle.xhci_device.specs.Crossed.{crosses, CrossedAs};
 
 use xhci_device::Answered;
@@ -40,8 +41,7 @@ pub extern "C" fn xhci_device_bring_up(
           max_slots = max_slots;
           speed = speed;
           hubs = hubs.now;
-          has_parent = is_set has_parent;
-          parent = parent;
+          parent = parent_of has_parent parent;
           port = port;
           root_port = root_port;
           rings = rings.now;

@@ -11,8 +11,7 @@ configure-requires c =
     let e = stopped_count _ _ _ _ _ _ _ (c.stop_endpoints-stop.ensures []) c.in-Done.is in
     record {
       room = c.requires.room;
-      count_bound = c.requires.count_bound;
-      count_in_bounds = omega (arith, e, c.stop_endpoints-stop.auto.log, c.requires.room.few, c.requires.in_bounds);
+      count_in_bounds = omega (arith, e, c.stop_endpoints-stop.auto.log, c.args.a.old.fits, c.requires.in_bounds);
     }
 
 pub returns-in-Done : goal.returns-in-Done

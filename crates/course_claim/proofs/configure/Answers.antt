@@ -1,34 +1,34 @@
-use mathlib.Core.Path.{refl, ◌∙◌}
+use Rattle.std.proofs.Common.{rules}
+use mathlib.Core.Path.{refl}
 use native.Mathlib.Omega.{arith}
 use Rattle.command.specs.Course.{on_sent}
 use Rattle.command.specs.Sweep.{or_code}
 use Rattle.command.proofs.Phases.{Begins, continued, went_on}
-use Rattle.course_steps.specs.End.{answer_of}
-use Rattle.course_steps.proofs.Laws.{room_same, ended, ended_resumed}
+use Rattle.course_steps.specs.End.{answer_of, resumed}
+use Rattle.course_steps.proofs.Laws.{dcis_in_lem, room_same, ended}
 use Rattle.course_claim.specs.Claim.{claim_context, claim_resume, claim_configure}
 use Rattle.course_claim.proofs.configure.Goals as goal
 
 pub switch-requires : goal.switch-requires
 switch-requires c = record {
   room = room_same _ _ _ _ _ c.requires.room c.prepare_configure.auto.ctx;
-  count_bound = c.requires.count_bound;
-  n_in_bounds = omega (arith, c.send-s.auto.log, c.requires.count_in_bounds);
+  n_in_bounds = omega (arith, c.send.auto.log, c.requires.count_in_bounds);
 }
 
 pub returns-in-Done : goal.returns-in-Done
 unfolding claim_configure claim_context on_sent Begins continued
 returns-in-Done c =
-    went_on _ _ _ _ _ refl c.send-s.ensures c.in-Done.is (rw (← c.prepare_configure.ensures) c.switch.ensures)
+    went_on _ _ _ _ _ refl c.send.ensures c.in-Done.is (rw (← c.prepare_configure.ensures) c.switch.ensures)
 
 pub returns-in-Failed : goal.returns-in-Failed
-unfolding claim_configure claim_context claim_resume on_sent Begins continued
+unfolding claim_configure claim_context claim_resume on_sent Begins continued resumed
 returns-in-Failed c =
-    went_on _ _ _ _ _ refl c.send-s.ensures c.in-Failed.is (rw (← c.prepare_configure.ensures)
-    (ended_resumed _ _ _ _ (λ s. answer_of (or_code _ s)) (c.resume_stopped_endpoints-back.ensures _)
-    (c.settings_kept.ensures ∙ rw (c.answer_of-answer.ensures, c.or_code.ensures))))
+    went_on _ _ _ _ _ refl c.send.ensures c.in-Failed.is
+    (rw (← c.prepare_configure.ensures, dcis_in_lem)
+    (c.resume.ensures (λ s. answer_of (or_code c.in-Failed.code s)) _ _ (λ s a p. search rules)))
 
 pub returns-in-Cut : goal.returns-in-Cut
 unfolding claim_configure claim_context on_sent Begins continued
 returns-in-Cut c =
-    went_on _ _ _ _ _ refl c.send-s.ensures c.in-Cut.is
-    (rw (← c.prepare_configure.ensures) (ended _ c.settings_kept-in-Cut.ensures))
+    went_on _ _ _ _ _ refl c.send.ensures c.in-Cut.is
+    (rw (← c.prepare_configure.ensures) (ended _ c.settings_kept.ensures))

@@ -9,7 +9,7 @@ use Rattle.course_release.proofs.release_interface.Goals as goal
 pub configure-requires : goal.configure-requires
 configure-requires c =
     let e = stopped_count _ _ _ _ _ _ _ (c.stop_endpoints-stop.ensures []) c.in-Done.is in
-    record { room = c.requires.room; count_in_bounds = omega (arith, e, c.stop_endpoints-stop.auto.log, c.requires.room.few, c.requires.in_bounds) }
+    record { room = c.requires.room; count_in_bounds = omega (arith, e, c.stop_endpoints-stop.auto.log, c.args.a.old.fits, c.requires.in_bounds) }
 
 pub returns-in-Done : goal.returns-in-Done
 unfolding release_course on_sent

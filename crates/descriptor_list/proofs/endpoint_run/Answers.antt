@@ -1,19 +1,16 @@
-use mathlib.Core.Path.{ap}
-use native.Mathlib.Omega.{arith}
-use borrow.Author.Tests.{eq-eqb, ne_eqb}
-use lib.ListN.{drop_of_length-le}
-use Rattle.descriptor_list.proofs.Next.{drop_next}
-use Rattle.descriptor_list.specs.Lookup.{endpoint_run}
+use Rattle.std.proofs.Common.{rules, tests, length, take, drop, ◌-◌, ◌∙◌}
+use Rattle.std.proofs.lemmas.Iterator.{YieldsList-from_slice}
+use Rattle.std.proofs.lemmas.Iterator.Consumers.{count_from_yields_List}
+use Rattle.std.proofs.lemmas.Iterator.Search.{YieldsList-from_take_while}
+use Rattle.descriptor.specs.declared.WordKind.TheVariants.{Endpoint}
+use Rattle.descriptor.proofs.Kind.{is_kind}
+use Rattle.descriptor_list.proofs.Chains.{run_taken, rest_from}
 use Rattle.descriptor_list.proofs.endpoint_run.Goals as goal
 
-pub returns-then-word_kind-ne-ENDPOINT : goal.returns-then-word_kind-ne-ENDPOINT
-unfolding endpoint_run
-returns-then-word_kind-ne-ENDPOINT c = omega (arith, rw (← c.word_kind.ensures, ne_eqb _ _ c.if-word_kind-ne-ENDPOINT.true) at (ap endpoint_run (drop_next c.args.list.now _ c.loop-i-test.true)))
-
-pub loop-i-preserved : goal.loop-i-preserved
-unfolding endpoint_run
-loop-i-preserved c = omega (arith, rw (← c.word_kind.ensures, eq-eqb _ _ c.if-word_kind-ne-ENDPOINT.false) at (ap endpoint_run (drop_next c.args.list.now _ c.loop-i-test.true)))
-
 pub returns : goal.returns
-unfolding endpoint_run
-returns c = omega (arith, ap endpoint_run (drop_of_length-le c.args.list.now c.loop-i-test.false))
+returns c =
+    let list = c.args.list.now in
+    let m = c.min.result in
+    count_from_yields_List c.take_while.result _ c.count.ensures.ran
+    (YieldsList-from_take_while _ (is_kind Endpoint) (YieldsList-from_slice (take (length list - m) (drop m list)) (cc)) c.take_while.ensures.closure c.take_while.ensures.done (λ x b q k. search (rules, tests)))
+    ∙ rw (rest_from list c.args.from m c.min.ensures) (run_taken (drop c.args.from list))

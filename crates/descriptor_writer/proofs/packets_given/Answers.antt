@@ -1,16 +1,11 @@
-use Rattle.descriptor_writer.proofs.Packets.{given_end, given_kind, none_refused, given_some}
-use mathlib.Core.Path.{sym, ◌∙◌}
-use borrow.Author.Rules.{rules}
+use Rattle.std.proofs.Common.{rules, tests, ◌∙◌}
+use Rattle.std.proofs.lemmas.Iterator.{YieldsList-from_slice}
+use Rattle.std.proofs.lemmas.Iterator.Search.{all_from_yields_List}
+use Rattle.descriptor_writer.specs.Written.{gives_packets}
+use Rattle.descriptor_writer.proofs.Packets.{given_all}
 use Rattle.descriptor_writer.proofs.packets_given.Goals as goal
 
-pub returns-then-e-eq0 : goal.returns-then-e-eq0
-returns-then-e-eq0 c = sym (c.loop-i.invariant.1 ∙ none_refused _ _ c.loop-i-test.true _ c.word_kind.ensures c.if-word_kind-eq-ENDPOINT.true _ c.endpoint_descriptor-e.ensures c.if-e-eq0.true)
-
-pub loop-i-preserved-else-e-eq0 : goal.loop-i-preserved-else-e-eq0
-loop-i-preserved-else-e-eq0 c = (search rules, c.loop-i.invariant.1 ∙ given_some _ _ c.loop-i-test.true _ c.word_kind.ensures c.if-word_kind-eq-ENDPOINT.true _ c.endpoint_descriptor-e.ensures c.if-e-eq0.false)
-
-pub loop-i-preserved : goal.loop-i-preserved
-loop-i-preserved c = (search rules, c.loop-i.invariant.1 ∙ given_kind _ _ c.loop-i-test.true _ c.word_kind.ensures c.if-word_kind-eq-ENDPOINT.false)
-
 pub returns : goal.returns
-returns c = sym (c.loop-i.invariant.1 ∙ given_end _ _ c.loop-i-test.false)
+returns c =
+    all_from_yields_List gives_packets _ _ _ c.all.ensures.ran (YieldsList-from_slice _ c.iter.ensures.rest) (λ x b q k. search (rules, tests))
+    ∙ given_all c.args.list.now

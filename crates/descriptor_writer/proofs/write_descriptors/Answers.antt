@@ -11,8 +11,8 @@ returns-then-not-valid_list c = not_valid _ _ c.if-bytes-lt-WRITE_BYTES.false (s
 pub returns-then-not-packets_given : goal.returns-then-not-packets_given
 returns-then-not-packets_given c = not_given _ _ c.if-bytes-lt-WRITE_BYTES.false (sym c.valid_list.ensures ∙ c.if-not-valid_list.false) (sym c.packets_given.ensures ∙ c.if-not-packets_given.true)
 
-pub put_all-count-requires : goal.put_all-count-requires
-put_all-count-requires c = listed _ c.args.bytes.now c.if-bytes-lt-WRITE_BYTES.false (sym c.valid_list.ensures ∙ c.if-not-valid_list.false) (sym c.packets_given.ensures ∙ c.if-not-packets_given.false)
+pub put_all-requires : goal.put_all-requires
+put_all-requires c = (listed _ c.args.bytes.now c.if-bytes-lt-WRITE_BYTES.false (sym c.valid_list.ensures ∙ c.if-not-valid_list.false) (sym c.packets_given.ensures ∙ c.if-not-packets_given.false), c.if-bytes-lt-WRITE_BYTES.false)
 
 pub returns : goal.returns
-returns c = all_written _ _ c.if-bytes-lt-WRITE_BYTES.false (sym c.valid_list.ensures ∙ c.if-not-valid_list.false) (sym c.packets_given.ensures ∙ c.if-not-packets_given.false) _ _ c.put_all-count.ensures
+returns c = all_written _ _ c.if-bytes-lt-WRITE_BYTES.false (sym c.valid_list.ensures ∙ c.if-not-valid_list.false) (sym c.packets_given.ensures ∙ c.if-not-packets_given.false) _ _ c.put_all.ensures

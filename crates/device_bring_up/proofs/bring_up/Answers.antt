@@ -5,12 +5,12 @@ use Rattle.device_bring_up.proofs.bring_up.Goals as goal
 pub enter-check-requires : goal.enter-check-requires
 enter-check-requires c = record { spacing_value = c.spacing_of-spacing.ensures; ring_value = c.least-ring.ensures }
 
-pub returns-in-Refuse : goal.returns-in-Refuse
+pub returns-in-Err : goal.returns-in-Err
 unfolding control_ring
-returns-in-Refuse c =
+returns-in-Err c =
     refused_left (bring_up_of c.args.a c.args.rings.now c.args.hubs.now c.args.list.now) c.args.ctx.now
     c.args.routes.now c.args.log.now c.enter-check.ensures c.args.outcomes.now c.no_device.result _
-    c.in-Refuse.is c.no_device.ensures
+    c.in-Err.is c.no_device.ensures
 
 pub address-e-requires : goal.address-e-requires
 address-e-requires c =

@@ -1,13 +1,12 @@
-use borrow.Author.Rules.{rules}
-use mathlib.Core.Path.{sym, ◌∙◌}
-use Rattle.record_ring.proofs.Steps.{count_go, count_pass, count_none}
+use mathlib.Core.Path.{◌≡◌, ◌∙◌}
+use mathlib.Core.Bool.{not}
+use Rattle.std.proofs.Common.{rules, count_by}
+use Rattle.std.proofs.iter.runs.Made.{chains}
+use Rattle.laws.specs.Distinct.{elem}
+use Rattle.record_ring.proofs.Steps.{not_among_counted}
 use Rattle.record_ring.proofs.count_not_among.Goals as goal
 
-pub loop-i-preserved-then-not-has_ring : goal.loop-i-preserved-then-not-has_ring
-loop-i-preserved-then-not-has_ring c = let i = c.loop-i.invariant in (search rules, search rules, count_go _ _ _ _ _ i.2 c.loop-i-test.true (sym c.has_ring.ensures ∙ c.if-not-has_ring.true))
-
-pub loop-i-preserved : goal.loop-i-preserved
-loop-i-preserved c = let i = c.loop-i.invariant in (search rules, search rules, count_pass _ _ _ _ _ i.2 c.loop-i-test.true (sym c.has_ring.ensures ∙ c.if-not-has_ring.false))
-
 pub returns : goal.returns
-returns c = sym (count_none _ _ _ _ _ c.loop-i.invariant.2 c.loop-i-test.false)
+returns c =
+    let k : c.count.result ≡ count_by (λ r. not (elem r c.args.others.now)) c.args.rings.now = search (rules, chains) in
+    k ∙ not_among_counted c.args.others.now c.args.rings.now

@@ -1,12 +1,8 @@
-use Prim.Native.Nat.{◌≤◌, ◌-◌}
 use mathlib.Core.Path.{◌≡◌}
-use lib.ListN.{length, drop}
+use lib.ListN.{drop}
 use Rattle.transfer.specs.Routes.{queues, published}
 use Rattle.transfer.proofs.put_routes.Given as goal
 
 abbrev pub invariant-loop-i : goal.invariant-loop-i
 invariant-loop-i l =
-    (l.i ≤ length l.dcis) × (length l.routes ≡ length l.initial.routes) × (published l.initial.routes l.slot.0 (queues l.dcis l.rings) ≡ published l.routes l.slot.0 (drop l.i (queues l.dcis l.rings)))
-
-abbrev pub decreases-loop-i : goal.decreases-loop-i
-decreases-loop-i l = length l.dcis - l.i
+    published l.initial.routes l.slot.0 (queues l.dcis l.rings) ≡ published l.routes l.slot.0 (drop l.i (queues l.dcis l.rings))

@@ -18,6 +18,7 @@ returns c =
       written_block,
       c.put_field-2.ensures,
       c.put_field.ensures,
+      c.add_flag.ensures,
       c.perper_change.ensures,
       c.header_packet_size-size.ensures,
       add-sub_cancel_left,

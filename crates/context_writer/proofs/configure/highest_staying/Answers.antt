@@ -1,42 +1,28 @@
-use mathlib.Core.Path.{sym, ◌∙◌}
-use mathlib.Core.Logic.{inl, inr, ⊎_elim}
-use native.Mathlib.Omega.{arith}
-use mir.Syntax.{w64}
-use borrow.Author.Rules.{rules, Fits-under}
+use Rattle.std.proofs.Common.{◌≡◌, sym, ◌∙◌, arith, rules, get_or, max}
 use Rattle.context.specs.Steps.{staying}
-use Rattle.context.proofs.Entries.{staying_under, staying_above, staying_done}
+use Rattle.context.proofs.Entries.{staying_next, dropped_next, staying_done}
 use Rattle.context.proofs.Steps.{highest_least}
+use Rattle.context_writer.proofs.configure.highest_staying.Goals.{then-flag-eq0, else-flag-eq0}
 use Rattle.context_writer.proofs.configure.highest_staying.Goals as goal
 
-pub loop-i-init : goal.loop-i-init
-loop-i-init c = (search rules, search rules, λ dropped f. omega (arith, highest_least (staying dropped c.args.dcis.now)))
+pub loop-dci-init : goal.loop-dci-init
+loop-dci-init c = (search rules, λ dropped f. omega (arith, highest_least (staying dropped c.args.dcis.now)))
 
-pub overflow_cast-drop_flag : goal.overflow_cast-drop_flag
-overflow_cast-drop_flag c = Fits-under w64 _ 32 (c.requires.1 _ c.loop-i-test.true).1 tt
-
-pub read_field-flag-requires : goal.read_field-flag-requires
-read_field-flag-requires c =
-    (c.requires.0, (omega arith, omega (arith, (c.requires.1 c.loop-i.i c.loop-i-test.true).1)))
-
-pub loop-i-preserved-then-flag-eq0 : goal.loop-i-preserved-then-flag-eq0
-loop-i-preserved-then-flag-eq0 c = (
-  search rules,
-  omega (arith, c.if-highest-dci.true),
-  λ dropped f. c.loop-i.invariant.2 dropped f ∙ staying_above dropped _ _ _ _ _ f c.requires.1 c.loop-i-test.true
-      c.read_field-flag.ensures c.if-flag-eq0.true c.if-highest-dci.true,
-)
-
-pub loop-i-preserved : goal.loop-i-preserved
-loop-i-preserved c = (
-  search rules,
-  search rules,
-  λ dropped f. c.loop-i.invariant.2 dropped f ∙ staying_under dropped _ _ _ _ _ f c.requires.1 c.loop-i-test.true
-      c.read_field-flag.ensures (⊎_elim (λ w. inr w.1) inl c.else-highest-dci.either),
-)
+pub loop-dci-preserved : goal.loop-dci-preserved
+loop-dci-preserved c = elim c.if-flag-eq0.branch [
+  | then-flag-eq0 w ↦
+      let m : w.max-highest.result ≡ max c.loop-dci.highest (get_or c.args.dcis.now c.loop-dci.dci-index 0) = search rules in rw (w.highest-is, m) (
+        omega (arith, c.loop-dci.invariant.0),
+        λ dropped f. c.loop-dci.invariant.1 dropped f ∙ staying_next dropped _ _ _ _ _ f c.requires.1 c.loop-dci-test.true (c.read_field-flag.ensures ∙ rw c.drop_flag.ensures) w.if-flag-eq0.true,
+      )
+  | else-flag-eq0 w ↦ rw w.highest-is (
+    c.loop-dci.invariant.0,
+    λ dropped f. c.loop-dci.invariant.1 dropped f ∙ dropped_next dropped _ _ _ _ _ f c.requires.1 c.loop-dci-test.true (c.read_field-flag.ensures ∙ rw c.drop_flag.ensures) w.if-flag-eq0.false,
+  )
+]
 
 pub returns : goal.returns
 returns c = (
-  c.loop-i.invariant.1,
-  λ dropped f. sym (c.loop-i.invariant.2 dropped f ∙ staying_done dropped c.args.dcis.now c.loop-i.i
-      c.loop-i.highest (omega arith) c.loop-i.invariant.1),
+  c.loop-dci.invariant.0,
+  λ dropped f. sym (c.loop-dci.invariant.1 dropped f ∙ staying_done dropped c.args.dcis.now c.loop-dci.dci-index c.loop-dci.highest c.loop-dci-test.false c.loop-dci.invariant.0),
 )

@@ -1,12 +1,6 @@
-use Prim.Native.Nat.{◌≤◌, ◌-◌}
-use mathlib.Core.Path.{◌≡◌}
-use lib.ListN.{length, drop}
+use Rattle.std.proofs.Common.{◌≡◌, drop}
 use Rattle.transfer.specs.Routes.{queues, ring_for}
 use Rattle.context_writer.proofs.configure.ring_of.Given as goal
 
 abbrev pub invariant-loop-i : goal.invariant-loop-i
-invariant-loop-i l =
-    (l.i ≤ length l.dcis) × (ring_for l.dci.0 (queues l.dcis l.rings) 0 ≡ ring_for l.dci.0 (drop l.i (queues l.dcis l.rings)) l.ring)
-
-abbrev pub decreases-loop-i : goal.decreases-loop-i
-decreases-loop-i l = length l.dcis - l.i
+invariant-loop-i l = ring_for l.dci.0 (queues l.dcis l.rings) 0 ≡ ring_for l.dci.0 (drop l.i (queues l.dcis l.rings)) l.ring

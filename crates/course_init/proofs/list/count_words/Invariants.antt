@@ -1,10 +1,5 @@
 use Rattle.course_init.proofs.Lists.{Counted}
-use lib.ListN.{length}
-use Prim.Native.Nat.{◌-◌}
 use Rattle.course_init.proofs.list.count_words.Given as goal
 
 abbrev pub invariant-loop-i : goal.invariant-loop-i
 invariant-loop-i l = Counted l.list l.k l.left l.i
-
-abbrev pub decreases-loop-i : goal.decreases-loop-i
-decreases-loop-i l = length l.list - l.i

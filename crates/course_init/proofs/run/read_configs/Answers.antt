@@ -3,7 +3,7 @@ use Rattle.course_init.specs.Reading.{bring_up_of}
 use Rattle.course_init.proofs.Steps.{unless_done, none_accepted, configs_next, configs_stopped, rest_some, rest_read}
 use Rattle.descriptor_list.proofs.Laws.{valid_configurations}
 use native.Mathlib.Nat.{sub-zero}
-use mathlib.Core.Path.{refl, ap, ◌∙◌}
+use mathlib.Core.Path.{◌≡◌, refl, ap, ◌∙◌}
 use Prim.Native.Nat.{◌<◌}
 use Rattle.descriptor_list.specs.Valid.{configurations}
 use Rattle.course_steps.specs.End.{answer_of}
@@ -50,7 +50,8 @@ pub returns : goal.returns
 unfolding answer_of
 returns c =
     let counted = c.count_configurations-all.ensures in
-    let e = c.after_reading-2.ensures in
+    let same : c.loop-i.i ≡ c.count_configurations-all.result = omega (arith, c.loop-i-test.false, c.loop-i.invariant.0) in
+    let e = rw (← same) at c.after_reading-2.ensures in
     record {
       all_read = λ t. record {
         few = rw e (omega (arith, c.loop-i.invariant.0, c.loop-i.invariant.1));

@@ -34,11 +34,11 @@ returns-in_default-header c =
 pub returns-then-a-ne8 : goal.returns-then-a-ne8
 unfolding bring_up_header step on_sent continued number
 returns-then-a-ne8 c = record {
-  packet_value = none_refused answer.ShortHeader _ refl c.header_refused.ensures;
+  packet_value = none_refused answer.ShortHeader _ refl c.unread.ensures;
   log_value = λ rings hubs list ctx routes spacing v.
       done _ _ _ _ _ _ c.send-address.ensures _ ctx routes _ c.in-Done.is
       ∙ done _ _ _ _ _ _ c.send-header.ensures _ ctx routes _ c.in-Done-header.is
-      ∙ header_refused _ list ctx routes _ answer.ShortHeader _ _ _ v refl c.header_refused.ensures
+      ∙ header_refused _ list ctx routes _ answer.ShortHeader _ _ _ v refl c.unread.ensures
       (rw (ne_eqb c.args.a.header 8 c.if-a-ne8.true));
 }
 
@@ -46,11 +46,11 @@ returns-then-a-ne8 c = record {
 pub returns-then-not-exponent_ok : goal.returns-then-not-exponent_ok
 unfolding bring_up_header step on_sent continued number
 returns-then-not-exponent_ok c = record {
-  packet_value = none_refused answer.PacketExponent _ refl c.header_refused-then-not-exponent_ok.ensures;
+  packet_value = none_refused answer.PacketExponent _ refl c.unread-then-not-exponent_ok.ensures;
   log_value = λ rings hubs list ctx routes spacing v.
       done _ _ _ _ _ _ c.send-address.ensures _ ctx routes _ c.in-Done.is
       ∙ done _ _ _ _ _ _ c.send-header.ensures _ ctx routes _ c.in-Done-header.is
-      ∙ header_refused _ list ctx routes _ answer.PacketExponent _ _ _ v refl c.header_refused-then-not-exponent_ok.ensures
+      ∙ header_refused _ list ctx routes _ answer.PacketExponent _ _ _ v refl c.unread-then-not-exponent_ok.ensures
       (rw (eq-eqb c.args.a.header 8 c.if-a-ne8.false, ← c.exponent_ok.ensures, c.if-not-exponent_ok.true));
 }
 

@@ -12,7 +12,6 @@ run_set_configuration-e-requires c =
     let e = c.no_queues.ensures in
     record {
       room = first_room _ _ _ c.requires.0 e.1 e.0;
-      held_bound = omega arith;
       count_in_bounds = rw e.1 (omega (arith, c.requires.1.1, c.requires.1.2.few));
     }
 

@@ -1,44 +1,49 @@
 use mathlib.Core.Path.{sym}
 use native.Mathlib.Omega.{arith}
-use Rattle.descriptor_reader.proofs.Rest.{type_inside, configuration_inside, interface_inside, endpoint_inside, after_whole}
-use Rattle.descriptor_reader.proofs.Judged.{total_wrong, total_right, interface_judged, endpoint_judged, other_judged}
+use borrow.Author.Tests.{eq-eqb, ne_eqb}
+use Rattle.descriptor_raw.specs.Read.{descriptors}
+use Rattle.descriptor_reader.proofs.Judged.{configuration_9, configuration_judged, interface_9, interface_judged, endpoint_7, endpoint_judged, other_judged}
 use Rattle.descriptor_reader.proofs.claims.borne_out.Goals as goal
 
-pub bounds-bytes-i : goal.bounds-bytes-i
-bounds-bytes-i c = type_inside _ _ c.requires.0 c.requires.1
+pub two_bytes-requires : goal.two_bytes-requires
+two_bytes-requires c = omega (arith, configuration_9 _ _ c.kind.ensures c.in-Configuration.is c.args.d.whole)
 
-pub two_bytes_at-requires : goal.two_bytes_at-requires
-two_bytes_at-requires c = omega (arith, configuration_inside _ _ c.requires.0 c.requires.1 c.in-2.is)
+pub overflow_add-d : goal.overflow_add-d
+overflow_add-d c = omega (arith, c.ranges.d.1, c.ranges.after.1)
 
-pub next_configuration-requires : goal.next_configuration-requires
-next_configuration-requires c = after_whole _ _ c.requires.0 c.requires.1 _ c.byte_at.ensures.0
+pub bounds-d-4 : goal.bounds-d-4
+bounds-d-4 c = omega (arith, configuration_9 _ _ c.kind.ensures c.in-Configuration.is c.args.d.whole)
 
-pub returns-then-two_bytes_at-next_configuration : goal.returns-then-two_bytes_at-next_configuration
-returns-then-two_bytes_at-next_configuration c = sym (total_wrong _ _ c.requires.0 c.requires.1 c.in-2.is _ _ _ c.two_bytes_at.ensures.0 c.byte_at.ensures.0 c.next_configuration.ensures c.if-two_bytes_at-next_configuration.true)
+pub bounds-d-4-in-Interface : goal.bounds-d-4-in-Interface
+bounds-d-4-in-Interface c = omega (arith, interface_9 _ _ c.kind.ensures c.in-Interface.is c.args.d.whole)
 
-pub byte_at-requires-in-2 : goal.byte_at-requires-in-2
-byte_at-requires-in-2 c = omega (arith, configuration_inside _ _ c.requires.0 c.requires.1 c.in-2.is)
+pub two_bytes-requires-in-Endpoint : goal.two_bytes-requires-in-Endpoint
+two_bytes-requires-in-Endpoint c = omega (arith, endpoint_7 _ _ c.kind.ensures c.in-Endpoint.is c.args.d.whole)
 
-pub count_interfaces-requires : goal.count_interfaces-requires
-count_interfaces-requires c = after_whole _ _ c.requires.0 c.requires.1 _ c.byte_at.ensures.0
+pub returns-then-two_bytes-d : goal.returns-then-two_bytes-d
+returns-then-two_bytes-d c =
+    rw (
+      configuration_judged _ _ c.kind.ensures c.in-Configuration.is (descriptors c.args.after.bytes.now),
+      ← c.two_bytes.ensures,
+      ← c.count_bytes.ensures.0,
+      eq-eqb _ _ c.if-two_bytes-d.true,
+      c.count_interfaces.ensures,
+    )
 
-pub byte_at-requires-in-4 : goal.byte_at-requires-in-4
-byte_at-requires-in-4 c = omega (arith, interface_inside _ _ c.requires.0 c.requires.1 c.in-4.is)
+pub returns-else-two_bytes-d : goal.returns-else-two_bytes-d
+returns-else-two_bytes-d c =
+    rw (
+      configuration_judged _ _ c.kind.ensures c.in-Configuration.is (descriptors c.args.after.bytes.now),
+      ← c.two_bytes.ensures,
+      ← c.count_bytes.ensures.0,
+      ne_eqb _ _ c.if-two_bytes-d.false,
+    )
 
-pub count_endpoints-requires : goal.count_endpoints-requires
-count_endpoints-requires c = after_whole _ _ c.requires.0 c.requires.1 _ c.byte_at.ensures.0
+pub returns-in-Interface : goal.returns-in-Interface
+returns-in-Interface c = rw (interface_judged _ _ c.kind.ensures c.in-Interface.is (descriptors c.args.after.bytes.now), c.count_endpoints.ensures)
 
-pub two_bytes_at-requires-in-5 : goal.two_bytes_at-requires-in-5
-two_bytes_at-requires-in-5 c = omega (arith, endpoint_inside _ _ c.requires.0 c.requires.1 c.in-5.is)
+pub returns-in-Endpoint : goal.returns-in-Endpoint
+returns-in-Endpoint c = rw (endpoint_judged _ _ c.kind.ensures c.in-Endpoint.is (descriptors c.args.after.bytes.now), c.two_bytes-in-Endpoint.ensures)
 
-pub returns-else-two_bytes_at-next_configuration : goal.returns-else-two_bytes_at-next_configuration
-returns-else-two_bytes_at-next_configuration c = sym (total_right _ _ c.requires.0 c.requires.1 c.in-2.is _ _ _ c.two_bytes_at.ensures.0 c.byte_at.ensures.0 c.next_configuration.ensures c.if-two_bytes_at-next_configuration.false _ _ c.byte_at-in-2.ensures.0 c.count_interfaces.ensures)
-
-pub returns-in-4 : goal.returns-in-4
-returns-in-4 c = sym (interface_judged _ _ c.requires.0 c.requires.1 c.in-4.is _ _ _ c.byte_at-in-4.ensures.0 c.byte_at.ensures.0 c.count_endpoints.ensures)
-
-pub returns-in-5 : goal.returns-in-5
-returns-in-5 c = sym (endpoint_judged _ _ c.requires.0 c.requires.1 c.in-5.is _ c.two_bytes_at-in-5.ensures.0)
-
-pub returns-in_default : goal.returns-in_default
-returns-in_default c = sym (other_judged _ _ c.requires.0 c.requires.1 (omega arith) (omega arith) (omega arith))
+pub returns-in-Other : goal.returns-in-Other
+returns-in-Other c = sym (other_judged _ _ c.kind.ensures c.in-Other.is _)

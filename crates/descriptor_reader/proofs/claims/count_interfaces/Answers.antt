@@ -1,46 +1,49 @@
+use mathlib.Core.Path.{refl}
 use mathlib.Core.Bool.{false}
-use mathlib.Core.Path.{◌∙◌}
 use native.Mathlib.Omega.{arith}
-use lib.ListN.{length-set, replicate}
 use native.Mathlib.Nat.{zero-add}
+use mathlib.Core.Path.{◌∙◌}
+use lib.ListN.{length-set, replicate}
 use Rattle.descriptor_raw.specs.Claims.{interfaces_after}
+use Rattle.descriptor_raw.specs.Read.{descriptors}
 use Rattle.descriptor_raw.proofs.Made.{numbers_after}
 use Rattle.descriptor_raw.proofs.Marks.{unmarked, unmarked_all, none_left, met_other, met_again, met_new}
-use Rattle.descriptor_reader.specs.Walk.{descriptors_from}
-use Rattle.descriptor_reader.proofs.Rest.{numbers_end, numbers_stop, numbers_interface, numbers_other, after_whole, long, type_inside, interface_inside}
+use Rattle.descriptor_reader.proofs.Step.{whole_is, not_configuration, not_interface}
+use Rattle.descriptor_reader.proofs.Rest.{numbers_end, numbers_stop, numbers_interface, numbers_other}
+use Rattle.descriptor_reader.proofs.Judged.{interface_9}
 use borrow.Author.Rules.{rules}
 use Rattle.descriptor_reader.proofs.claims.count_interfaces.Goals as goal
 
-pub loop-i-init : goal.loop-i-init
+pub loop-d-init : goal.loop-d-init
 unfolding interfaces_after
-loop-i-init c = let n = numbers_after (descriptors_from c.args.bytes.now c.args.from) in (c.requires, search rules, search rules, zero-add (unmarked (replicate 256 false) n) ∙ unmarked_all 256 n)
+loop-d-init c = let n = numbers_after (descriptors c.args.after.bytes.now) in (search rules, refl, rw c.into_iter-d-iterator.ensures.into_iter_gives (zero-add (unmarked (replicate 256 false) n) ∙ unmarked_all 256 n))
 
-pub bounds-bytes-at : goal.bounds-bytes-at
-bounds-bytes-at c = type_inside _ _ c.loop-i-test.true c.loop-i.invariant.0
+pub returns-in-Configuration : goal.returns-in-Configuration
+returns-in-Configuration c = omega (arith, none_left c.loop-d.marks _ (numbers_stop _ _ _ c.in-Some.ensures.steps _ c.kind.ensures (rw c.in-Configuration.is)))
 
-pub returns-then-kind-eq-CONFIGURATION : goal.returns-then-kind-eq-CONFIGURATION
-returns-then-kind-eq-CONFIGURATION c = let l = numbers_after (descriptors_from c.args.bytes.now c.loop-i.i) in omega (arith, c.loop-i.invariant.3, none_left c.loop-i.marks l (numbers_stop c.args.bytes.now c.loop-i.i c.loop-i-test.true c.loop-i.invariant.0 c.if-kind-eq-CONFIGURATION.true))
+pub bounds-d-2 : goal.bounds-d-2
+bounds-d-2 c = omega (arith, interface_9 _ _ c.kind.ensures c.in-Interface.is c.in-Some.d.whole)
 
-pub byte_at-number-requires : goal.byte_at-number-requires
-byte_at-number-requires c = omega (arith, interface_inside _ _ c.loop-i-test.true c.loop-i.invariant.0 c.if-kind-eq-INTERFACE.true)
+pub loop-d-preserved-then-not-marks-number : goal.loop-d-preserved-then-not-marks-number
+loop-d-preserved-then-not-marks-number c = (
+  omega (arith, c.in-Some.ensures.steps.long, (whole_is _ c.in-Some.d.whole).least),
+  simp length-set c.loop-d.invariant.1,
+  met_new _ _ _ _ _ _ c.loop-d.invariant.2 (numbers_interface _ _ _ c.in-Some.ensures.steps _ c.kind.ensures (rw c.in-Interface.is) (rw c.in-Interface.is)) refl (search rules) c.loop-d.invariant.1 c.if-not-marks-number.true,
+)
 
-pub loop-i-smaller-then-not-marks-number : goal.loop-i-smaller-then-not-marks-number
-loop-i-smaller-then-not-marks-number c = omega (arith, long _ _ c.loop-i-test.true c.loop-i.invariant.0 _ c.byte_at-i.ensures.0)
+pub loop-d-preserved-else-not-marks-number : goal.loop-d-preserved-else-not-marks-number
+loop-d-preserved-else-not-marks-number c = (
+  omega (arith, c.in-Some.ensures.steps.long),
+  c.loop-d.invariant.1,
+  met_again _ _ _ _ _ _ c.loop-d.invariant.2 (numbers_interface _ _ _ c.in-Some.ensures.steps _ c.kind.ensures (rw c.in-Interface.is) (rw c.in-Interface.is)) refl c.if-not-marks-number.false,
+)
 
-pub loop-i-preserved-then-not-marks-number : goal.loop-i-preserved-then-not-marks-number
-loop-i-preserved-then-not-marks-number c = (after_whole _ _ c.loop-i-test.true c.loop-i.invariant.0 _ c.byte_at-i.ensures.0, omega (arith, long _ _ c.loop-i-test.true c.loop-i.invariant.0 _ c.byte_at-i.ensures.0), simp length-set c.loop-i.invariant.2, met_new _ _ _ _ _ _ c.loop-i.invariant.3 (numbers_interface _ _ c.loop-i-test.true c.loop-i.invariant.0 _ c.byte_at-i.ensures.0 c.if-kind-eq-CONFIGURATION.false c.if-kind-eq-INTERFACE.true) c.byte_at-number.ensures.0 c.byte_at-number.ensures.1 c.loop-i.invariant.2 (c.if-not-marks-number.true))
-
-pub loop-i-smaller-else-not-marks-number : goal.loop-i-smaller-else-not-marks-number
-loop-i-smaller-else-not-marks-number c = omega (arith, long _ _ c.loop-i-test.true c.loop-i.invariant.0 _ c.byte_at-i.ensures.0)
-
-pub loop-i-preserved-else-not-marks-number : goal.loop-i-preserved-else-not-marks-number
-loop-i-preserved-else-not-marks-number c = (after_whole _ _ c.loop-i-test.true c.loop-i.invariant.0 _ c.byte_at-i.ensures.0, omega arith, c.loop-i.invariant.2, met_again _ _ _ _ _ _ c.loop-i.invariant.3 (numbers_interface _ _ c.loop-i-test.true c.loop-i.invariant.0 _ c.byte_at-i.ensures.0 c.if-kind-eq-CONFIGURATION.false c.if-kind-eq-INTERFACE.true) c.byte_at-number.ensures.0 (c.if-not-marks-number.false))
-
-pub loop-i-smaller : goal.loop-i-smaller
-loop-i-smaller c = omega (arith, long _ _ c.loop-i-test.true c.loop-i.invariant.0 _ c.byte_at-i.ensures.0)
-
-pub loop-i-preserved : goal.loop-i-preserved
-loop-i-preserved c = (after_whole _ _ c.loop-i-test.true c.loop-i.invariant.0 _ c.byte_at-i.ensures.0, omega arith, c.loop-i.invariant.2, met_other _ _ _ _ _ c.loop-i.invariant.3 (numbers_other _ _ c.loop-i-test.true c.loop-i.invariant.0 _ c.byte_at-i.ensures.0 c.if-kind-eq-CONFIGURATION.false c.if-kind-eq-INTERFACE.false))
+pub loop-d-preserved : goal.loop-d-preserved
+loop-d-preserved c = (
+  omega (arith, c.in-Some.ensures.steps.long),
+  c.loop-d.invariant.1,
+  met_other _ _ _ _ _ c.loop-d.invariant.2 (numbers_other _ _ _ c.in-Some.ensures.steps _ c.kind.ensures (not_configuration _ c.in_default.not-Configuration) (not_interface _ c.in_default.not-Interface)),
+)
 
 pub returns : goal.returns
-returns c = let l = numbers_after (descriptors_from c.args.bytes.now c.loop-i.i) in omega (arith, c.loop-i.invariant.3, none_left c.loop-i.marks l (numbers_end c.args.bytes.now c.loop-i.i c.loop-i-test.false))
+returns c = omega (arith, none_left c.loop-d.marks _ (numbers_end _ c.in-None.ensures.steps))

@@ -1,13 +1,10 @@
-use Prim.Native.Nat.{◌≤◌, ◌-◌}
 use mathlib.Core.Path.{◌≡◌}
 use lib.ListN.{length}
 use Rattle.descriptor_raw.specs.Read.{descriptors, all_whole}
-use Rattle.descriptor_reader.specs.Walk.{descriptors_from}
 use Rattle.descriptor_reader.proofs.cut.lengths_fit.Given as goal
 
-abbrev pub invariant-loop-i : goal.invariant-loop-i
-invariant-loop-i l =
-    (l.i ≤ length l.bytes) × (all_whole (descriptors l.bytes) ≡ all_whole (descriptors_from l.bytes l.i))
+abbrev pub invariant-loop-rest : goal.invariant-loop-rest
+invariant-loop-rest l = all_whole (descriptors l.rest) ≡ all_whole (descriptors l.bytes)
 
-abbrev pub decreases-loop-i : goal.decreases-loop-i
-decreases-loop-i l = length l.bytes - l.i
+abbrev pub decreases-loop-rest : goal.decreases-loop-rest
+decreases-loop-rest l = length l.rest

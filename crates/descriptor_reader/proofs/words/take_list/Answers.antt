@@ -1,8 +1,12 @@
+use Prim.Native.Nat.{◌+◌, ◌≤◌}
+use native.Mathlib.Nat.{zero-add}
+use native.Mathlib.Omega.{arith}
 use mathlib.Core.Path.{sym, ◌∙◌}
+use lib.ListN.{length}
+use lib.Seq.{sets-eq}
 use Rattle.descriptor_reader.proofs.words.take_list.Goals as goal
 
-pub returns-then-not-valid_list : goal.returns-then-not-valid_list
-returns-then-not-valid_list c = rw (sym c.valid_list.ensures ∙ c.if-not-valid_list.true)
-
 pub returns : goal.returns
-returns c = rw (c.copy.ensures, sym c.valid_list.ensures ∙ c.if-not-valid_list.false)
+returns c =
+    let r : 0 + length c.args.list.now ≤ length c.args.words.now = omega arith in
+    rw (c.copy_from_slice.ensures.after, sets-eq c.args.list.now c.args.words.now 0 r, zero-add (length c.args.list.now), sym c.valid_list.ensures ∙ c.if-not-valid_list.false)

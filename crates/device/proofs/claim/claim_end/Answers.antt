@@ -1,7 +1,10 @@
+use borrow.Author.Rules.{rules}
+use lib.Seq.{length-take-le}
+use native.Mathlib.Omega.{arith}
 use mathlib.Core.Path.{◌≡◌, ◌∙◌}
 use mathlib.Core.Bool.{cond}
 use borrow.Author.Tests.{not-true, not-false}
-use lib.ListN.{take}
+use lib.ListN.{take, length}
 use Rattle.record_settings.specs.Held.{with_setting}
 use Rattle.device.specs.Device.{held_of, with_quarantined}
 use Rattle.device.specs.Claim.{quarantines}
@@ -10,21 +13,22 @@ use Rattle.device.proofs.claim.claim_end.Goals.{then-not-e+in-InterfaceBroken, t
 use Rattle.device.proofs.claim.claim_end.Goals as goal
 
 pub with_setting-held-requires : goal.with_setting-held-requires
-unfolding held_of
-with_setting-held-requires c = c.requires.held_count_bound
+with_setting-held-requires c = rw c.settings.ensures c.requires.held_count_bound.1
 
 pub returns : goal.returns
 unfolding held_of with_quarantined
 returns c =
     let a = c.args in
     let rings = take a.q.count a.q.rings in
+    let room : length a.q.rings ≡ 30 = search rules in
+    let counted : length rings ≡ a.q.count = length-take-le a.q.count a.q.rings (omega (arith, room, a.q.fits)) in
     let y : c.if-not-e.d ≡ cond a.e.moved a.d (quarantines a.e.answer rings a.d) = elim c.if-not-e.branch [
       | then-not-e+in-InterfaceBroken w ↦ w.d-is ∙ rw (
         not-true a.e.moved w.if-not-e.true,
         is_quarantined a.e.answer rings a.d w.in-InterfaceBroken.is,
-        w.quarantined_rings-quarantined.ensures.0,
+        w.quarantined_rings-quarantined.ensures,
         c.requires.c_value.1,
-        w.quarantined_rings-quarantined.ensures.1,
+        counted,
       )
       | then-not-e+in_default w ↦ w.d-is ∙ rw (not-true a.e.moved w.if-not-e.true) (not_quarantined a.e.answer rings a.d w.in_default.not-InterfaceBroken)
       | else-not-e w ↦ w.d-is ∙ rw (not-false a.e.moved w.if-not-e.false)
@@ -32,5 +36,5 @@ returns c =
     λ ctx routes log drawn h. claim_made a.d a.interface a.alternate drawn
     c.if-not-e.d a.c c.claimed_endpoints-claimed.result a.q a.e a.pending
     c.at_end.result c.claimed_endpoints-claimed.ensures y (c.at_end.ensures (with_setting
-    a.interface a.alternate (held_of a.d)) c.with_setting-held.ensures) c.requires.c_value.0
+    a.interface a.alternate (held_of a.d)) (rw c.settings.ensures at c.with_setting-held.ensures)) c.requires.c_value.0
     c.requires.c_value.2 h ctx routes log

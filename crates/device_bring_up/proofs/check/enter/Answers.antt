@@ -3,6 +3,7 @@ use mathlib.Core.Path.{sym, ap, ◌∙◌}
 use lib.Dec.{eqb}
 use Rattle.transfer.specs.Routes.{with_registered}
 use Rattle.course_init.specs.Reading.{bring_up_of, control_ring}
+use Rattle.device.proofs.Laws.{returned}
 use Rattle.device_bring_up.proofs.Checks.{taken_narrow, slot_refused, few_slots, lengths_refused, lengths_passed}
 use Rattle.device_bring_up.proofs.Steps.{queue_full, queue_free, not_entered, speed_refused, list_refused, chain_refused, ring_refused, entered}
 use Rattle.device_bring_up.proofs.check.enter.Goals as goal
@@ -13,30 +14,31 @@ returns-then-not-slot_fits c =
     let a = bring_up_of c.args.a c.args.rings.now c.args.hubs.now c.args.list.now in
     not_entered a c.args.ctx c.args.routes.now c.args.log _ (slot_refused a c.args.ctx c.args.routes.now c.args.log (sym c.slot_fits.ensures ∙ c.if-not-slot_fits.true))
 
-pub overflow_cast-a : goal.overflow_cast-a
-overflow_cast-a c =
+pub overflow_cast-a-2 : goal.overflow_cast-a-2
+overflow_cast-a-2 c =
     let a = bring_up_of c.args.a c.args.rings.now c.args.hubs.now c.args.list.now in
     omega (arith, few_slots a c.args.ctx c.args.routes.now c.args.log (sym c.slot_fits.ensures ∙ c.if-not-slot_fits.false))
 
-pub lengths_check-lengths-requires : goal.lengths_check-lengths-requires
-lengths_check-lengths-requires c =
+pub lengths_check-requires : goal.lengths_check-requires
+lengths_check-requires c =
     taken_narrow (eqb c.args.ctx 1056) c.args.spacing c.requires.spacing_value
 
-pub returns-in-Refuse : goal.returns-in-Refuse
+pub returns-in_err-lengths_check : goal.returns-in_err-lengths_check
 unfolding control_ring
-returns-in-Refuse c =
+returns-in_err-lengths_check c =
     let a = bring_up_of c.args.a c.args.rings.now c.args.hubs.now c.args.list.now in
     let fits = sym c.slot_fits.ensures ∙ c.if-not-slot_fits.false in
-    not_entered a c.args.ctx c.args.routes.now c.args.log _ (lengths_refused a c.args.ctx c.args.routes.now c.args.log c.args.spacing c.lengths_check-lengths.result fits
-    c.requires.spacing_value c.lengths_check-lengths.ensures _ c.in-Refuse.is)
+    rw (returned _ _ c.from_residual.ensures.1)
+    (not_entered a c.args.ctx c.args.routes.now c.args.log _ (lengths_refused a c.args.ctx c.args.routes.now c.args.log c.args.spacing c.lengths_check.result fits
+    c.requires.spacing_value c.lengths_check.ensures _ c.in_err-lengths_check.was))
 
 pub returns-then-not-speed_known : goal.returns-then-not-speed_known
 unfolding control_ring
 returns-then-not-speed_known c =
     let a = bring_up_of c.args.a c.args.rings.now c.args.hubs.now c.args.list.now in
     let fits = sym c.slot_fits.ensures ∙ c.if-not-slot_fits.false in
-    let base = lengths_passed a c.args.ctx c.args.routes.now c.args.log c.args.spacing c.lengths_check-lengths.result fits
-    c.requires.spacing_value c.lengths_check-lengths.ensures c.in_default.is in
+    let base = lengths_passed a c.args.ctx c.args.routes.now c.args.log c.args.spacing c.lengths_check.result fits
+    c.requires.spacing_value c.lengths_check.ensures c.in_ok-lengths_check.was in
     speed_refused a c.args.ctx c.args.routes.now c.args.log base (sym c.speed_known.ensures ∙ c.if-not-speed_known.true)
 
 pub returns-then-not-valid_list : goal.returns-then-not-valid_list
@@ -44,8 +46,8 @@ unfolding control_ring
 returns-then-not-valid_list c =
     let a = bring_up_of c.args.a c.args.rings.now c.args.hubs.now c.args.list.now in
     let fits = sym c.slot_fits.ensures ∙ c.if-not-slot_fits.false in
-    let base = lengths_passed a c.args.ctx c.args.routes.now c.args.log c.args.spacing c.lengths_check-lengths.result fits
-    c.requires.spacing_value c.lengths_check-lengths.ensures c.in_default.is in
+    let base = lengths_passed a c.args.ctx c.args.routes.now c.args.log c.args.spacing c.lengths_check.result fits
+    c.requires.spacing_value c.lengths_check.ensures c.in_ok-lengths_check.was in
     list_refused a c.args.ctx c.args.routes.now c.args.log base (sym c.speed_known.ensures ∙ c.if-not-speed_known.false) (sym c.valid_list.ensures ∙ c.if-not-valid_list.true)
 
 pub returns-then-not-chain_ok : goal.returns-then-not-chain_ok
@@ -53,8 +55,8 @@ unfolding control_ring
 returns-then-not-chain_ok c =
     let a = bring_up_of c.args.a c.args.rings.now c.args.hubs.now c.args.list.now in
     let fits = sym c.slot_fits.ensures ∙ c.if-not-slot_fits.false in
-    let base = lengths_passed a c.args.ctx c.args.routes.now c.args.log c.args.spacing c.lengths_check-lengths.result fits
-    c.requires.spacing_value c.lengths_check-lengths.ensures c.in_default.is in
+    let base = lengths_passed a c.args.ctx c.args.routes.now c.args.log c.args.spacing c.lengths_check.result fits
+    c.requires.spacing_value c.lengths_check.ensures c.in_ok-lengths_check.was in
     chain_refused a c.args.ctx c.args.routes.now c.args.log base (sym c.speed_known.ensures ∙ c.if-not-speed_known.false) (sym c.valid_list.ensures ∙ c.if-not-valid_list.false) (sym c.chain_ok.ensures ∙ c.if-not-chain_ok.true)
 
 pub returns-then-not-given_fit : goal.returns-then-not-given_fit
@@ -62,28 +64,28 @@ unfolding control_ring
 returns-then-not-given_fit c =
     let a = bring_up_of c.args.a c.args.rings.now c.args.hubs.now c.args.list.now in
     let fits = sym c.slot_fits.ensures ∙ c.if-not-slot_fits.false in
-    let base = lengths_passed a c.args.ctx c.args.routes.now c.args.log c.args.spacing c.lengths_check-lengths.result fits
-    c.requires.spacing_value c.lengths_check-lengths.ensures c.in_default.is in
+    let base = lengths_passed a c.args.ctx c.args.routes.now c.args.log c.args.spacing c.lengths_check.result fits
+    c.requires.spacing_value c.lengths_check.ensures c.in_ok-lengths_check.was in
     ring_refused a c.args.ctx c.args.routes.now c.args.log base (sym c.speed_known.ensures ∙ c.if-not-speed_known.false) (sym c.valid_list.ensures ∙ c.if-not-valid_list.false) (sym c.chain_ok.ensures ∙ c.if-not-chain_ok.false) (sym c.given_fit.ensures ∙ c.if-not-given_fit.true)
 
-pub returns-in-QueueFull : goal.returns-in-QueueFull
+pub returns-in-Err : goal.returns-in-Err
 unfolding control_ring
-returns-in-QueueFull c =
+returns-in-Err c =
     let a = bring_up_of c.args.a c.args.rings.now c.args.hubs.now c.args.list.now in
     let fits = sym c.slot_fits.ensures ∙ c.if-not-slot_fits.false in
-    let base = lengths_passed a c.args.ctx c.args.routes.now c.args.log c.args.spacing c.lengths_check-lengths.result fits
-    c.requires.spacing_value c.lengths_check-lengths.ensures c.in_default.is in
-    let r = c.register_queue-r.ensures in
+    let base = lengths_passed a c.args.ctx c.args.routes.now c.args.log c.args.spacing c.lengths_check.result fits
+    c.requires.spacing_value c.lengths_check.ensures c.in_ok-lengths_check.was in
+    let r = c.register_queue.ensures in
     entered a c.args.ctx c.args.routes.now c.args.log base (sym c.speed_known.ensures ∙ c.if-not-speed_known.false) (sym c.valid_list.ensures ∙ c.if-not-valid_list.false) (sym c.chain_ok.ensures ∙ c.if-not-chain_ok.false) (sym c.given_fit.ensures ∙ c.if-not-given_fit.false) _ _
-    (queue_full a c.args.routes.now (sym r.0 ∙ c.in-QueueFull.is)) (r.1 ∙ ap (with_registered c.args.routes.now a.slot 1) c.requires.ring_value)
+    (queue_full a c.args.routes.now _ (sym r.0 ∙ c.in-Err.is)) (r.1 ∙ ap (with_registered c.args.routes.now a.slot 1) c.requires.ring_value)
 
-pub returns-in-Done : goal.returns-in-Done
+pub returns-in-Ok : goal.returns-in-Ok
 unfolding control_ring
-returns-in-Done c =
+returns-in-Ok c =
     let a = bring_up_of c.args.a c.args.rings.now c.args.hubs.now c.args.list.now in
     let fits = sym c.slot_fits.ensures ∙ c.if-not-slot_fits.false in
-    let base = lengths_passed a c.args.ctx c.args.routes.now c.args.log c.args.spacing c.lengths_check-lengths.result fits
-    c.requires.spacing_value c.lengths_check-lengths.ensures c.in_default.is in
-    let r = c.register_queue-r.ensures in
+    let base = lengths_passed a c.args.ctx c.args.routes.now c.args.log c.args.spacing c.lengths_check.result fits
+    c.requires.spacing_value c.lengths_check.ensures c.in_ok-lengths_check.was in
+    let r = c.register_queue.ensures in
     entered a c.args.ctx c.args.routes.now c.args.log base (sym c.speed_known.ensures ∙ c.if-not-speed_known.false) (sym c.valid_list.ensures ∙ c.if-not-valid_list.false) (sym c.chain_ok.ensures ∙ c.if-not-chain_ok.false) (sym c.given_fit.ensures ∙ c.if-not-given_fit.false) _ _
-    (queue_free a c.args.routes.now (sym r.0 ∙ c.in-Done.is)) (r.1 ∙ ap (with_registered c.args.routes.now a.slot 1) c.requires.ring_value)
+    (queue_free a c.args.routes.now (sym r.0 ∙ c.in-Ok.is)) (r.1 ∙ ap (with_registered c.args.routes.now a.slot 1) c.requires.ring_value)

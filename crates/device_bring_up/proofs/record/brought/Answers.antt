@@ -9,10 +9,12 @@ unfolding brought_left brought_record control_ring no_device
 returns c =
     λ hubs ctx routes log. let e = c.count_words-words.ensures in rw (
       c.answer_number-accepted.ensures,
-      c.first_words-kept.ensures,
-      c.given_rings-given.ensures,
+      c.padded-kept.ensures,
+      c.padded-given.ensures,
       c.requires.ring_value,
       c.no_device-d.ensures,
       e.1,
       length-take-le _ _ e.0,
+      c.is_some.ensures,
+      c.unwrap_or.ensures,
     )

@@ -1,15 +1,19 @@
 use mathlib.Core.Path.{◌≡◌, refl, sym, ap, ◌∙◌}
 use mathlib.Core.Bool.{Bool, false, cond}
 use mathlib.Core.List.{List, []}
-use Prim.Native.Nat.{ℕ}
+use Prim.Native.Nat.{ℕ, ◌+◌}
 use native.Mathlib.Omega.{arith}
-use borrow.Author.Tests.{eq-eqb, ne_eqb}
+use borrow.Author.Rules.{rules}
+use lib.ListN.{length}
 use Rattle.record_endpoint.specs.EndpointMap.{tabulated}
 use Rattle.device.specs.Device.{rebuilt, no_device}
-use Rattle.device_image.specs.Layout.{SLOT, MAX-SLOTS, PORT-SPEED, CURRENT-CONFIG-VALUE}
+use Rattle.descriptor_list.specs.Valid.{LIST-ROOM}
+use Rattle.record_ring.specs.Rings.{RING-ROOM}
+use Rattle.record_ring.specs.Store.{GIVEN-ROOM}
+use Rattle.record_settings.specs.Held.{HELD-ROOM}
+use Rattle.device_image.specs.Layout.{SLOT, MAX-SLOTS, PORT-SPEED, CURRENT-CONFIG-VALUE, INTERFACES, ALTERNATES, LIST, QUARANTINED, GIVEN, WORDS}
 use Rattle.device_image.specs.Image.{is_set, handle_in, number_at, endpoint_in, read, is_image, decode}
-use Rattle.device_image.proofs.Steps.{image_byte, read_of}
-use Rattle.device_image.proofs.reading.decode.Goals.{then-image-eq0, else-image-eq0}
+use Rattle.device_image.proofs.Steps.{image_length, image_byte, image_word, callable, made, handle_is, read_of}
 use Rattle.device_image.proofs.reading.decode.Goals as goal
 
 zeros : no_device ≡ read []
@@ -25,8 +29,8 @@ returns-then-not-is_image c =
     c.no_device.ensures
     ∙ none _ (sym c.is_image.ensures ∙ c.if-not-is_image.true)
 
-pub endpoints_in-e-requires : goal.endpoints_in-e-requires
-endpoints_in-e-requires c = sym c.is_image.ensures ∙ c.if-not-is_image.false
+pub endpoints_in-count-requires : goal.endpoints_in-count-requires
+endpoints_in-count-requires c = sym c.is_image.ensures ∙ c.if-not-is_image.false
 
 pub overflow_cast-result : goal.overflow_cast-result
 overflow_cast-result c = omega (arith, image_byte _ (sym c.is_image.ensures ∙ c.if-not-is_image.false) SLOT (omega arith) (omega arith))
@@ -40,27 +44,56 @@ overflow_cast-result-3 c = omega (arith, image_byte _ (sym c.is_image.ensures �
 pub overflow_cast-result-4 : goal.overflow_cast-result-4
 overflow_cast-result-4 c = omega (arith, image_byte _ (sym c.is_image.ensures ∙ c.if-not-is_image.false) CURRENT-CONFIG-VALUE (omega arith) (omega arith))
 
-pub list_in-requires : goal.list_in-requires
-list_in-requires c = sym c.is_image.ensures ∙ c.if-not-is_image.false
+pub from_fn-requires : goal.from_fn-requires
+from_fn-requires c =
+    let size : length c.args.image.now ≡ WORDS = image_length _ (sym c.is_image.ensures ∙ c.if-not-is_image.false) in (
+      omega arith,
+      callable _ _ LIST-ROOM (λ i y q k. search rules) (λ i h.
+          let fits = image_word _ (sym c.is_image.ensures ∙ c.if-not-is_image.false) (LIST + i) (omega arith) (omega arith) in search rules),
+    )
 
-pub settings_in-requires : goal.settings_in-requires
-settings_in-requires c = (sym c.is_image.ensures ∙ c.if-not-is_image.false, omega arith, omega arith)
+pub from_fn-requires-2 : goal.from_fn-requires-2
+from_fn-requires-2 c =
+    let size : length c.args.image.now ≡ WORDS = image_length _ (sym c.is_image.ensures ∙ c.if-not-is_image.false) in (
+      omega arith,
+      callable _ _ HELD-ROOM (λ i y q k. search rules) (λ i h.
+          let fits = image_byte _ (sym c.is_image.ensures ∙ c.if-not-is_image.false) (INTERFACES + i) (omega arith) (omega arith) in search rules),
+    )
 
-pub settings_in-requires-2 : goal.settings_in-requires-2
-settings_in-requires-2 c = (sym c.is_image.ensures ∙ c.if-not-is_image.false, omega arith, omega arith)
+pub from_fn-requires-3 : goal.from_fn-requires-3
+from_fn-requires-3 c =
+    let size : length c.args.image.now ≡ WORDS = image_length _ (sym c.is_image.ensures ∙ c.if-not-is_image.false) in (
+      omega arith,
+      callable _ _ HELD-ROOM (λ i y q k. search rules) (λ i h.
+          let fits = image_byte _ (sym c.is_image.ensures ∙ c.if-not-is_image.false) (ALTERNATES + i) (omega arith) (omega arith) in search rules),
+    )
 
-pub quarantined_in-requires : goal.quarantined_in-requires
-quarantined_in-requires c = sym c.is_image.ensures ∙ c.if-not-is_image.false
+pub from_fn-requires-4 : goal.from_fn-requires-4
+from_fn-requires-4 c =
+    let size : length c.args.image.now ≡ WORDS = image_length _ (sym c.is_image.ensures ∙ c.if-not-is_image.false) in (
+      omega arith,
+      callable _ _ RING-ROOM (λ i y q k. search rules) (λ i h.
+          search rules),
+    )
 
-pub given_in-requires : goal.given_in-requires
-given_in-requires c = sym c.is_image.ensures ∙ c.if-not-is_image.false
+pub from_fn-requires-5 : goal.from_fn-requires-5
+from_fn-requires-5 c =
+    let size : length c.args.image.now ≡ WORDS = image_length _ (sym c.is_image.ensures ∙ c.if-not-is_image.false) in (
+      omega arith,
+      callable _ _ GIVEN-ROOM (λ i y q k. search rules) (λ i h.
+          search rules),
+    )
 
 pub returns : goal.returns
-unfolding rebuilt is_set handle_in
+unfolding rebuilt is_set handle_in number_at
 returns c =
     let image = sym c.is_image.ensures ∙ c.if-not-is_image.false in
-    read_of c.args.image.now c.list_in.ensures c.endpoints_in-e.ensures c.settings_in.ensures c.settings_in-2.ensures
-    (elim c.if-image-eq0.branch [
-      | then-image-eq0 w ↦ rw (eq-eqb _ _ w.if-image-eq0.true) w.control_handle-is
-      | else-image-eq0 w ↦ rw (ne_eqb _ _ w.if-image-eq0.false) w.control_handle-is
-    ]) c.quarantined_in.ensures c.given_in.ensures image
+    let said = number_at c.args.image.now in
+    read_of c.args.image.now
+    (made _ _ LIST-ROOM said LIST (λ i y q k. search rules) _ c.from_fn.ensures.items 0)
+    c.endpoints_in-count.ensures
+    (made _ _ HELD-ROOM said INTERFACES (λ i y q k. search rules) _ c.from_fn-2.ensures.items 0)
+    (made _ _ HELD-ROOM said ALTERNATES (λ i y q k. search rules) _ c.from_fn-3.ensures.items 0)
+    (c.from.ensures ∙ handle_is _)
+    (made _ _ RING-ROOM said QUARANTINED (λ i y q k. search rules) _ c.from_fn-4.ensures.items 0)
+    (made _ _ GIVEN-ROOM said GIVEN (λ i y q k. search rules) _ c.from_fn-5.ensures.items 0) image

@@ -1,48 +1,38 @@
-use borrow.Author.Rules.{rules}
-use Prim.Native.Nat.{◌+◌}
-use mathlib.Core.Path.{◌≡◌, refl}
-use native.Mathlib.Omega.{arith}
-use lib.ListN.{get_or}
-use borrow.Author.Tests.{eq-eqb, ne_eqb}
-use native.Mathlib.Nat.{zero-add}
-use Rattle.device_image.specs.Layout.{EP-REVOKED, EP-ADDRESSES, EP-INTERFACES}
-use Rattle.device_image.specs.Image.{handle_in, number_at, endpoint_in, endpoints_in}
-use Rattle.device_image.proofs.Steps.{image_length, image_byte, read_none, read_next, read_done}
-use Rattle.device_image.proofs.reading.endpoints_in.Goals.{then-image-i-eq0, else-image-i-eq0}
+use Rattle.std.proofs.Common.{rules, ◌≡◌, ◌+◌, length, arith, refl, get_or, zero-add}
+use lib.Dec.{eqb}
+use Rattle.record_endpoint.specs.EndpointMap.{handle_of}
+use Rattle.record_endpoint.specs.Order.{PLACES}
+use Rattle.record_endpoint.specs.Endpoint.{blank}
+use Rattle.device_image.specs.Layout.{EP-ADDRESSES, EP-RINGS, EP-REVOKED, EP-INTERFACES, WORDS}
+use Rattle.device_image.specs.Image.{endpoints_in, endpoint_in, number_at}
+use Rattle.device_image.proofs.Steps.{image_length, image_byte, callable, made, handle_is}
 use Rattle.device_image.proofs.reading.endpoints_in.Goals as goal
 
-pub loop-i-init : goal.loop-i-init
-loop-i-init c = (search rules, image_length _ c.requires, search rules, read_none _ _ _ _ refl, read_none _ _ _ _ refl)
-
-pub overflow_cast-eps : goal.overflow_cast-eps
-overflow_cast-eps c =
-    let turn = c.loop-i in
-    omega (arith, image_byte _ turn.invariant.0 (EP-ADDRESSES + turn.i) (omega arith) (omega (arith, c.loop-i-test.true)))
-
-pub overflow_cast-owners : goal.overflow_cast-owners
-overflow_cast-owners c =
-    let turn = c.loop-i in
-    omega (arith, image_byte _ turn.invariant.0 (EP-INTERFACES + turn.i) (omega arith) (omega (arith, c.loop-i-test.true)))
-
-pub loop-i-preserved : goal.loop-i-preserved
-unfolding endpoint_in number_at handle_in
-loop-i-preserved c =
-    let turn = c.loop-i.invariant in
-    let test = c.loop-i-test.true in
-    let handle : c.if-image-i-eq0.handle ≡ handle_in (get_or c.args.image.now (EP-REVOKED + c.loop-i.i) 0) = elim c.if-image-i-eq0.branch [
-      | then-image-i-eq0 w ↦ rw (eq-eqb _ _ w.if-image-i-eq0.true) w.handle-is
-      | else-image-i-eq0 w ↦ rw (ne_eqb _ _ w.if-image-i-eq0.false) w.handle-is
-    ] in (
-      search rules,
-      search rules,
-      search rules,
-      read_next _ turn.3 test (rw (zero-add, handle) refl),
-      read_next _ turn.4 test refl,
+pub from_fn-requires : goal.from_fn-requires
+from_fn-requires c =
+    let size : length c.args.image.now ≡ WORDS = image_length _ c.requires in (
+      omega arith,
+      callable _ _ PLACES (λ i y q k. search rules) (λ i h.
+          let byte = image_byte _ c.requires (EP-ADDRESSES + i) (omega arith) (omega arith) in search rules),
     )
 
+pub from_fn-requires-2 : goal.from_fn-requires-2
+from_fn-requires-2 c =
+    let size : length c.args.image.now ≡ WORDS = image_length _ c.requires in (
+      omega arith,
+      callable _ _ PLACES (λ i y q k. search rules) (λ i h.
+          let byte = image_byte _ c.requires (EP-INTERFACES + i) (omega arith) (omega arith) in search rules),
+    )
+
+pub bounds-image-419 : goal.bounds-image-419
+bounds-image-419 c = omega (arith, image_length _ c.requires)
+
 pub returns : goal.returns
-unfolding endpoints_in
+unfolding endpoints_in endpoint_in number_at
 returns c =
-    let turn = c.loop-i.invariant in
-    let test = c.loop-i-test.false in
-    rw (read_done turn.3 test turn.2, read_done turn.4 test turn.2)
+    let image = c.args.image.now in
+    let eps = made _ _ PLACES (endpoint_in image) 0 (λ i y q k.
+    let e : y ≡ record { address = get_or image (EP-ADDRESSES + i) 0; ring = get_or image (EP-RINGS + i) 0; handle = handle_of (eqb (get_or image (EP-REVOKED + i) 0) 0) } = search rules in
+    (search rules, rw (e, zero-add, handle_is) refl)) c.from_fn.result c.from_fn.ensures.items blank in
+    let owners = made _ _ PLACES (number_at image) EP-INTERFACES (λ i y q k. search rules) c.from_fn-2.result c.from_fn-2.ensures.items 0 in
+    rw (eps, owners) refl

@@ -1,36 +1,42 @@
-use mathlib.Core.Path.{sym, ap, ◌∙◌}
-use mathlib.Core.Bool.{not}
-use native.Mathlib.Omega.{arith}
+use mathlib.Core.Path.{◌≡◌, sym, ◌∙◌}
 use lib.ListN.{length}
-use borrow.Author.Tests.{le-leb, lt-leb}
-use Rattle.hub.specs.Chain.{chain_ok}
-use Rattle.hub.proofs.Steps.{chain_deep, chain_starts, chain_root, chain_unfit, chain_alone, chain_up}
+use borrow.Author.Tests.{le-leb}
+use Rattle.std.proofs.Common.{refl}
+use Rattle.hub.specs.Chain.{hub_fits, chain_ok}
+use Rattle.hub.specs.HubWord.{hub_at}
+use Rattle.hub.proofs.Steps.{chain_many, chain_deep, chain_starts, chain_root, chain_unfit, chain_alone, chain_up}
 use Rattle.hub.proofs.chain.chain_ok.Goals as goal
 
 pub returns-then-hubs-gt-MAX_HUBS : goal.returns-then-hubs-gt-MAX_HUBS
+returns-then-hubs-gt-MAX_HUBS c = sym (chain_many _ _ c.if-hubs-gt-MAX_HUBS.true)
+
+pub returns-in_default : goal.returns-in_default
 unfolding chain_ok
-returns-then-hubs-gt-MAX_HUBS c = rw (lt-leb (length c.args.hubs.now) 256 c.if-hubs-gt-MAX_HUBS.true)
+returns-in_default c = rw (c.in_default.is, le-leb (length c.args.hubs.now) 256 c.if-hubs-gt-MAX_HUBS.false)
 
-pub returns-then-not-has_parent : goal.returns-then-not-has_parent
-unfolding chain_ok
-returns-then-not-has_parent c =
-    let a = c.args in
-    rw (le-leb (length a.hubs.now) 256 c.if-hubs-gt-MAX_HUBS.false, c.if-not-has_parent.true)
+pub returns-then-hub_at-gt-MAX_DEPTH_PLUS_ONE : goal.returns-then-hub_at-gt-MAX_DEPTH_PLUS_ONE
+returns-then-hub_at-gt-MAX_DEPTH_PLUS_ONE c = rw (c.in-Some.is) (sym (chain_deep _ _ c.if-hubs-gt-MAX_HUBS.false _ c.hub_at.ensures c.if-hub_at-gt-MAX_DEPTH_PLUS_ONE.true))
 
-pub returns-then-depth_plus_one-gt-MAX_DEPTH_PLUS_ONE : goal.returns-then-depth_plus_one-gt-MAX_DEPTH_PLUS_ONE
-returns-then-depth_plus_one-gt-MAX_DEPTH_PLUS_ONE c = sym (chain_deep _ _ _ c.if-hubs-gt-MAX_HUBS.false (ap not c.if-not-has_parent.false) _ c.hub_at-depth_plus_one.ensures c.if-depth_plus_one-gt-MAX_DEPTH_PLUS_ONE.true)
-
-pub loop-depth_plus_one-init : goal.loop-depth_plus_one-init
-loop-depth_plus_one-init c = chain_starts _ _ _ c.if-hubs-gt-MAX_HUBS.false (ap not c.if-not-has_parent.false) _ c.hub_at-depth_plus_one.ensures c.if-depth_plus_one-gt-MAX_DEPTH_PLUS_ONE.false
+pub loop-socket-init : goal.loop-socket-init
+loop-socket-init c =
+    let s = c.above-socket-items.ensures in
+    rw (c.in-Some.is, c.into_iter-socket-iterator.ensures.into_iter_gives, s.hubs_is, s.at_is, s.depth_is, ← c.hub_at.ensures)
+    (refl, (refl, chain_starts _ _ c.if-hubs-gt-MAX_HUBS.false _ c.hub_at.ensures c.if-hub_at-gt-MAX_DEPTH_PLUS_ONE.false))
 
 pub returns-then-not-hub_fits : goal.returns-then-not-hub_fits
-returns-then-not-hub_fits c = sym (c.loop-depth_plus_one.invariant ∙ chain_unfit _ _ _ _ c.hub_at-h.ensures _ c.hub_fits.ensures (omega arith) (ap not c.if-not-hub_fits.true))
+returns-then-not-hub_fits c = sym (c.loop-socket.invariant.1.1 ∙ chain_unfit _ _ _ c.in-Some-socket.ensures.steps _ c.hub_fits.ensures c.if-not-hub_fits.true)
 
 pub returns-then-not-h : goal.returns-then-not-h
-returns-then-not-h c = sym (c.loop-depth_plus_one.invariant ∙ chain_alone _ _ _ _ c.hub_at-h.ensures _ c.hub_fits.ensures (omega arith) (ap not c.if-not-hub_fits.false) c.if-not-h.true)
+returns-then-not-h c = sym (c.loop-socket.invariant.1.1 ∙ chain_alone _ _ _ c.in-Some-socket.ensures.steps _ c.hub_fits.ensures c.if-not-hub_fits.false c.if-not-h.true)
 
-pub loop-depth_plus_one-preserved : goal.loop-depth_plus_one-preserved
-loop-depth_plus_one-preserved c = c.loop-depth_plus_one.invariant ∙ chain_up _ _ _ _ c.hub_at-h.ensures _ c.hub_fits.ensures (omega arith) (ap not c.if-not-hub_fits.false) c.if-not-h.false
+pub loop-socket-preserved : goal.loop-socket-preserved
+loop-socket-preserved c =
+    let g = c.in-Some-socket.ensures.steps in
+    (g.up.hubs_is ∙ c.loop-socket.invariant.0, (g.up.at_is, c.loop-socket.invariant.1.1 ∙ chain_up _ _ _ g _ c.hub_fits.ensures c.if-not-hub_fits.false c.if-not-h.false))
 
 pub returns : goal.returns
-returns c = sym (c.loop-depth_plus_one.invariant ∙ chain_root _ _ _ _ c.hub_at.ensures _ c.hub_fits-2.ensures (omega arith))
+returns c =
+    let (i, (at, whole)) = c.loop-socket.invariant in
+    let e : hub_fits (hub_at c.args.hubs.now c.loop-socket.at) 0 ≡ chain_ok c.args.hubs.now c.args.parent =
+    rw (i, at) at (sym (whole ∙ chain_root _ _ _ c.in-None.ensures.steps)) in
+    c.hub_fits-2.ensures ∙ rw (c.hub_at-2.ensures) e

@@ -1,12 +1,9 @@
 use mathlib.Core.Path.{◌≡◌}
-use Prim.Native.Nat.{◌≤◌, ◌-◌}
+use Prim.Native.Nat.{◌-◌}
 use lib.ListN.{drop}
 use Rattle.record_endpoint.specs.EndpointMap.{Whole, no_endpoints, endpoint_map_from}
 use Rattle.record_endpoint.proofs.endpoint_map.endpoint_map_of.Given as goal
 
 abbrev pub invariant-loop-i : goal.invariant-loop-i
 invariant-loop-i l =
-    (l.i ≤ l.n) × Whole l.c × (endpoint_map_from l.n l.eps l.owners no_endpoints ≡ endpoint_map_from (l.n - l.i) (drop l.i l.eps) (drop l.i l.owners) l.c)
-
-abbrev pub decreases-loop-i : goal.decreases-loop-i
-decreases-loop-i l = l.n - l.i
+    Whole l.c × (endpoint_map_from l.n l.eps l.owners no_endpoints ≡ endpoint_map_from (l.n - l.i) (drop l.i l.eps) (drop l.i l.owners) l.c)

@@ -1,4 +1,3 @@
-use Prim.Native.Nat.{◌≤◌, ◌-◌}
 use mathlib.Core.Bool.{cond}
 use lib.ListN.{get_or}
 use Rattle.record_endpoint.specs.EndpointMap.{is_owned}
@@ -7,7 +6,4 @@ use Rattle.record_endpoint.proofs.endpoint_map.owned_rings.Given as goal
 
 abbrev pub invariant-loop-p : goal.invariant-loop-p
 invariant-loop-p l =
-    (l.p ≤ 30) × Written 30 (λ q. cond (is_owned l.who l.c q) (get_or l.c.rings q 0) 0) l.c.rings 0 l.p l.rings
-
-abbrev pub decreases-loop-p : goal.decreases-loop-p
-decreases-loop-p l = 30 - l.p
+    Written 30 (λ q. cond (is_owned l.who l.c q) (get_or l.c.rings q 0) 0) l.c.rings 0 l.p l.rings

@@ -1,19 +1,18 @@
-use Rattle.record_endpoint.specs.EndpointMap.{is_owned}
 use mathlib.Core.Path.{sym, ◌∙◌}
-use Rattle.record_endpoint.proofs.Steps.{activated_none, activated_next, activated_keep, activated_done}
+use native.Mathlib.Omega.{arith}
 use borrow.Author.Rules.{rules}
+use Rattle.record_endpoint.proofs.Steps.{activated_none, activated_next, activated_keep, activated_done}
+use Rattle.record_endpoint.proofs.endpoint_map.with_active.Goals.{then-is_owned, else-is_owned}
 use Rattle.record_endpoint.proofs.endpoint_map.with_active.Goals as goal
 
 pub loop-p-init : goal.loop-p-init
-loop-p-init c = (search rules, search rules, activated_none _ _ _ (search rules))
-
-pub loop-p-preserved-then-owned : goal.loop-p-preserved-then-owned
-unfolding is_owned
-loop-p-preserved-then-owned c = (search rules, search rules, activated_next c.loop-p.invariant.2 c.loop-p-test.true (sym c.is_owned-owned.ensures ∙ c.if-owned.true))
+loop-p-init c = (search rules, activated_none _ _ _ (search rules))
 
 pub loop-p-preserved : goal.loop-p-preserved
-unfolding is_owned
-loop-p-preserved c = (search rules, search rules, activated_keep c.loop-p.invariant.2 c.loop-p-test.true (sym c.is_owned-owned.ensures ∙ c.if-owned.false))
+loop-p-preserved c = let a = c.loop-p.invariant.1 in elim c.if-is_owned.branch [
+  | then-is_owned w ↦ rw (w.c-is, w.seen-is) (omega arith, activated_next a c.loop-p-test.true (sym c.is_owned.ensures ∙ w.if-is_owned.true))
+  | else-is_owned w ↦ rw (w.c-is, w.seen-is) (omega arith, activated_keep a c.loop-p-test.true (sym c.is_owned.ensures ∙ w.if-is_owned.false))
+]
 
 pub returns : goal.returns
-returns c = activated_done c.loop-p.invariant.2 c.loop-p-test.false
+returns c = activated_done c.loop-p.invariant.1 (omega arith)

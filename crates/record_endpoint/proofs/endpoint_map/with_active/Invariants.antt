@@ -1,10 +1,7 @@
-use Prim.Native.Nat.{◌≤◌, ◌-◌}
+use Prim.Native.Nat.{◌≤◌}
 use Rattle.record_endpoint.proofs.Steps.{Activated}
 use Rattle.record_endpoint.proofs.endpoint_map.with_active.Given as goal
 
 abbrev pub invariant-loop-p : goal.invariant-loop-p
 invariant-loop-p l =
-    (l.p ≤ 30) × (l.seen ≤ l.p) × Activated l.who l.n l.initial.c l.seen l.p l.c
-
-abbrev pub decreases-loop-p : goal.decreases-loop-p
-decreases-loop-p l = 30 - l.p
+    (l.seen ≤ l.p) × Activated l.who l.n l.initial.c l.seen l.p l.c

@@ -1,5 +1,4 @@
 use mathlib.Core.Path.{◌≡◌}
-use Prim.Native.Nat.{◌≤◌, ◌-◌}
 use lib.ListN.{length, take, drop}
 use Rattle.record_endpoint.specs.Endpoint.{addresses, addresses_fit}
 use Rattle.record_endpoint.proofs.Fit.{fit_from}
@@ -7,10 +6,6 @@ use Rattle.record_endpoint.proofs.entry.addresses_fit.Given as goal
 
 abbrev pub invariant-loop-i : goal.invariant-loop-i
 invariant-loop-i l =
-    (l.i ≤ l.n)
-    × (length l.eps ≡ 30)
+    (length l.eps ≡ 30)
     × (length l.taken ≡ 30)
     × (addresses_fit (addresses (take l.n l.eps)) ≡ fit_from l.taken (drop l.i (addresses (take l.n l.eps))))
-
-abbrev pub decreases-loop-i : goal.decreases-loop-i
-decreases-loop-i l = l.n - l.i

@@ -1,4 +1,4 @@
-use Prim.Native.Nat.{◌≤◌, ◌-◌}
+use Prim.Native.Nat.{◌≤◌}
 use lib.ListN.{get_or}
 use Rattle.record_endpoint.specs.Endpoint.{blank}
 use Rattle.record_endpoint.specs.EndpointMap.{endpoint_at}
@@ -7,10 +7,6 @@ use Rattle.record_endpoint.proofs.entry.endpoints_of.Given as goal
 
 abbrev pub invariant-loop-p : goal.invariant-loop-p
 invariant-loop-p l =
-    (l.p ≤ 30)
-    × (l.n ≤ l.p)
+    (l.n ≤ l.p)
     × Filled 30 blank (endpoint_at l.c) l.c.rings l.p l.eps l.n
     × Filled 30 0 (λ q. get_or l.c.owners q 0) l.c.rings l.p l.owners l.n
-
-abbrev pub decreases-loop-p : goal.decreases-loop-p
-decreases-loop-p l = 30 - l.p

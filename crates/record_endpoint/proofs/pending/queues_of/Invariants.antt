@@ -1,5 +1,5 @@
 use mathlib.Core.Path.{◌≡◌}
-use Prim.Native.Nat.{◌≤◌, ◌-◌}
+use Prim.Native.Nat.{◌≤◌}
 use lib.ListN.{length, get_or}
 use Rattle.record_endpoint.specs.Order.{dci_at}
 use Rattle.record_endpoint.proofs.Steps.{Filled}
@@ -7,11 +7,7 @@ use Rattle.record_endpoint.proofs.pending.queues_of.Given as goal
 
 abbrev pub invariant-loop-p : goal.invariant-loop-p
 invariant-loop-p l =
-    (l.p ≤ 30)
-    × (l.n ≤ l.p)
+    (l.n ≤ l.p)
     × (length l.by ≡ 30)
     × Filled 30 0 dci_at l.by l.p l.dcis l.n
     × Filled 30 0 (λ q. get_or l.by q 0) l.by l.p l.rings l.n
-
-abbrev pub decreases-loop-p : goal.decreases-loop-p
-decreases-loop-p l = 30 - l.p

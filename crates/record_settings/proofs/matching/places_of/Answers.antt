@@ -1,19 +1,21 @@
 use mathlib.Core.Path.{refl, ◌∙◌}
 use mathlib.Core.Bool.{false}
+use borrow.Author.Rules.{rules}
 use lib.ListN.{length-set, get_or-replicate}
 use Rattle.record_settings.proofs.Steps.{mark_next, mark_skip, marked_all}
 use Rattle.record_settings.proofs.matching.places_of.Goals as goal
+use Rattle.record_settings.proofs.matching.places_of.Goals.{in-Some, in_default}
 
-pub loop-i-init : goal.loop-i-init
-loop-i-init c = (refl, λ p h. rw (get_or-replicate 30 p false false h))
+pub loop-w-init : goal.loop-w-init
+loop-w-init c = (refl, λ p h. rw (get_or-replicate 30 p false false h))
 
-pub loop-i-preserved-then-place-lt-PLACES : goal.loop-i-preserved-then-place-lt-PLACES
-loop-i-preserved-then-place-lt-PLACES c =
-    (simp length-set c.loop-i.invariant.0, mark_next c.loop-i.places c.args.words.now c.loop-i.i c.loop-i.invariant.1 _ c.loop-i-test.true c.loop-i.invariant.0 (c.place_of-place.ensures.0 ∙ rw c.endpoint_descriptor-e.ensures))
-
-pub loop-i-preserved : goal.loop-i-preserved
-loop-i-preserved c =
-    (c.loop-i.invariant.0, mark_skip c.loop-i.places c.args.words.now c.loop-i.i c.loop-i.invariant.1 _ c.loop-i-test.true c.if-place-lt-PLACES.false (c.place_of-place.ensures.0 ∙ rw c.endpoint_descriptor-e.ensures))
+pub loop-w-preserved : goal.loop-w-preserved
+loop-w-preserved c = let l = c.loop-w in
+    elim c.match-place_of.branch [
+      | in-Some w ↦ rw w.places-is (simp length-set l.invariant.0, mark_next l.places c.args.words.now l.w-index l.invariant.1 _ c.loop-w-test.true l.invariant.0 (w.in-Some.ensures.value ∙ rw c.endpoint_descriptor-e.ensures))
+      | in_default w ↦ rw w.places-is (l.invariant.0, mark_skip l.places c.args.words.now l.w-index l.invariant.1 30 c.loop-w-test.true (search rules) (w.in_default.ensures.value ∙ rw c.endpoint_descriptor-e.ensures))
+    ]
 
 pub returns : goal.returns
-returns c = marked_all c.loop-i.places c.args.words.now c.loop-i.i c.loop-i.invariant.1 c.loop-i-test.false c.loop-i.invariant.0
+returns c = let l = c.loop-w in
+    marked_all l.places c.args.words.now l.w-index l.invariant.1 c.loop-w-test.false l.invariant.0

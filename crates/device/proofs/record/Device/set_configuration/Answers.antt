@@ -1,61 +1,56 @@
 use native.Mathlib.Omega.{arith}
 use mathlib.Core.List.{[]}
-use mathlib.Core.Path.{◌≡◌, refl, sym}
+use mathlib.Core.Path.{◌≡◌, refl}
 use lib.ListN.{length}
 use Rattle.record_endpoint.specs.Endpoint.{padded}
 use Rattle.record_settings.specs.Held.{interfaces_of, alternates_of}
 use Rattle.course_steps.proofs.Laws.{room_as}
-use Rattle.device.specs.Device.{endpoint_map_in, list_of}
+use Rattle.device.specs.Device.{endpoint_map_in}
 use Rattle.device.specs.SetConfiguration.{set_configuration}
 use Rattle.device.proofs.Laws.{record_passed}
-use Rattle.device.proofs.ClaimLaws.{list_length}
 use Rattle.device.proofs.Exits.{refused_left}
 use Rattle.device.proofs.SetConfigurationLaws.{set_left}
 use borrow.Author.Rules.{rules}
 use Rattle.device.proofs.record.Device.set_configuration.Goals as goal
 
-pub returns-in-Refuse : goal.returns-in-Refuse
+pub returns-in-Err : goal.returns-in-Err
 unfolding set_configuration
-returns-in-Refuse c =
-    rw c.refused.ensures (refused_left _ _ c.record_check-check.ensures _ c.in-Refuse.is
+returns-in-Err c =
+    rw c.refused.ensures (refused_left _ _ c.record_check.ensures _ c.in-Err.is
     c.args.self _ c.args.ctx.now c.args.routes.now c.args.log.now)
 
-pub endpoint_map_in-c-requires : goal.endpoint_map_in-c-requires
-endpoint_map_in-c-requires c = (record_passed _ _ _ _ _ c.record_check-check.ensures c.in_default.is).facts.counts.endpoints
+pub settings-requires : goal.settings-requires
+settings-requires c = (record_passed _ _ _ _ _ c.record_check.ensures c.in_default.is).facts.counts.held
 
-pub slice_bounds-list-end : goal.slice_bounds-list-end
-slice_bounds-list-end c =
-    let f = (record_passed _ _ _ _ _ c.record_check-check.ensures c.in_default.is).facts in
+pub endpoint_map_in-c-requires : goal.endpoint_map_in-c-requires
+endpoint_map_in-c-requires c = (record_passed _ _ _ _ _ c.record_check.ensures c.in_default.is).facts.counts.endpoints
+
+pub shared_ref_as_front-run_set_configuration : goal.shared_ref_as_front-run_set_configuration
+shared_ref_as_front-run_set_configuration c =
+    let f = (record_passed _ _ _ _ _ c.record_check.ensures c.in_default.is).facts in
     let room : length c.args.self.list ≡ 256 = search rules in
     omega (arith, room, f.counts.list)
-
-pub slice_bounds-run_set_configuration-end : goal.slice_bounds-run_set_configuration-end
-unfolding list_of
-slice_bounds-run_set_configuration-end c =
-    sym (list_length c.args.self (record_passed _ _ _ _ _ c.record_check-check.ensures c.in_default.is).facts (search rules))
 
 pub run_set_configuration-e-requires : goal.run_set_configuration-e-requires
 run_set_configuration-e-requires c =
     let q = c.queues_of.ensures in
-    let p = record_passed _ _ _ _ _ c.record_check-check.ensures c.in_default.is in
+    let p = record_passed _ _ _ _ _ c.record_check.ensures c.in_default.is in
     record {
       room = room_as c.args.self.spacing _ c.queues_of.result c.queues_of.result _ _ p.spaced q q;
-      held_bound = p.facts.counts.held;
       count_in_bounds = omega (arith, q.room, p.room);
     }
 
 pub returns : goal.returns
 unfolding padded interfaces_of alternates_of endpoint_map_in
 returns c =
-    let s = c in set_left s.args.self s.args.value c.record_check-check.result c.endpoint_map_in-c.result
+    let s = c in set_left s.args.self s.args.value c.record_check.result c.settings.result c.endpoint_map_in-c.result
     c.no_endpoints.result c.queues_of.result s.args.outcomes.now s.args.ctx.now
     s.args.routes.now s.args.log.now _ _ _ c.run_set_configuration-e.result
-    c.configured-self.result c.at_end.result c.record_check-check.ensures c.in_default.is
-    c.endpoint_map_in-c.ensures c.queues_of.ensures c.run_set_configuration-e.ensures
+    c.configured-self.result c.at_end.result c.record_check.ensures c.in_default.is
+    c.settings.ensures c.endpoint_map_in-c.ensures c.queues_of.ensures c.run_set_configuration-e.ensures
     c.configured-self.ensures c.no_endpoints.ensures (c.at_end.ensures [] (record {
       interfaces =
           refl;
       alternates = refl;
       count = refl;
-      room = omega arith;
     }))
