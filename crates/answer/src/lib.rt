@@ -5,7 +5,7 @@ ghost use Rattle.std.specs.Prelude.{◌≡◌};
 ghost use Rattle.answer.specs.Answer.{number, code_of};
 ghost use Rattle.answer.specs.Answered.{answered_of};
 
-// No Result: 01 numbers the acceptance among the answers, as 0.
+// No Result: 01 numbers the acceptance among the answers, as 0, and its theorems and this repository's speak of it as of one of them.
 #[derive(Clone, Copy, PartialEq, Eq)]
 pub enum Answer {
     Accepted,

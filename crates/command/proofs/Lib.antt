@@ -1,5 +1,6 @@
 pub mod Cuts
 pub mod Done
+pub mod EachEnd
 pub mod Laws
 pub mod Operations
 pub mod Phases

@@ -7,7 +7,8 @@ ghost use Rattle.command.specs.Sweep.{or_code};
 
 use def::Dci;
 
-// How many words the log of a call has at least.
+// How many words the log of a call has at least. Where a course begins a clause says it of the log, and no type does: the caller lends
+// a slice that may be longer, and in a struct it would be no plainer (at `send`).
 pub const LOG_ROOM: usize = 64;
 
 #[derive(Clone, Copy)]
@@ -26,8 +27,8 @@ pub enum Command {
     Disable,
 }
 
-// How a command ended. No Result: the three are of one rank, and a course goes on after a failed command too, so `?` would serve
-// nowhere and each match would be longer.
+// How a command ended. No Result: the three are of one rank, and but for a bring-up's reading each course goes on in its own way
+// after each of them.
 #[derive(Clone, Copy, PartialEq, Eq)]
 pub enum Sent {
     Done,
@@ -43,7 +44,7 @@ pub struct Swept {
     pub active: usize,
 }
 
-// The operation of each command, the highest four bits of its log word.
+// The operation of each command, the highest four bits of its log word: numbers, since the log is what C reads.
 const ADDRESS: u32 = 0x1000_0000;
 
 const EVALUATE: u32 = 0x2000_0000;

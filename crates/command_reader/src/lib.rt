@@ -21,7 +21,8 @@ const NONE: Logged = Logged {
 
 const OPERATIONS: u32 = 12;
 
-// The lowest bit that a word of an operation may have: of its last operand, or of the operation.
+// The lowest bit that a word of an operation may have: of its last operand, or of the operation. Operations are the numbers that C
+// reads; an enum would be made of one and turned back at once.
 #[tactic(auto, unfolding(crate::specs::Read::has_one, crate::specs::Read::has_two, crate::specs::Read::lowest_bit))]
 fn lowest_bit(operation: u32) -> u32
     ensures lowest { result ≡ lowest_bit operation }

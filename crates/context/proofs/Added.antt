@@ -7,7 +7,7 @@ use native.Mathlib.Omega.{arith}
 use borrow.Author.Tests.{eqb-false, eq-eqb, ne_eqb}
 use lib.Dec.{eqb}
 use lib.ListN.{length}
-use Rattle.laws.proofs.Cases.{or_left_false, or_right_false}
+use Rattle.laws.proofs.Cases.{or_right, or_left_false, or_right_false}
 use Rattle.descriptor.specs.Word.{endpoint_descriptor}
 use Rattle.transfer.specs.Routes.{Queue, ring_for}
 use Rattle.context_block.specs.Fields.{DROP-FLAG, ADD-FLAG, INTERFACE-NUMBER, ALTERNATE-SETTING, CONTEXT-ENTRIES, apart_from_all}
@@ -22,10 +22,6 @@ use Rattle.context.proofs.Laws.{of_block_append, of_block_same, of_block_other, 
 use Rattle.context.proofs.Control.{flag, flags, drop_flags_are, end_drop, end_add}
 
 -- An added word is looked for by its Dci.
-
-or_right : (a b : Bool) → b ≡ true → (a || b) ≡ true
-or_right true b p = refl
-or_right false b p = p
 
 some_first : (w : ℕ) (ws : List ℕ) → some_dci (word_dci w) (w ∷ ws) ≡ true
 unfolding some_dci

@@ -9,6 +9,7 @@ use borrow.Author.Tests.{lt-ltb, le-leb, le-ltb, eq-eqb}
 use lib.Dec.{eqb, ltb, lit<}
 use lib.ListN.{length}
 use Rattle.laws.proofs.Tests.{and_left, and_right, and-true}
+use Rattle.laws.proofs.Cases.{cond_or}
 use Rattle.descriptor.specs.Word.{endpoint_descriptor}
 use Rattle.descriptor.proofs.Laws.{dci_small, fields_fit}
 use Rattle.context_field.specs.declared.Field.{Field}
@@ -56,11 +57,6 @@ unfoldable pub flags : ℕ → List ℕ → List FieldWrite
 flags word [] = []
 flags word (w ∷ ws) = (flag word (word_dci w) := 1) ∷ flags word ws
 
-or_cond : (a b : Bool) (old : ℕ) → cond b 1 (cond a 1 old) ≡ cond (a || b) 1 old
-or_cond true true old = refl
-or_cond true false old = refl
-or_cond false b old = refl
-
 module _ (word : ℕ) (low : word < 8) where
   flags_set :
       (ws b : List ℕ) →
@@ -73,7 +69,7 @@ module _ (word : ℕ) (low : word < 8) where
   flags_set (w ∷ ws) b size d h =
       flags_set ws (write_field b (flag word (word_dci w)) 1) (length_write_field b (flag word (word_dci w)) 1 ∙ size) d h
       ∙ rw (flag_set b word (word_dci w) d size low (word_dci_small w) h)
-      (or_cond (eqb (word_dci w) d) (some_dci d ws) (read_field b (flag word d)))
+      (cond_or (eqb (word_dci w) d) (some_dci d ws) 1 (read_field b (flag word d)))
 
   flags_inside : (ws : List ℕ) → all_inside (flags word ws) ≡ true
   unfolding flags flag all_inside inside
@@ -201,7 +197,7 @@ module _ (b : List ℕ) (size : length b ≡ 32) (listed : List FieldWrite) (in-
               (flags_elsewhere 0 (lit< tt) (ADD-FLAG d) (omega arith) dropped),
           start_add d (off d).1 h,
         )
-        (or_cond (eqb d 0) (some_dci d added) 0)
+        (cond_or (eqb d 0) (some_dci d added) 1 0)
 
     -- A field of another doubleword.
     pub end_else : (g : Field) → InBlock g → 2 ≤ g.word → read_field end g ≡ read_field start g

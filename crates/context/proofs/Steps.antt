@@ -15,12 +15,9 @@ use Rattle.transfer.specs.Routes.{Queue, queues, ring_for}
 use Rattle.context.specs.Place.{CONTROL, SLOT, in_block, written}
 use Rattle.context.specs.Steps.{add_writes, add_all, highest_dci, word_dcis, context_entries, configure_writes}
 use Rattle.context.proofs.Laws.{written_append, in_block_append}
+use Rattle.laws.proofs.Stores.{get_d_second}
 
 -- One turn of each loop.
-
-get_d_second : (rs : List ℕ) (i : ℕ) → get_or rs (suc i) 0 ≡ get_or (drop 1 rs) i 0
-get_d_second [] i = refl
-get_d_second (r ∷ rs) i = refl
 
 ring_suc :
     (d : ℕ) (ds rs : List ℕ) (i v : ℕ) →

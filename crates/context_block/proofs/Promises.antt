@@ -12,6 +12,7 @@ use lib.Dec.{eqb, ltb, lit<}
 use lib.ListN.{length}
 use Rattle.laws.proofs.Computed.{all, all_below}
 use Rattle.laws.proofs.Tests.{and_left}
+use Rattle.laws.proofs.Cases.{cond_or}
 use Rattle.def.specs.Speed.{FULL, HIGH, first_packet_size}
 use Rattle.descriptor.specs.declared.EndpointDescriptor.{EndpointDescriptor}
 use Rattle.descriptor.specs.declared.TransferType.{TransferType}
@@ -192,11 +193,6 @@ word_small : (w : ℕ) → word_dci w < 32
 unfolding word_dci
 word_small w = dci_small (endpoint_descriptor w).address (fields_fit w).address
 
-or_cond : (a b : Bool) (old : ℕ) → cond b 1 (cond a 1 old) ≡ cond (a || b) 1 old
-or_cond true true old = refl
-or_cond true false old = refl
-or_cond false b old = refl
-
 flags_set :
     (ws block : List ℕ) →
     length block ≡ 32 →
@@ -207,7 +203,7 @@ unfolding fields_written drop_flags some_dci
 flags_set [] block size d h = refl
 flags_set (w ∷ ws) block size d h =
     flags_set ws (write_field block (DROP-FLAG (word_dci w)) 1) (length_write_field block (DROP-FLAG (word_dci w)) 1 ∙ size) d h
-    ∙ rw (flag_set block 0 (word_dci w) d size (lit< tt) (word_small w) h) (or_cond (eqb (word_dci w) d) (some_dci d ws) (read_field block (DROP-FLAG d)))
+    ∙ rw (flag_set block 0 (word_dci w) d size (lit< tt) (word_small w) h) (cond_or (eqb (word_dci w) d) (some_dci d ws) 1 (read_field block (DROP-FLAG d)))
 
 flags_others :
     (ws block : List ℕ) →

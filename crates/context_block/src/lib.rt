@@ -1,5 +1,5 @@
 // The blocks of an input context, 32 bytes each: what a step makes of their fields (context.rs and device.rs of the original).
-// The code that writes them: control_block, slot_block, endpoint_block.
+// The code that writes them: context_block_writer.
 #![tactic(auto)]
 
 ghost use Rattle.std.specs.Prelude.{◌≡◌, ◌<◌};

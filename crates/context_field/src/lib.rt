@@ -6,6 +6,8 @@ mod named;
 ghost use Rattle.std.specs.Prelude.{◌≡◌, ◌+◌, ◌*◌, ◌<◌, ◌≤◌, ◌^◌, length};
 ghost use Rattle.context_field.specs.Field.{word_at, read_field, write_field, InBlock};
 
+// Any three numbers: `input_field` of crates/context_view takes any field, and answers `NoField` to one that lies in no block, so a type
+// that says `InBlock` would ask more of its callers. What reads or writes a field asks for it.
 #[derive(Clone, Copy)]
 pub struct Field {
     pub word: usize,

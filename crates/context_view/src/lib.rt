@@ -48,83 +48,76 @@ fn is_field(block: usize, f: Field) -> bool
     block < 33 && f.word < 8 && f.low <= 32 && f.width <= 32 - f.low
 }
 
-#[tactic(auto, unfolding(context::specs::Place::read_at, context::specs::Place::block_at))]
-fn field_at(ctx: &[u8], spacing: usize, block: usize, f: Field) -> u64
-    requires { (spacing * block + 32 ≤ length ctx.now) × InBlock f }
-    ensures { result ≡ read_at spacing ctx.now block f }
-{
-    let start = spacing * block;
-    let end = start + 32;
-    context_field::read_field(&ctx[start..end], f)
-}
-
-// A field of a block.
-#[tactic(auto, unfolding(crate::specs::View::field_in))]
-fn field_in(ctx: &[u8], spacing: usize, block: usize, f: Field) -> Result<u64, NoReading>
-    ensures { result ≡ field_in ctx.now spacing block f }
-{
-    if !is_context(ctx.len(), spacing) {
-        return Err(NoReading::NoContext);
-    }
-    if !is_field(block, f) {
-        return Err(NoReading::NoField);
-    }
-    Ok(field_at(ctx, spacing, block, f))
-}
-
-// A field of an endpoint's block. A Dci of 0 names no endpoint.
-#[tactic(auto, unfolding(crate::specs::View::endpoint_field_in))]
-fn endpoint_field(ctx: &[u8], spacing: usize, dci: Dci, f: Field) -> Result<u64, NoReading>
-    ensures { result ≡ endpoint_field_in ctx.now spacing dci.0 f }
-{
-    if dci.0 == 0 {
-        return Err(NoReading::NoField);
-    }
-    field_in(ctx, spacing, dci.0 as usize + 1, f)
-}
-
 impl<'a> InputHandler<'a> {
+    #[tactic(auto, unfolding(context::specs::Place::read_at, context::specs::Place::block_at))]
+    fn field_at(self, block: usize, f: Field) -> u64
+        requires { (self.spacing * block + 32 ≤ length self.ctx.now) × InBlock f }
+        ensures { result ≡ read_at self.entry.spacing self.entry.ctx.now block f }
+    {
+        let start = self.spacing * block;
+        let end = start + 32;
+        context_field::read_field(&self.ctx[start..end], f)
+    }
+
+    // A field of a block: 0 is control, 1 the slot, Dci + 1 an endpoint.
+    #[tactic(auto, unfolding(crate::specs::View::field_in))]
+    pub fn field(self, block: usize, f: Field) -> Result<u64, NoReading>
+        ensures { result ≡ field_in self.entry.ctx.now self.entry.spacing block f }
+    {
+        if !is_context(self.ctx.len(), self.spacing) {
+            return Err(NoReading::NoContext);
+        }
+        if !is_field(block, f) {
+            return Err(NoReading::NoField);
+        }
+        Ok(self.field_at(block, f))
+    }
+
+    // A field of an endpoint's block. A Dci of 0 names no endpoint.
+    #[tactic(auto, unfolding(crate::specs::View::endpoint_field_in))]
+    fn endpoint_field(self, dci: Dci, f: Field) -> Result<u64, NoReading>
+        ensures { result ≡ endpoint_field_in self.entry.ctx.now self.entry.spacing dci.0 f }
+    {
+        if dci.0 == 0 {
+            return Err(NoReading::NoField);
+        }
+        self.field(dci.0 as usize + 1, f)
+    }
+
     pub fn drop_flags(self) -> Result<u64, NoReading>
         ensures { result ≡ field_in self.entry.ctx.now self.entry.spacing CONTROL DROP-FLAGS }
     {
-        field_in(self.ctx, self.spacing, CONTROL, Field::DROP_FLAGS)
+        self.field(CONTROL, Field::DROP_FLAGS)
     }
 
     pub fn add_flags(self) -> Result<u64, NoReading>
         ensures { result ≡ field_in self.entry.ctx.now self.entry.spacing CONTROL ADD-FLAGS }
     {
-        field_in(self.ctx, self.spacing, CONTROL, Field::ADD_FLAGS)
+        self.field(CONTROL, Field::ADD_FLAGS)
     }
 
     pub fn route_string(self) -> Result<u64, NoReading>
         ensures { result ≡ field_in self.entry.ctx.now self.entry.spacing SLOT ROUTE-STRING }
     {
-        field_in(self.ctx, self.spacing, SLOT, Field::ROUTE_STRING)
+        self.field(SLOT, Field::ROUTE_STRING)
     }
 
     pub fn context_entries(self) -> Result<u64, NoReading>
         ensures { result ≡ field_in self.entry.ctx.now self.entry.spacing SLOT CONTEXT-ENTRIES }
     {
-        field_in(self.ctx, self.spacing, SLOT, Field::CONTEXT_ENTRIES)
+        self.field(SLOT, Field::CONTEXT_ENTRIES)
     }
 
     pub fn endpoint_type(self, dci: Dci) -> Result<u64, NoReading>
         ensures { result ≡ endpoint_field_in self.entry.ctx.now self.entry.spacing dci.0 EP-TYPE }
     {
-        endpoint_field(self.ctx, self.spacing, dci, Field::EP_TYPE)
+        self.endpoint_field(dci, Field::EP_TYPE)
     }
 
     pub fn max_packet_size(self, dci: Dci) -> Result<u64, NoReading>
         ensures { result ≡ endpoint_field_in self.entry.ctx.now self.entry.spacing dci.0 MAX-PACKET-SIZE }
     {
-        endpoint_field(self.ctx, self.spacing, dci, Field::MAX_PACKET_SIZE)
-    }
-
-    // A field of a block: 0 is control, 1 the slot, Dci + 1 an endpoint.
-    pub fn field(self, block: usize, f: Field) -> Result<u64, NoReading>
-        ensures { result ≡ field_in self.entry.ctx.now self.entry.spacing block f }
-    {
-        field_in(self.ctx, self.spacing, block, f)
+        self.endpoint_field(dci, Field::MAX_PACKET_SIZE)
     }
 }
 

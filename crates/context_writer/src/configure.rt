@@ -111,7 +111,7 @@ pub fn finish_configure(ctx: &mut [u8], spacing: usize, entries: u8)
 }
 
 // What Configure is given: the dropped words' flags, the added words' flags and blocks, and the entries. A struct of these parameters
-// would be made for this call alone.
+// would be made by `prepare_configure` of crates/course_steps for this call alone, and taken apart here.
 pub fn prepare_configure_context(
     ctx: &mut [u8],
     spacing: usize,

@@ -21,11 +21,11 @@ use Rattle.context.specs.Place.{Spaced}
 use Rattle.record_endpoint.specs.EndpointMap.{queue_dcis}
 use Rattle.transfer.specs.declared.RouteError.{RouteError}
 use Rattle.transfer.specs.Routes.{replaced}
-use Rattle.course_steps.specs.End.{End, settings_kept, answer_of}
+use Rattle.course_steps.specs.End.{published, End, settings_kept, answer_of}
 use Rattle.theorem_controller.specs.Controller.{configured, enabled_after}
 use Rattle.theorem_controller.proofs.Followed.{followed, Follows, follows_result}
 use Rattle.theorem_controller.proofs.Laws.{configured_writes, configured_undone, follows_stop, follows_resume, follows_configure, follows_other, Told, told_accepted, told_failed, told_broken, told_cut}
-use Rattle.course_claim.specs.Claim.{Claim, undo_alternate, claim_context, undo_context, claim_published, claim_publish, claim_switch_back, claim_undone, claim_undo, claim_switch, claim_resume, claim_configure, claim_course}
+use Rattle.course_claim.specs.Claim.{Claim, undo_alternate, claim_context, undo_context, claim_publish, claim_switch_back, claim_undone, claim_undo, claim_switch, claim_resume, claim_configure, claim_course}
 
 module _ (P : Command → Type 0) (a : Claim) where
   -- What holds of every command that it can send.
@@ -120,23 +120,23 @@ module _ (a : Claim) (routes : List ℕ) (d : ℕ) (two : 2 ≤ d) (h : d < 32) 
 
   switch_follows : (ctx : List ℕ) → Spaced a.args.spacing (length ctx) →
       Follows enabled_after Says (configured (claim_context a ctx) enabled) (claim_switch a (claim_context a ctx) routes)
-  unfolding claim_switch claim_publish claim_published claim_undo Follows Says operation
+  unfolding claim_switch claim_publish published claim_undo Follows Says operation
   switch_follows ctx sp =
       let now : ℕ → Bool = configured (claim_context a ctx) enabled in
       let next : List ℕ = claim_context a ctx in
       let back : List ℕ = undo_context a next in
-      follows_other Says now (command.SetInterface a.args.interface a.args.alternate) refl next _ _ _ (published (replaced routes a.args.slot.0 a.old a.pending))
+      follows_other Says now (command.SetInterface a.args.interface a.args.alternate) refl next _ _ _ (moved (replaced routes a.args.slot.0 a.old a.pending))
       (λ code.
       follows_configure Says now back _ _ _ (undone_follows (configured back now) code back (undo_configured ctx sp))
       (λ later. told_broken)
       told_cut)
       told_cut
     where
-      published : (r : Result Unit RouteError) →
-          Told (enabled d) made AsHeld (claim_published r a (claim_context a ctx) routes).answer
+      moved : (r : Result Unit RouteError) →
+          Told (enabled d) made AsHeld (published r answer.InterfaceBroken a.args.slot.0 a.old a.pending (claim_context a ctx) routes).answer
           (configured (claim_context a ctx) enabled d)
-      published (Ok _) = told_accepted (claim_configured ctx sp)
-      published (Err _) = told_broken
+      moved (Ok _) = told_accepted (claim_configured ctx sp)
+      moved (Err _) = told_broken
 
   claim_follows : (ctx : List ℕ) → Spaced a.args.spacing (length ctx) → Follows enabled_after Says enabled (claim_course a ctx routes)
   unfolding claim_course claim_configure claim_resume answer_of or_code Follows Says

@@ -27,7 +27,7 @@ use Rattle.transfer.specs.declared.RouteError.{RouteError}
 use Rattle.transfer.specs.Routes.{replaced, with_replaced}
 use Rattle.course_steps.specs.End.{published, End, settings_kept, settings_moved, answer_of}
 use Rattle.course_steps.proofs.Laws.{length_dcis}
-use Rattle.course_claim.specs.Claim.{Claim, claim_context, undo_context, claim_published, claim_publish, claim_switch_back, claim_undone, claim_undo, claim_switch, claim_resume, claim_configure, claim_course}
+use Rattle.course_claim.specs.Claim.{Claim, claim_context, undo_context, claim_publish, claim_switch_back, claim_undone, claim_undo, claim_switch, claim_resume, claim_configure, claim_course}
 
 -- The answers of a claim that is not accepted.
 abbrev pub Refused : Answer → Type 0
@@ -143,11 +143,11 @@ module _ (a : Claim) (ctx routes o : List ℕ) where
   more p h = record { end = p.end; few = omega (arith, p.few); used = p.used }
 
   publish_phase : (n : ℕ) → Phase a ctx routes o 0 n (claim_publish a (claim_context a ctx) routes)
-  unfolding claim_publish claim_published
+  unfolding claim_publish published
   publish_phase n = go (replaced routes a.args.slot.0 a.old a.pending) refl
     where
       go : (r : Result Unit RouteError) → replaced routes a.args.slot.0 a.old a.pending ≡ r →
-          Phase a ctx routes o 0 n (ends (claim_published r a (claim_context a ctx) routes))
+          Phase a ctx routes o 0 n (ends (published r answer.InterfaceBroken a.args.slot.0 a.old a.pending (claim_context a ctx) routes))
       go (Ok _) e = phase_ends (accepted e) (λ e. absurd cc)
       go (Err _) e = phase_ends (unrouted (λ d. cc)) (λ e. absurd cc)
 
@@ -289,7 +289,7 @@ module _ (a : Claim) (ctx routes o : List ℕ) where
   publish_done : (n : ℕ) (at : List ℕ) → replaced routes a.args.slot.0 a.old a.pending ≡ Ok tt →
       result o n (claim_publish a at routes) ≡
       settings_moved answer.Accepted at (with_replaced routes a.args.slot.0 a.old a.pending)
-  unfolding claim_publish claim_published result
+  unfolding claim_publish published result
   publish_done n at r = rw r
 
   -- with every outcome done and routes that allow it, it is accepted
@@ -379,10 +379,3 @@ module _ (a : Claim) (ctx routes : List ℕ) where
   claim_cut o n =
       cut_last (λ at e. e.answer ≡ answer.Cut) o n (claim_course a ctx routes)
       (claim_cuts_to a routes (λ at e. e.answer ≡ answer.Cut) (λ at active. refl) ctx)
-
--- what a shared step leaves of the routes
-pub published_lem : (a : Claim) (ctx routes : List ℕ) (r : Result Unit RouteError) →
-    published r answer.InterfaceBroken a.args.slot.0 a.old a.pending ctx routes ≡ claim_published r a ctx routes
-unfolding published claim_published
-published_lem a ctx routes (Ok _) = refl
-published_lem a ctx routes (Err _) = refl

@@ -1,5 +1,5 @@
 -- The course of a claim after its checks: `_claim_interface` of the original.
-use Rattle.std.specs.Prelude.{ℕ, cond, List, length, Result, Ok, Err, is_some}
+use Rattle.std.specs.Prelude.{ℕ, cond, List, length, is_some}
 use Rattle.std.specs.Option.{unwrap_or}
 use Rattle.answer.specs.declared.Answer.TheVariants as answer
 use Rattle.command.specs.declared.Command.TheVariants as command
@@ -8,9 +8,8 @@ use Rattle.command.specs.Sweep.{stop_endpoints, resume_stopped_endpoints, or_cod
 use Rattle.context.specs.Place.{written}
 use Rattle.context.specs.Steps.{configure_writes}
 use Rattle.record_endpoint.specs.EndpointMap.{queue_dcis}
-use Rattle.transfer.specs.declared.RouteError.{RouteError}
-use Rattle.transfer.specs.Routes.{Queue, replaced, with_replaced}
-use Rattle.course_steps.specs.End.{End, settings_kept, settings_moved, answer_of}
+use Rattle.transfer.specs.Routes.{Queue}
+use Rattle.course_steps.specs.End.{End, settings_kept, move_routes, answer_of}
 use Rattle.course_steps.specs.Arrays.{dcis_in, queues_in}
 use Rattle.course_claim.specs.declared.ClaimArgs.{ClaimArgs}
 use Rattle.course_claim.specs.declared.ClaimPlan.{ClaimPlan}
@@ -44,12 +43,8 @@ undo_context a ctx =
     ctx
 
 -- Old routes out, new routes in; routes that do not allow it break the interface.
-unfoldable pub claim_published : Result Unit RouteError → Claim → List ℕ → List ℕ → End
-claim_published (Ok _) a ctx routes = settings_moved answer.Accepted ctx (with_replaced routes a.args.slot.0 a.old a.pending)
-claim_published (Err _) a ctx routes = settings_kept answer.InterfaceBroken 0 ctx routes
-
 unfoldable pub claim_publish : Claim → List ℕ → List ℕ → Course End
-claim_publish a ctx routes = ends (claim_published (replaced routes a.args.slot.0 a.old a.pending) a ctx routes)
+claim_publish a ctx routes = ends (move_routes answer.InterfaceBroken a.args.slot.0 a.old a.pending ctx routes)
 
 -- The device back at its old setting, after the controller is.
 unfoldable pub claim_switch_back : Claim → ℕ → List ℕ → List ℕ → Course End

@@ -24,7 +24,8 @@ pub struct ClaimArgs {
     pub held_alternate: Option<u8>,
 }
 
-// The same with the endpoints of the old setting, those of the one to be held, and all of the record.
+// The same with the endpoints of the old setting, those of the one to be held, and all of the record. Copies alone: the words of the
+// two settings are lent beside it, so that no lifetime stands in its type.
 #[derive(Clone, Copy)]
 pub struct ClaimPlan {
     pub args: ClaimArgs,

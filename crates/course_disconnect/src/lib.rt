@@ -15,7 +15,7 @@ use def::{Dci, SlotId};
 use record_endpoint::Queues;
 
 // Stops some endpoints in order, past failures: how many words the log has then, as an error where a Stop was cut.
-// Only a cut ends it, and a failed command ends the loop of course_steps, so the two are no twins.
+// No twin of the loop of course_steps, which a failed command ends too: what each promises of its course is another thing.
 fn stop_each(log: &mut [u32], outcomes: &[u8], n: usize, dcis: &[u8]) -> Result<usize, usize>
     requires { n + length dcis.now ≤ length log.old }
     ensures { (ctx : List ℕ) →
@@ -71,7 +71,7 @@ pub fn disconnect(
 {
     match command::send(log, outcomes, 0, Command::Stop(Dci::CTRL)) {
         Sent::Cut => course_steps::settings_kept(Answer::Cut, 1, 0),
-        _ => match stop_each(log, outcomes, 1, &q.dcis[..q.count]) {
+        _ => match stop_each(log, outcomes, 1, q.dcis()) {
             Ok(n) => disable(routes, log, outcomes, n, slot),
             Err(n) => course_steps::settings_kept(Answer::Cut, n, 0),
         },

@@ -21,11 +21,11 @@ use Rattle.context.specs.Place.{Spaced}
 use Rattle.record_endpoint.specs.EndpointMap.{queue_dcis}
 use Rattle.transfer.specs.declared.RouteError.{RouteError}
 use Rattle.transfer.specs.Routes.{replaced}
-use Rattle.course_steps.specs.End.{End, configure_failed}
+use Rattle.course_steps.specs.End.{published, End, configure_failed}
 use Rattle.theorem_controller.specs.Controller.{configured, enabled_after}
 use Rattle.theorem_controller.proofs.Followed.{followed, Follows, follows_result}
 use Rattle.theorem_controller.proofs.Laws.{configured_writes, drops_only, follows_stop, follows_resume, follows_configure, Told, told_accepted, told_failed, told_cut, told_invalid}
-use Rattle.course_release.specs.Release.{Release, release_context, release_published, release_publish, release_resume, release_configure, release_course}
+use Rattle.course_release.specs.Release.{Release, release_context, release_publish, release_resume, release_configure, release_course}
 
 module _ (P : Command → Type 0) (a : Release) where
   -- What holds of every command that it can send.
@@ -71,7 +71,7 @@ module _ (a : Release) (ctx routes : List ℕ) (sp : Spaced a.spacing (length ct
       configured_writes a.spacing ctx sp d two h _ _ _ _ _ _ _ enabled ∙ drops_only (enabled d) (some_dci d a.words)
 
   release_follows : Follows enabled_after Says enabled (release_course a ctx routes)
-  unfolding release_course release_configure release_publish release_published release_resume configure_failed Follows Says
+  unfolding release_course release_configure release_publish published release_resume configure_failed Follows Says
   release_follows =
       let dcis : List ℕ = queue_dcis a.old in
       let next : List ℕ = release_context a ctx in
@@ -79,17 +79,17 @@ module _ (a : Release) (ctx routes : List ℕ) (sp : Spaced a.spacing (length ct
       (λ r.
       on_sent_lem (Follows enabled_after Says enabled) r.sent _ _ _
       (λ e.
-      follows_configure Says enabled next _ _ _ (published (replaced routes a.slot a.old []))
+      follows_configure Says enabled next _ _ _ (moved (replaced routes a.slot a.old []))
       (λ code. follows_resume Says enabled next dcis _ (λ r. resumed code r.sent))
       told_cut)
       (λ code e. told_failed (λ u. refl))
       (λ e. told_cut))
     where
-      published : (r : Result Unit RouteError) →
-          Told (enabled d) made (Unit {0}) (release_published r a (release_context a ctx) routes).answer
+      moved : (r : Result Unit RouteError) →
+          Told (enabled d) made (Unit {0}) (published r answer.InvalidEndpoint a.slot a.old [] (release_context a ctx) routes).answer
           (configured (release_context a ctx) enabled d)
-      published (Ok _) = told_accepted release_configured
-      published (Err _) = told_invalid
+      moved (Ok _) = told_accepted release_configured
+      moved (Err _) = told_invalid
 
       resumed : (code : ℕ) (s : Sent) → Told (enabled d) made (Unit {0}) (configure_failed code s) (enabled d)
       resumed code sent.Done = told_failed (λ u. refl)

@@ -23,7 +23,7 @@ use Rattle.transfer.specs.declared.RouteError.{RouteError}
 use Rattle.transfer.specs.Routes.{replaced, with_replaced}
 use Rattle.course_steps.specs.End.{published, End, settings_kept, configure_failed}
 use Rattle.course_steps.proofs.Laws.{length_dcis}
-use Rattle.course_release.specs.Release.{Release, release_context, release_published, release_publish, release_resume, release_configure, release_course}
+use Rattle.course_release.specs.Release.{Release, release_context, release_publish, release_resume, release_configure, release_course}
 
 module _ (a : Release) (routes o : List ℕ) where
   resume_words : (ctx : List ℕ) (n code : ℕ) → length (words o n (release_resume a code ctx routes)) ≤ length a.old
@@ -103,8 +103,8 @@ stayed : (a : Release) (x : Answer) (n : ℕ) (ctx routes : List ℕ) → 13 ≤
 stayed a x n ctx routes h = inr (record { refused = h; kept = refl; left = refl })
 
 published_says : (a : Release) (ctx routes : List ℕ) (r : Result Unit RouteError) → replaced routes a.slot a.old [] ≡ r →
-    Says a routes (release_published r a ctx routes)
-unfolding release_published number
+    Says a routes (published r answer.InvalidEndpoint a.slot a.old [] ctx routes)
+unfolding published number
 published_says a ctx routes (Ok _) e = inl (record { accepted = refl; moved = refl; there = e; left = refl })
 published_says a ctx routes (Err _) e = stayed a answer.InvalidEndpoint 0 ctx routes (omega arith)
 
@@ -145,8 +145,8 @@ OneAnswer a routes x =
     ⊎ ((x ≡ answer.InvalidEndpoint) × (replaced routes a.slot a.old [] ≡ Ok tt → ⊥))
 
 published_answers : (a : Release) (ctx routes : List ℕ) (r : Result Unit RouteError) → replaced routes a.slot a.old [] ≡ r →
-    OneAnswer a routes (release_published r a ctx routes).answer
-unfolding release_published
+    OneAnswer a routes (published r answer.InvalidEndpoint a.slot a.old [] ctx routes).answer
+unfolding published
 published_answers a ctx routes (Ok _) e = inl refl
 published_answers a ctx routes (Err _) e =
     inr (inr (inr (refl, λ d. cc)))
@@ -178,10 +178,3 @@ module _ (a : Release) (routes o : List ℕ) where
       (λ e. configure_answers ctx m)
       (λ code e. inr (inl (code, refl)))
       (λ e. inr (inr (inl refl))))
-
--- what a shared step leaves of the routes
-pub published_lem : (a : Release) (ctx routes : List ℕ) (r : Result Unit RouteError) →
-    published r answer.InvalidEndpoint a.slot a.old [] ctx routes ≡ release_published r a ctx routes
-unfolding published release_published
-published_lem a ctx routes (Ok _) = refl
-published_lem a ctx routes (Err _) = refl

@@ -1,5 +1,5 @@
 -- The course of a release after its checks: `_release_interface` of the original.
-use Rattle.std.specs.Prelude.{ℕ, List, [], length, Result, Ok, Err}
+use Rattle.std.specs.Prelude.{ℕ, List, [], length}
 use Rattle.answer.specs.declared.Answer.TheVariants as answer
 use Rattle.command.specs.declared.Command.TheVariants as command
 use Rattle.command.specs.Course.{Course, ends, sends, on_sent, then}
@@ -7,9 +7,8 @@ use Rattle.command.specs.Sweep.{stop_endpoints, resume_stopped_endpoints}
 use Rattle.context.specs.Place.{written}
 use Rattle.context.specs.Steps.{configure_writes}
 use Rattle.record_endpoint.specs.EndpointMap.{queue_dcis}
-use Rattle.transfer.specs.declared.RouteError.{RouteError}
-use Rattle.transfer.specs.Routes.{Queue, replaced, with_replaced}
-use Rattle.course_steps.specs.End.{End, settings_kept, settings_moved, configure_failed}
+use Rattle.transfer.specs.Routes.{Queue}
+use Rattle.course_steps.specs.End.{End, settings_kept, move_routes, configure_failed}
 use Rattle.course_steps.specs.Arrays.{dcis_in, queues_in}
 use Rattle.course_release.specs.declared.ReleaseArgs.{ReleaseArgs}
 
@@ -29,12 +28,9 @@ unfoldable pub release_context : Release → List ℕ → List ℕ
 release_context a ctx =
     written a.spacing (configure_writes a.speed a.interface a.alternate a.words [] [] a.dcis) ctx
 
-unfoldable pub release_published : Result Unit RouteError → Release → List ℕ → List ℕ → End
-release_published (Ok _) a ctx routes = settings_moved answer.Accepted ctx (with_replaced routes a.slot a.old [])
-release_published (Err _) a ctx routes = settings_kept answer.InvalidEndpoint 0 ctx routes
-
+-- Old routes out; routes that do not allow it stay.
 unfoldable pub release_publish : Release → List ℕ → List ℕ → Course End
-release_publish a ctx routes = ends (release_published (replaced routes a.slot a.old []) a ctx routes)
+release_publish a ctx routes = ends (move_routes answer.InvalidEndpoint a.slot a.old [] ctx routes)
 
 unfoldable pub release_resume : Release → ℕ → List ℕ → List ℕ → Course End
 release_resume a code ctx routes =

@@ -13,7 +13,8 @@ use course_steps::CourseEnd;
 use def::SlotId;
 use record_endpoint::Queues;
 
-// The interface's setting (alternate 0 where it holds none), its endpoints, and all endpoints of the record.
+// The interface's setting (alternate 0 where it holds none), its endpoints, and all endpoints of the record. Copies alone: its words
+// are lent beside it, so that no lifetime stands in its type.
 #[derive(Clone, Copy)]
 pub struct ReleaseArgs {
     pub slot: SlotId,
@@ -41,7 +42,6 @@ fn configure(
         ≡ played outcomes.now n (release_configure (release_of a words.now) ctx.old routes.old)
         log.old }
 {
-    let none = course_steps::no_queues();
     course_steps::prepare_configure(
         ctx,
         a.spacing,
@@ -50,7 +50,7 @@ fn configure(
         a.alternate,
         words,
         &[],
-        none,
+        Queues::NONE,
         a.all,
     );
     let next = n + 1;
@@ -59,7 +59,7 @@ fn configure(
             routes,
             a.slot,
             a.old,
-            none,
+            Queues::NONE,
             next,
             Answer::InvalidEndpoint,
         ),

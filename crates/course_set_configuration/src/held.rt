@@ -19,7 +19,7 @@ pub fn prepare_drop(ctx: &mut [u8], a: SettingsArgs, list: &[u32])
         );
         context_writer::drop_endpoints(ctx, words);
     }
-    let entries = context_writer::highest_staying(ctx, &a.old.dcis[..a.old.count]);
+    let entries = context_writer::highest_staying(ctx, a.old.dcis());
     context_writer::finish_configure(ctx, a.spacing, entries);
 }
 
@@ -28,8 +28,8 @@ pub fn prepare_restore(ctx: &mut [u8], a: SettingsArgs, list: &[u32])
     requires { Room a.spacing (length ctx.old) a.old a.old }
     ensures { ctx.new ≡ restore_context (settings_of a list.now) ctx.old }
 {
-    let dcis = &a.old.dcis[..a.old.count];
-    let rings = &a.old.rings[..a.old.count];
+    let dcis = a.old.dcis();
+    let rings = a.old.rings();
     context_writer::begin_configure(ctx, 0, 0);
     let mut entries = context_writer::highest_staying(ctx, dcis);
     for i in 0..a.held.count {

@@ -13,7 +13,8 @@ use def::SlotId;
 use record_endpoint::Queues;
 use record_settings::Settings;
 
-// The value asked for, the held settings, and their endpoints, which are all that the record has.
+// The value asked for, the held settings, and their endpoints, which are all that the record has. Copies alone: the list is lent
+// beside it, so that no lifetime stands in its type.
 #[derive(Clone, Copy)]
 pub struct SettingsArgs {
     pub slot: SlotId,
@@ -156,8 +157,7 @@ fn publish(
         course_leaves result ctx.new routes.new log.new
         ≡ played outcomes.now n (set_publish (settings_of a list) ctx.old routes.old) log.old }
 {
-    let none = course_steps::no_queues();
-    let Ok(()) = course_steps::publish_endpoint_routes(routes, a.slot, a.old, none) else {
+    let Ok(()) = course_steps::publish_endpoint_routes(routes, a.slot, a.old, Queues::NONE) else {
         return course_steps::settings_kept(Answer::InvalidEndpoint, n, 0);
     };
     context_writer::configuration_context(ctx, a.value);

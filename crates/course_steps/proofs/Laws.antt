@@ -141,3 +141,8 @@ pub ended_resumed : {left ctx routes : List ℕ} {back : Swept} {r : CourseEnd} 
     ≡ played o n
     (then (resume_stopped_endpoints ctx (queue_dcis (queues_in q))) (λ s. ends (settings_kept (f s.sent) s.active ctx routes))) log
 ended_resumed q o log n f a e = rw dcis_in_lem (swept_on o log n _ _ a refl (ended o e))
+
+-- queues that count none, as `Queues::NONE`, are none
+pub none_counted : (q : Queues) → q.count ≡ 0 → queues_in q ≡ []
+unfolding queues_in dcis_in queues
+none_counted q e = simp e

@@ -27,7 +27,8 @@ course_leaves r ctx routes log =
     }
 
 -- What every phase asks: a context of this spacing, arrays that are full, and Dcis of endpoints.
--- No field of a type keeps it, since it ties the queues to the context, a slice that the phases are lent.
+-- No field of a type keeps it: the spacing is of the context, a slice that the phases are lent, and queues whose count a phase lowers
+-- would owe the rest anew.
 pub record Room (spacing ctx : ℕ) (old all : Queues) : Type 0 where
   pub spaced : Spaced spacing ctx
   pub full : length (queues_in old) ≡ old.count

@@ -1,7 +1,8 @@
 // What the courses of claim, release and set configuration share: parts of arrays lent on, and how a course ends.
+// Context, routes, log and outcomes stay four parameters of a course, as they are of a call (crates/device/src/lib.rt).
 #![tactic(auto)]
 
-ghost use Rattle.std.specs.Prelude.{◌≡◌, List, [], true, false, ℕ, ◌+◌, ◌*◌, ◌<◌, ◌≤◌, length};
+ghost use Rattle.std.specs.Prelude.{◌≡◌, List, true, false, ℕ, ◌+◌, ◌*◌, ◌<◌, ◌≤◌, length};
 ghost use Rattle.command.specs.Course.{ends, played};
 ghost use Rattle.command.specs.Sweep.{stop_endpoints, resume_stopped_endpoints, SweptAs};
 ghost use Rattle.context.specs.Place.{written, Spaced};
@@ -18,11 +19,11 @@ ghost use Rattle.command.specs.declared.Command.{Command};
 use answer::Answer;
 use command::{Command, Sent, Swept};
 use def::{Dci, SlotId};
-use record_endpoint::{PLACES, Queues};
+use record_endpoint::Queues;
 use transfer::RouteError;
 
-// How a course ended: of the old endpoints, by rising address, how many are active, and whether they are gone. Of endpoints that
-// are gone none is active, so both fields always have their value.
+// How a course ended: of the old endpoints, by rising address, how many are active, and whether they are gone. Two fields, as the
+// definitions and the theorems have them; of endpoints that are gone none is active.
 #[derive(Clone, Copy)]
 pub struct CourseEnd {
     pub answer: Answer,
@@ -71,7 +72,7 @@ pub fn resume_stopped_endpoints(log: &mut [u32], outcomes: &[u8], n: usize, q: Q
     requires { n + q.count ≤ length log.old }
     ensures { (ctx : List ℕ) → SweptAs result log.new (played outcomes.now n (resume_stopped_endpoints ctx (dcis_in q)) log.old) }
 {
-    send_each(log, outcomes, n, &q.dcis[..q.count], Command::Resume)
+    send_each(log, outcomes, n, q.dcis(), Command::Resume)
 }
 
 // Stops the endpoints of some queues in order; where one fails, those already stopped are resumed.
@@ -79,7 +80,7 @@ pub fn stop_endpoints(log: &mut [u32], outcomes: &[u8], n: usize, q: Queues) -> 
     requires { n + 2 * q.count ≤ length log.old }
     ensures { (ctx : List ℕ) → SweptAs result log.new (played outcomes.now n (stop_endpoints ctx (dcis_in q)) log.old) }
 {
-    let stops = send_each(log, outcomes, n, &q.dcis[..q.count], Command::Stop);
+    let stops = send_each(log, outcomes, n, q.dcis(), Command::Stop);
     match stops.sent {
         Sent::Failed(code) => {
             let mut stopped = q;
@@ -108,25 +109,15 @@ pub fn publish_endpoint_routes(
     transfer::replace_queues(
         routes,
         slot,
-        &old.dcis[..old.count],
-        &old.rings[..old.count],
-        &new.dcis[..new.count],
-        &new.rings[..new.count],
+        old.dcis(),
+        old.rings(),
+        new.dcis(),
+        new.rings(),
     )
 }
 
-#[tactic(auto, unfolding(transfer::specs::Routes::queues, crate::specs::Arrays::dcis_in, crate::specs::Arrays::queues_in))]
-pub fn no_queues() -> Queues
-    ensures { (queues_in result ≡ []) × (result.count ≡ 0) }
-{
-    Queues {
-        dcis: [0; PLACES],
-        rings: [0; PLACES],
-        count: 0,
-    }
-}
-
-// The context of a Configure, with the rings of some queues for the added words; `all` are the record's endpoints.
+// The context of a Configure, with the rings of some queues for the added words; `all` are the record's endpoints. The parameters are
+// no struct, as those of `prepare_configure_context` are none.
 #[tactic(auto, unfolding(crate::specs::Arrays::dcis_in, crate::specs::Arrays::rings_in, crate::specs::Arrays::queues_in))]
 pub fn prepare_configure(
     ctx: &mut [u8],
@@ -151,9 +142,9 @@ pub fn prepare_configure(
         alternate,
         dropped,
         added,
-        &q.dcis[..q.count],
-        &q.rings[..q.count],
-        &all.dcis[..all.count],
+        q.dcis(),
+        q.rings(),
+        all.dcis(),
     );
 }
 
@@ -180,7 +171,8 @@ pub fn configure_failed(code: u8, s: Sent) -> Answer
     }
 }
 
-// An end that leaves the routes and the held settings as they were.
+// An end that leaves the routes and the held settings as they were. A course names it in each arm that ends so, since each has sent
+// another number of commands.
 pub fn settings_kept(answer: Answer, count: usize, active: usize) -> CourseEnd
     ensures { result ≡ record { answer = answer; count = count; active = active; moved = false } }
 {

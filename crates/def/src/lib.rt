@@ -65,7 +65,8 @@ pub fn exponent_ok(speed: u8, byte: u8) -> bool
     }
 }
 
-// The control endpoint's packet size from bMaxPacketSize0 of the device descriptor.
+// The control endpoint's packet size from bMaxPacketSize0 of the device descriptor. No Option for the two: the byte is judged where it is
+// read, and the size is written where the context is, and nothing is read there.
 #[tactic(auto, unfolding(crate::specs::Speed::header_packet_size, crate::specs::Speed::exponent_ok, crate::specs::Speed::is_super))]
 pub fn header_packet_size(speed: u8, byte: u8) -> u16
     requires { exponent_ok speed byte ≡ true }

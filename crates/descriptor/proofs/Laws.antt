@@ -84,16 +84,6 @@ endpoint_word_lem w k h =
     let ok : (number && type) ≡ true = and_left (number && type) _ (rw k at h) in
     record { number = nonzero (endpoint_number w) (and_left number type ok); type = nonzero (type_number w) (and_right number type ok) }
 
--- The Dci of an endpoint word in a valid list is not control's.
-pub dci_range :
-    (w : ℕ) →
-    kind w ≡ ENDPOINT →
-    word_ok w ≡ true →
-    (2 ≤ dci_of (endpoint_descriptor w).address) × (dci_of (endpoint_descriptor w).address ≤ 31)
-dci_range w k h =
-    let fit = fields_fit w in
-    rw (dci_word w) (omega (arith, (endpoint_word_lem w k h).number), omega (arith, fit.direction, fit.number))
-
 -- Each Dci from 2 to 31 is that of a word which may stand in a valid list, 31 being that of IN 15.
 bulk_word : ℕ → ℕ
 bulk_word d = 2 ^ 31 + d % 2 * 2 ^ 29 + d / 2 * 2 ^ 25 + 2 ^ 24

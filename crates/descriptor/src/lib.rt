@@ -32,6 +32,7 @@ pub enum WordKind {
     Endpoint,
 }
 
+// Constants beside the enum, since a pattern takes no variant's number.
 pub const CONFIGURATION: u8 = 0;
 
 pub const ALTERNATE: u8 = 1;

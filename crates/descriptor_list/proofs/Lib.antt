@@ -1,3 +1,4 @@
+mod Behind
 mod Chains
 pub mod Examples
 pub mod Laws

@@ -1,7 +1,7 @@
 // The configurations of a device as a list of descriptor words: which lists are valid, and lookup (device.rs of the original).
 #![tactic(auto)]
 
-ghost use Rattle.std.specs.Prelude.{◌≡◌, ◌&&◌, leb, drop};
+ghost use Rattle.std.specs.Prelude.{◌≡◌, ◌+◌, ◌≤◌, ◌&&◌, leb, length, take, drop};
 ghost use Rattle.descriptor_list.specs.Lookup.{endpoint_run, is_alternate, find_endpoints};
 ghost use Rattle.descriptor_list.specs.Valid.{words_ok, runs_fit, configurations, interfaces, valid_list};
 
@@ -15,6 +15,16 @@ pub const LIST_ROOM: usize = 256;
 pub struct EndpointWords {
     pub start: usize,
     pub count: usize,
+}
+
+impl EndpointWords {
+    // The words themselves, of the list in which they stand.
+    pub fn in_list<'a>(self, list: &'a [u32]) -> &'a [u32]
+        requires { self.start + self.count ≤ length list.now }
+        ensures { result.now ≡ take self.count (drop self.start list.now) }
+    {
+        &list[self.start..self.start + self.count]
+    }
 }
 
 // How many endpoint words stand from an index on.
@@ -60,7 +70,8 @@ pub fn count_configurations(list: &[u32]) -> usize
 
 // The rules of the words, in a walk from the end of the list: the endpoint words that follow one are counted in run, and an
 // interface is counted at its last alternate word, where it has no mark yet. By index: with `iter().rev()` it
-// is no plainer, since each rule is about the words that follow an index.
+// is no plainer, since each rule is about the words that follow an index. Marks and count stand here by themselves: with the `Marks` of
+// crates/descriptor_raw, which a call of memset clears, a list takes 12 instructions more.
 fn words_fit(list: &[u32]) -> bool
     ensures { result ≡ (words_ok list.now && (runs_fit list.now && leb (interfaces list.now) 32)) }
 {

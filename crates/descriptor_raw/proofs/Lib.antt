@@ -1,8 +1,8 @@
 mod Back
 mod Examples
 pub mod Made
-pub mod Marks
 mod Promises
+pub mod Unmarked
 pub mod Valid
 mod Written
 mod Yielded

@@ -1,6 +1,7 @@
 pub mod Answer
 pub mod Claims
 pub mod Descriptor
+pub mod Marked
 pub mod Promises
 pub mod Read
 pub mod Words

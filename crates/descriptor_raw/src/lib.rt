@@ -1,11 +1,14 @@
 // Raw configuration descriptors (USB 2.0 section 9.6): what their reader and their writer share.
 #![tactic(auto)]
 
+mod marks;
 pub mod place;
 pub mod size;
 
 ghost use Rattle.std.specs.Prelude.{◌≡◌};
 ghost use Rattle.descriptor_raw.specs.Descriptor.{kind_of};
+
+pub use marks::Marks;
 
 // Types of descriptors.
 pub const CONFIGURATION: u8 = 2;

@@ -1,6 +1,6 @@
 -- What a descriptor of a kind is judged by and yields.
 use Prim.Native.Nat.{ℕ, ◌+◌, ◌≤◌}
-use mathlib.Core.Path.{◌≡◌}
+use mathlib.Core.Path.{◌≡◌, refl, sym}
 use mathlib.Core.Bool.{true, not, ◌&&◌}
 use mathlib.Core.List.{List, [], ◌∷◌}
 use lib.Dec.{eqb}
@@ -11,12 +11,13 @@ use Rattle.descriptor_raw.specs.Descriptor.{TYPE, TOTAL-LENGTH, NUM-INTERFACES, 
 use Rattle.descriptor_raw.specs.Claims.{bytes_after, interfaces_after, endpoints_after}
 use Rattle.descriptor_raw.specs.Words.{configuration_word, alternate_word, endpoint_word}
 use Rattle.descriptor_raw.specs.Read.{cut, descriptors, whole, borne_out, all_borne_out, words_of}
+use Rattle.descriptor_reader.specs.declared.cut.Descriptor.{Descriptor}
 use Rattle.descriptor_reader.specs.Walk.{CutOff}
 use Rattle.descriptor_reader.proofs.Step.{typed, whole_is}
 
 module _ (d : List ℕ) (kind : DescriptorKind) (q : kind ≡ kind_of (byte_at TYPE d)) where
   module _ (k : kind ≡ Configuration) where
-    pub configuration_9 : whole d ≡ true → 9 ≤ length d
+    configuration_9 : whole d ≡ true → 9 ≤ length d
     unfolding size_of
     configuration_9 w =
         let t = typed (byte_at TYPE d) kind q in
@@ -33,7 +34,7 @@ module _ (d : List ℕ) (kind : DescriptorKind) (q : kind ≡ kind_of (byte_at T
     configuration_judged after = let t = typed (byte_at TYPE d) kind q in rw (t.configuration, k)
 
   module _ (k : kind ≡ Interface) where
-    pub interface_9 : whole d ≡ true → 9 ≤ length d
+    interface_9 : whole d ≡ true → 9 ≤ length d
     unfolding size_of
     interface_9 w =
         let t = typed (byte_at TYPE d) kind q in
@@ -48,7 +49,7 @@ module _ (d : List ℕ) (kind : DescriptorKind) (q : kind ≡ kind_of (byte_at T
     interface_judged after = let t = typed (byte_at TYPE d) kind q in rw (t.configuration, t.interface, k)
 
   module _ (k : kind ≡ Endpoint) where
-    pub endpoint_7 : whole d ≡ true → 7 ≤ length d
+    endpoint_7 : whole d ≡ true → 7 ≤ length d
     unfolding size_of
     endpoint_7 w =
         let t = typed (byte_at TYPE d) kind q in
@@ -72,6 +73,16 @@ module _ (d : List ℕ) (kind : DescriptorKind) (q : kind ≡ kind_of (byte_at T
     pub other_judged : (after : List (List ℕ)) → borne_out d after ≡ true
     unfolding borne_out
     other_judged after = let t = typed (byte_at TYPE d) kind q in rw (t.configuration, t.interface, t.endpoint, k)
+
+-- How long a whole descriptor of a kind is at least.
+pub long_configuration : (d : Descriptor) → kind_of (byte_at TYPE d.bytes.now) ≡ Configuration → 9 ≤ length d.bytes.now
+long_configuration d k = configuration_9 _ _ (sym k) refl d.whole
+
+pub long_interface : (d : Descriptor) → kind_of (byte_at TYPE d.bytes.now) ≡ Interface → 9 ≤ length d.bytes.now
+long_interface d k = interface_9 _ _ (sym k) refl d.whole
+
+pub long_endpoint : (d : Descriptor) → kind_of (byte_at TYPE d.bytes.now) ≡ Endpoint → 7 ≤ length d.bytes.now
+long_endpoint d k = endpoint_7 _ _ (sym k) refl d.whole
 
 pub judged_on : (l d after : List ℕ) → CutOff l d after →
     all_borne_out (descriptors l) ≡ (borne_out d (descriptors after) && all_borne_out (descriptors after))

@@ -1,3 +1,4 @@
+mod Chains
 mod Exits
 mod Gather
 mod Judged

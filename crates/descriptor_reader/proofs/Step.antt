@@ -227,6 +227,18 @@ same_configuration Interface = refl
 same_configuration Endpoint = refl
 same_configuration Other = refl
 
+pub same_interface : (kind : DescriptorKind) → sameb the_type kind Interface ≡ is_i kind
+same_interface Configuration = refl
+same_interface Interface = refl
+same_interface Endpoint = refl
+same_interface Other = refl
+
+pub same_endpoint : (kind : DescriptorKind) → sameb the_type kind Endpoint ≡ is_e kind
+same_endpoint Configuration = refl
+same_endpoint Interface = refl
+same_endpoint Endpoint = refl
+same_endpoint Other = refl
+
 pub not_configuration : (kind : DescriptorKind) → kind ≢ Configuration → is_c kind ≡ false
 not_configuration Configuration n = absurd (n refl)
 not_configuration Interface n = refl

@@ -4,67 +4,49 @@ ghost use Rattle.descriptor_raw.specs.Claims.{bytes_after, interfaces_after, end
 ghost use Rattle.descriptor_raw.specs.Read.{descriptors, borne_out, all_borne_out};
 
 use super::cut::{Descriptor, Descriptors};
-use descriptor_raw::{DescriptorKind, place};
+use descriptor_raw::{DescriptorKind, Marks, place};
 
 // How many bytes there are before the next configuration.
 fn count_bytes(after: Descriptors) -> usize
     ensures { (result ≡ bytes_after (descriptors after.entry.bytes.now)) × (result ≤ length after.entry.bytes.now) }
 {
-    let mut count = 0;
-    for d in after {
-        if d.kind() == DescriptorKind::Configuration {
-            return count;
-        }
-        count += d.bytes.len();
-    }
-    count
+    after
+        .take_while(|d| d.kind() != DescriptorKind::Configuration)
+        .map(|d| d.bytes.len())
+        .sum()
 }
 
 // How many distinct interfaces there are before the next configuration.
+#[tactic(auto, using(crate::proofs::Judged::long_interface))]
 fn count_interfaces(after: Descriptors) -> usize
     ensures { result ≡ interfaces_after (descriptors after.entry.bytes.now) }
 {
-    // One mark for each interface number: without a heap there is no set.
-    let mut marks = [false; 256];
-    let mut count = 0;
+    let mut marks = Marks::NONE;
     for d in after {
         match d.kind() {
             DescriptorKind::Configuration => {
-                return count;
+                return marks.count;
             }
-            DescriptorKind::Interface => {
-                let number = d.bytes[place::INTERFACE_NUMBER] as usize;
-                if !marks[number] {
-                    marks[number] = true;
-                    count += 1;
-                }
-            }
+            DescriptorKind::Interface => marks.mark(d.bytes[place::INTERFACE_NUMBER]),
             _ => {}
         }
     }
-    count
+    marks.count
 }
 
 // How many endpoints there are before the next interface or configuration.
 fn count_endpoints(after: Descriptors) -> usize
     ensures { result ≡ endpoints_after (descriptors after.entry.bytes.now) }
 {
-    let mut count = 0;
-    for d in after {
-        match d.kind() {
-            DescriptorKind::Configuration | DescriptorKind::Interface => {
-                return count;
-            }
-            DescriptorKind::Endpoint => {
-                count += 1;
-            }
-            DescriptorKind::Other => {}
-        }
-    }
-    count
+    after
+        .take_while(|d| d.kind() != DescriptorKind::Configuration
+            && d.kind() != DescriptorKind::Interface)
+        .filter(|d| d.kind() == DescriptorKind::Endpoint)
+        .count()
 }
 
 // Whether what a descriptor says of those after it is so.
+#[tactic(auto, using(crate::proofs::Judged::long_configuration, crate::proofs::Judged::long_interface, crate::proofs::Judged::long_endpoint))]
 fn borne_out(d: Descriptor, after: Descriptors) -> bool
     ensures { result ≡ borne_out d.entry.bytes.now (descriptors after.entry.bytes.now) }
 {

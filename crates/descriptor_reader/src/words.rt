@@ -43,6 +43,7 @@ fn endpoint_word(address: u8, attributes: u8, packet: usize, interval: u8) -> u3
 }
 
 // What a descriptor yields.
+#[tactic(auto, using(crate::proofs::Judged::long_configuration, crate::proofs::Judged::long_interface, crate::proofs::Judged::long_endpoint))]
 fn word_of(d: Descriptor) -> Option<u32>
     ensures { made_words result ≡ words_of d.entry.bytes.now }
 {

@@ -1,18 +1,20 @@
 -- One turn of the walk that finds what a configuration says.
 use Prim.Native.Nat.{ℕ, ◌+◌, ◌-◌, ◌*◌, ◌≤◌, ◌<◌}
-use mathlib.Core.Path.{◌≡◌, ◌∙◌}
+use mathlib.Core.Path.{◌≡◌}
 use mathlib.Core.Logic.{◌≢◌}
-use mathlib.Core.Bool.{Bool, true, false}
+use mathlib.Core.Bool.{Bool, true, false, cond}
 use mathlib.Core.List.{List, [], ◌∷◌}
 use native.Mathlib.Nat.{zero-add}
 use native.Mathlib.Omega.{arith}
-use lib.ListN.{length, get_or, drop, set, replicate, length-set, length-replicate, drop_of_length-le}
+use lib.ListN.{length, get_or, drop, replicate, drop_of_length-le}
 use Rattle.descriptor.specs.Word.{CONFIGURATION, ALTERNATE, kind, interface_number}
 use Rattle.descriptor_list.proofs.Next.{drop_next}
+use Rattle.descriptor_raw.specs.declared.marks.Marks.{Marks}
+use Rattle.descriptor_raw.specs.Marked.{has_mark, MarkedWith}
 use Rattle.descriptor_raw.specs.Claims.{up_to, bytes_of, interface_numbers, bytes_after, interfaces_after}
 use Rattle.descriptor_raw.specs.Write.{descriptor_of, all_descriptors}
 use Rattle.descriptor_raw.proofs.Made.{numbers_after, configuration_bytes, configuration_numbers, interface_bytes, interface_numbers_lem, endpoint_bytes_lem, endpoint_numbers}
-use Rattle.descriptor_raw.proofs.Marks.{unmarked, unmarked_all, none_left, met_other, met_again, met_new}
+use Rattle.descriptor_raw.proofs.Unmarked.{unmarked, unmarked_all, none_left, met_other, met}
 use Rattle.descriptor_writer.specs.Written.{ClaimedAs}
 
 -- The descriptors of the words from an index on.
@@ -31,27 +33,33 @@ unfolding all_descriptors
 from_end list i h = rw (drop_of_length-le list h)
 
 -- What is counted before an index, with a mark for each interface met.
-pub record Claiming (list : List ℕ) (marks : List Bool) (bytes interfaces i : ℕ) : Type 0 where
+pub record Claiming (list : List ℕ) (marks : Marks) (bytes i : ℕ) : Type 0 where
   pub few_bytes : bytes + 9 * (length list - i) ≤ 9 * length list
-  pub few_interfaces : interfaces + (length list - i) ≤ length list
-  pub marked : length marks ≡ 256
+  pub few_interfaces : marks.count + (length list - i) ≤ length list
   pub bytes_left : bytes + bytes_after (descriptors_from list i) ≡ bytes_after (all_descriptors list)
-  pub interfaces_left : interfaces + unmarked marks (numbers_after (descriptors_from list i)) ≡ interfaces_after (all_descriptors list)
+  pub interfaces_left : marks.count + unmarked marks (numbers_after (descriptors_from list i)) ≡ interfaces_after (all_descriptors list)
 
-pub claiming_start : (list : List ℕ) → Claiming list (replicate 256 false) 0 0 0
+pub claiming_start : (list : List ℕ) (marks : Marks) → marks.met ≡ replicate 256 false → marks.count ≡ 0 → Claiming list marks 0 0
 unfolding interfaces_after
-claiming_start list =
+claiming_start list marks m c =
     record {
       few_bytes = omega arith;
       few_interfaces = omega arith;
-      marked = length-replicate 256 false;
       bytes_left = zero-add _;
-      interfaces_left = zero-add _ ∙ unmarked_all 256 (numbers_after (all_descriptors list));
+      interfaces_left = omega (arith, unmarked_all marks m (numbers_after (all_descriptors list)));
     }
 
-module _ (list : List ℕ) (marks : List Bool) (bytes interfaces i : ℕ) (g : Claiming list marks bytes interfaces i) where
+-- A number marked is one more at most.
+count_below : (n : ℕ) (old new : Marks) → MarkedWith n old new → new.count ≤ old.count + 1
+count_below n old new m = omega (arith, m.count, go (has_mark old n) old.count)
+  where
+    go : (b : Bool) (k : ℕ) → cond b k (k + 1) ≤ k + 1
+    go true k = omega arith
+    go false k = omega arith
+
+module _ (list : List ℕ) (marks : Marks) (bytes i : ℕ) (g : Claiming list marks bytes i) where
   claimed : bytes_after (descriptors_from list i) ≡ 0 → numbers_after (descriptors_from list i) ≡ [] →
-      ClaimedAs list (record { bytes = bytes; interfaces = interfaces })
+      ClaimedAs list (record { bytes = bytes; interfaces = marks.count })
   claimed b n =
       let u : unmarked marks (numbers_after (descriptors_from list i)) ≡ 0 = none_left marks _ n in
       record {
@@ -61,12 +69,12 @@ module _ (list : List ℕ) (marks : List Bool) (bytes interfaces i : ℕ) (g : C
         few_interfaces = omega (arith, g.few_interfaces);
       }
 
-  pub claimed_end : length list ≤ i → ClaimedAs list (record { bytes = bytes; interfaces = interfaces })
+  pub claimed_end : length list ≤ i → ClaimedAs list (record { bytes = bytes; interfaces = marks.count })
   unfolding bytes_after up_to bytes_of interface_numbers
   claimed_end h = claimed (rw (from_end list i h)) (rw (from_end list i h))
 
   module _ (h : i < length list) where
-    pub claimed_configuration : kind (get_or list i 0) ≡ CONFIGURATION → ClaimedAs list (record { bytes = bytes; interfaces = interfaces })
+    pub claimed_configuration : kind (get_or list i 0) ≡ CONFIGURATION → ClaimedAs list (record { bytes = bytes; interfaces = marks.count })
     claimed_configuration e =
         claimed (rw (from_next list i h) (configuration_bytes _ _ e)) (rw (from_next list i h) (configuration_numbers _ _ e))
 
@@ -77,28 +85,16 @@ module _ (list : List ℕ) (marks : List Bool) (bytes interfaces i : ℕ) (g : C
       numbers_interface : numbers_after (descriptors_from list i) ≡ interface_number (get_or list i 0) ∷ numbers_after (descriptors_from list (i + 1))
       numbers_interface = rw (from_next list i h) (interface_numbers_lem _ _ e)
 
-      pub claiming_met : get_or marks x false ≡ true → Claiming list marks (bytes + 9) interfaces (i + 1)
-      claiming_met m =
+      pub claiming_interface : (next : Marks) → MarkedWith x marks next → Claiming list next (bytes + 9) (i + 1)
+      claiming_interface next m =
           record {
             few_bytes = omega (arith, g.few_bytes);
-            few_interfaces = omega (arith, g.few_interfaces);
-            marked = g.marked;
+            few_interfaces = omega (arith, g.few_interfaces, count_below x marks next m);
             bytes_left = omega (arith, g.bytes_left, bytes_interface);
-            interfaces_left = met_again marks interfaces _ _ _ x g.interfaces_left numbers_interface s m;
+            interfaces_left = met marks _ _ _ g.interfaces_left x next numbers_interface s m;
           }
 
-      pub claiming_new : x < 256 → get_or marks x false ≡ false →
-          Claiming list (set marks x true) (bytes + 9) (interfaces + 1) (i + 1)
-      claiming_new b m =
-          record {
-            few_bytes = omega (arith, g.few_bytes);
-            few_interfaces = omega (arith, g.few_interfaces);
-            marked = simp length-set g.marked;
-            bytes_left = omega (arith, g.bytes_left, bytes_interface);
-            interfaces_left = met_new marks interfaces _ _ _ x g.interfaces_left numbers_interface s b g.marked m;
-          }
-
-    pub claiming_endpoint : kind (get_or list i 0) ≢ CONFIGURATION → kind (get_or list i 0) ≢ ALTERNATE → Claiming list marks (bytes + 7) interfaces (i + 1)
+    pub claiming_endpoint : kind (get_or list i 0) ≢ CONFIGURATION → kind (get_or list i 0) ≢ ALTERNATE → Claiming list marks (bytes + 7) (i + 1)
     claiming_endpoint c a =
         let b : bytes_after (descriptors_from list i) ≡ 7 + bytes_after (descriptors_from list (i + 1)) =
         rw (from_next list i h) (endpoint_bytes_lem _ _ c a) in
@@ -107,7 +103,6 @@ module _ (list : List ℕ) (marks : List Bool) (bytes interfaces i : ℕ) (g : C
         record {
           few_bytes = omega (arith, g.few_bytes);
           few_interfaces = omega (arith, g.few_interfaces);
-          marked = g.marked;
           bytes_left = omega (arith, g.bytes_left);
-          interfaces_left = met_other marks interfaces _ _ _ g.interfaces_left n;
+          interfaces_left = met_other marks _ _ _ g.interfaces_left n;
         }

@@ -3,7 +3,7 @@ ghost use Rattle.std.specs.Prelude.{◌≤◌, length};
 ghost use Rattle.descriptor_writer.specs.Written.{ClaimedAs};
 
 use descriptor::WordKind;
-use descriptor_raw::size;
+use descriptor_raw::{Marks, size};
 
 #[derive(Clone, Copy)]
 pub struct Claims {
@@ -16,25 +16,25 @@ pub fn claims_after(after: &[u32]) -> Claims
     requires { length after.now ≤ 256 }
     ensures { ClaimedAs after.now result }
 {
-    // One mark for each interface number: without a heap there is no set.
-    let mut marks = [false; 256];
+    let mut marks = Marks::NONE;
     let mut bytes = 0;
-    let mut interfaces = 0;
     for w in after {
         let kind = descriptor::word_kind(*w);
         if kind == Some(WordKind::Configuration) {
-            return Claims { bytes, interfaces };
+            return Claims {
+                bytes,
+                interfaces: marks.count,
+            };
         }
         if kind == Some(WordKind::Alternate) {
             bytes += size::INTERFACE;
-            let number = descriptor::interface_number(*w) as usize;
-            if !marks[number] {
-                marks[number] = true;
-                interfaces += 1;
-            }
+            marks.mark(descriptor::interface_number(*w));
         } else {
             bytes += size::ENDPOINT;
         }
     }
-    Claims { bytes, interfaces }
+    Claims {
+        bytes,
+        interfaces: marks.count,
+    }
 }

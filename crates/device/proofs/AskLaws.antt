@@ -3,10 +3,11 @@ use Rattle.std.proofs.Common.{Option, Some, Result, Ok, Err}
 use Prim.Native.Nat.{ℕ, ◌≤◌}
 use mathlib.Core.Path.{◌≡◌, refl, sym, ap, ◌∙◌}
 use mathlib.Core.Bool.{Bool, true, false, cond, ◌&&◌}
-use mathlib.Core.List.{List, []}
+use mathlib.Core.List.{List, [], ◌∷◌}
 use borrow.Author.Tests.{eq-eqb, ne_eqb}
 use Rattle.laws.proofs.Tests.{and-true}
-use lib.Dec.{leb}
+use lib.Dec.{leb, eqb}
+use lib.Pointwise.{pointwise}
 use lib.ListN.{length, take}
 use lib.Seq.{length-take-le}
 use Rattle.answer.specs.declared.Answer.{Answer}
@@ -18,19 +19,18 @@ use Rattle.descriptor_list.specs.Lookup.{find_endpoints}
 use native.Mathlib.Omega.{arith}
 use Rattle.record_ring.specs.Store.{sorted, lowest, free_rings}
 use Rattle.record_ring.proofs.Sorted.{length_sorted}
-use Rattle.record_endpoint.specs.Endpoint.{rings_of, padded}
+use Rattle.record_endpoint.specs.Endpoint.{padded}
 use Rattle.record_settings.specs.Held.{is_held, is_found, alternate_of, setting_words}
 use Rattle.record_settings.specs.Match.{addresses_free}
 use Rattle.record_settings.proofs.Laws.{setting_length}
 use Rattle.record_checks.specs.Draw.{check_of, CheckedAs, same_rings}
 use Rattle.device.specs.declared.record.Device.{Device}
 use Rattle.device.specs.declared.ask.Preview.{Preview}
-use Rattle.device.specs.Device.{list_of, endpoint_map_in, held_of, quarantined_of, given_of, free_of}
+use Rattle.device.specs.Device.{list_of, endpoint_map_in, held_of, given_of, free_of}
 use Rattle.device.specs.Sound.{sound}
 use Rattle.device.specs.Check.{record_check}
 use Rattle.device.specs.Claim.{claim_check, drawn, claim_in}
 use Rattle.device.specs.Ask.{Ask, asking, no_ask, ask_of, ask_check, returned, ask, same_ask, current_check, PreviewAs}
-use Rattle.device.proofs.ClaimLaws.{free_none}
 use Rattle.device.proofs.Facts.{sound_facts}
 use Rattle.device.proofs.Kept.{claim_passed}
 use Rattle.device.proofs.Laws.{Passed, and_then, then_if, check_then, passed}
@@ -78,6 +78,14 @@ module _ (d : Device) (p : Ask) (b : Bool) (e : b ≡ same_ask p (ask_of d p.int
   unfolding current_check
   current h = sym (rw (← e, h))
 
+-- Rings that are the same as the library compares them.
+pub same_pointwise : (rs ss : List ℕ) → pointwise eqb rs ss ≡ same_rings rs ss
+unfolding same_rings
+same_pointwise [] [] = refl
+same_pointwise [] (s ∷ ss) = refl
+same_pointwise (r ∷ rs) [] = refl
+same_pointwise (r ∷ rs) (s ∷ ss) = ap (λ b. eqb r s && b) (same_pointwise rs ss)
+
 -- What the code's comparison says, from what its ask handed back.
 module _ (i a drops adds : ℕ) (rings : List ℕ) (r : Preview) (x : Answer) (q : Ask) (s : PreviewAs r (x, q)) where
   abbrev given : Ask
@@ -116,15 +124,15 @@ module _ (d : Device) (i a : ℕ) (is_sound : sound d ≡ true) (pass : claim_ch
   words_few = setting_length (list_of d) (sound_facts d is_sound).list i a
 
   pub preview_made :
-      (old new front : List ℕ) → quarantined_of d ≡ [] →
+      (old new front live : List ℕ) → free_of d ≡ free_rings (given_of d) live d.control [] →
       old ≡ cond (is_held i (held_of d)) (setting_words (list_of d) i (alternate_of i (held_of d))) [] → new ≡ setting_words (list_of d) i a →
-      front ≡ padded 30 0 (lowest (length new) (free_rings (given_of d) (rings_of (take d.ep_count d.eps)) d.control [])) →
+      front ≡ padded 30 0 (lowest (length new) (free_rings (given_of d) live d.control [])) →
       (drops adds : ℕ) → drops ≡ flags_of old → adds ≡ flags_of new →
       PreviewAs (record { answer = answer.Accepted; interface = i; alternate = a; drops = drops; adds = adds; rings = front; count = length new })
       (answer.Accepted, ask_of d i a)
   unfolding ask_of claim_in drawn
-  preview_made old new front none eo en ef drops adds ed ea =
-      let l : front ≡ padded 30 0 (drawn d i a) = ef ∙ rw (← free_none d none, en) refl in
+  preview_made old new front live free eo en ef drops adds ed ea =
+      let l : front ≡ padded 30 0 (drawn d i a) = ef ∙ rw (← free, en) refl in
       let n : length new ≡ length (drawn d i a) = ap length en ∙ sym drawn_many in
       let t : take (length new) front ≡ drawn d i a = rw (l, n) (take_padded 30 0 (drawn d i a)) in
       record {

@@ -2,25 +2,29 @@
 use lib.Dec.{eqb}
 use Rattle.std.proofs.Common.{Some, None, Result, Err}
 use Rattle.std.specs.Option.{option_map_or, unwrap_or}
-use Prim.Native.Nat.{ℕ, ◌+◌, ◌-◌, ◌≤◌}
+use Prim.Native.Nat.{ℕ, ◌+◌, ◌≤◌}
 use mathlib.Core.Path.{◌≡◌, refl, sym, ◌∙◌}
-use mathlib.Core.Bool.{true, cond, Bool, false}
+use mathlib.Core.Bool.{true, cond, not, Bool, false}
 use mathlib.Core.List.{List, [], ◌∷◌, ◌++◌}
-use native.Mathlib.Nat.{add-sub_cancel_left}
 use native.Mathlib.Omega.{arith}
 use lib.ListN.{length, take, drop}
 use lib.Seq.{length-take-le}
 use Rattle.answer.specs.declared.Answer.{Answer}
 use Rattle.answer.specs.declared.Answer.TheVariants as answer
-use Rattle.answer.specs.Answer.{number}
+use Rattle.answer.specs.Answer.{number, is_broken}
+use Rattle.answer.specs.contracts.Answer.{enum}
+use Rattle.answer.specs.contracts.AnswerPartialEq.TheImpl as answers
 use Rattle.answer.specs.Check.{Check, Pass, Refuse}
 use Rattle.descriptor_list.specs.declared.EndpointWords.{EndpointWords}
 use Rattle.descriptor_list.specs.Lookup.{find_endpoints}
-use Rattle.descriptor_list.proofs.Laws.{found_inside}
 use Rattle.command.specs.Course.{played}
 use Rattle.record_ring.specs.Rings.{entered}
 use Rattle.record_ring.specs.Store.{lowest, free_rings}
 use Rattle.record_endpoint.specs.Endpoint.{rings_of}
+use Rattle.record_ring.proofs.Promises.{given_fits}
+use Rattle.laws.proofs.Tests.{and_left}
+use Rattle.laws.proofs.Variants.{each_value}
+use Rattle.record_checks.proofs.Laws.{free_placed}
 use Rattle.record_checks.proofs.Stored.{SoundStore, free_count, live_count}
 use Rattle.record_endpoint.specs.declared.endpoint_map.EndpointMap.{EndpointMap}
 use Rattle.record_endpoint.specs.declared.endpoint_map.Owner.TheVariants.{Interface}
@@ -43,19 +47,33 @@ use Rattle.device.specs.Left.{leaves, ended}
 use Rattle.device.specs.Check.{record_check}
 use Rattle.device.specs.Claim.{claim_check, drawn, pending_of, args_in, claim_in, quarantines, claim_record, claim_run}
 use Rattle.device.proofs.Ends.{handed, else_quarantined}
-use Rattle.device.proofs.Facts.{SoundFacts, sound_facts, none_quarantined}
+use Rattle.device.proofs.Facts.{sound_facts, none_quarantined}
 use Rattle.device.proofs.Kept.{claim_entered}
 use Rattle.device.proofs.Laws.{refused_first, own_check}
 
--- Rings go in quarantine after 14, and after no other answer.
-module _ (a : Answer) (rings : List ℕ) (d : Device) where
-  pub is_quarantined : a ≡ answer.InterfaceBroken → quarantines a rings d ≡ with_quarantined rings d
-  unfolding quarantines number
-  is_quarantined e = rw e
+same_test : (a b : Bool) → cond a b (not b) ≡ true → a ≡ b
+same_test true b e = sym e
+same_test false true e = e
+same_test false false e = refl
 
-  pub not_quarantined : (a ≡ answer.InterfaceBroken → ⊥) → d ≡ quarantines a rings d
-  unfolding quarantines number
-  not_quarantined n = grind arith
+-- An answer that was compared with InterfaceBroken is 14 or is not.
+broken_test : (a : Answer) → answers.eq-value.it a answer.InterfaceBroken ≡ is_broken a
+unfolding number
+broken_test a =
+    same_test _ _ (each_value enum (λ x. cond (answers.eq-value.it x answer.InterfaceBroken) (is_broken x) (not (is_broken x))) refl (λ v. refl, tt) a)
+
+-- Rings go in quarantine after 14, and after no other answer.
+module _ (a : Answer) (rings : List ℕ) (d : Device) (b : Bool) (e : b ≡ answers.eq-value.it a answer.InterfaceBroken) where
+  broken : b ≡ is_broken a
+  broken = e ∙ broken_test a
+
+  pub is_quarantined : b ≡ true → quarantines a rings d ≡ with_quarantined rings d
+  unfolding quarantines
+  is_quarantined t = rw (← broken, t)
+
+  pub not_quarantined : b ≡ false → d ≡ quarantines a rings d
+  unfolding quarantines
+  not_quarantined f = sym (rw (← broken, f))
 
 -- The alternate setting to which a claim is undone is the held one.
 pub undone_to : (i : ℕ) (hs : List Held) → unwrap_or (held_alternate i hs) 0 ≡ alternate_of i hs
@@ -80,10 +98,10 @@ module _ (d : Device) (i alt : ℕ) where
   old_words a e words w = w ∙ rw (e, held_alternate_is i (held_of d)) (if_held (setting_words (list_of d) i) (is_held i (held_of d)) (alternate_of i (held_of d)))
 
   -- and of the new one
-  pub new_words : (f : EndpointWords) → find_endpoints (list_of d) i alt ≡ Some f →
-      take (f.start + f.count - f.start) (drop f.start (list_of d)) ≡ setting_words (list_of d) i alt
+  pub new_words : (f : EndpointWords) → find_endpoints (list_of d) i alt ≡ Some f → (words : List ℕ) →
+      words ≡ take f.count (drop f.start (list_of d)) → words ≡ setting_words (list_of d) i alt
   unfolding setting_words found_words
-  new_words f e = rw (e, add-sub_cancel_left)
+  new_words f e words w = w ∙ rw e
 
 module _ (d : Device) (i alt : ℕ) where
   -- the code's pending rings enter quarantine as they are
@@ -120,28 +138,28 @@ pub free_none : (d : Device) → quarantined_of d ≡ [] → free_of d ≡ free_
 unfolding free_of
 free_none d e = rw e
 
+-- and by place
+pub free_placed_in :
+    (d : Device) (c : EndpointMap) → d.usable ≡ true → sound d ≡ true → c ≡ endpoint_map_in d →
+    free_of d ≡ free_rings (given_of d) c.rings d.control []
+unfolding endpoint_map_in live_rings
+free_placed_in d c u s e =
+    let f = sound_facts d s in
+    rw e
+    (free_none d (none_quarantined d u s)
+    ∙ sym (free_placed d.ep_count d.eps d.ep_interfaces d.control f.rings.live_ok f.addresses_fit_lem (given_of d) (and_left _ _ (given_fits (given_of d) f.store.fit))))
+
 -- the rings that the code draws for the setting's words
 pub drawn_enough :
-    (d : Device) (i alt : ℕ) (words : List ℕ) → quarantined_of d ≡ [] → words ≡ setting_words (list_of d) i alt →
-    length (setting_words (list_of d) i alt) ≤ length (free_of d) →
-    length words ≤ length (free_rings (given_of d) (rings_of (take d.ep_count d.eps)) d.control [])
-drawn_enough d i alt words n e h = rw (e, ← free_none d n) h
+    (d : Device) (i alt : ℕ) (words live : List ℕ) → free_of d ≡ free_rings (given_of d) live d.control [] → words ≡ setting_words (list_of d) i alt →
+    length (setting_words (list_of d) i alt) ≤ length (free_of d) → length words ≤ length (free_rings (given_of d) live d.control [])
+drawn_enough d i alt words live n e h = rw (e, ← n) h
 
 pub pending_drawn :
-    (d : Device) (i alt : ℕ) (words by : List ℕ) → quarantined_of d ≡ [] → words ≡ setting_words (list_of d) i alt →
-    by ≡ pending_rings words (lowest (length words) (free_rings (given_of d) (rings_of (take d.ep_count d.eps)) d.control [])) →
-    by ≡ pending_of d i alt (drawn d i alt)
+    (d : Device) (i alt : ℕ) (words live by : List ℕ) → free_of d ≡ free_rings (given_of d) live d.control [] → words ≡ setting_words (list_of d) i alt →
+    by ≡ pending_rings words (lowest (length words) (free_rings (given_of d) live d.control [])) → by ≡ pending_of d i alt (drawn d i alt)
 unfolding pending_of drawn
-pending_drawn d i alt words by n e p = p ∙ rw (e, ← free_none d n)
-
--- the list of a record whose counts fit, and a setting found in it
-pub list_length : (d : Device) → SoundFacts d → length d.list ≡ 256 → length (list_of d) ≡ d.list_len
-unfolding list_of
-list_length d f room = length-take-le d.list_len d.list (omega (arith, room, f.counts.list))
-
-pub setting_inside : (d : Device) → SoundFacts d → length d.list ≡ 256 → (i alt : ℕ) (found : EndpointWords) →
-    find_endpoints (list_of d) i alt ≡ Some found → found.start + found.count ≤ d.list_len
-setting_inside d f room i alt found e = rw (list_length d f room) at (found_inside (list_of d) i alt found e)
+pending_drawn d i alt words live by n e p = p ∙ rw (e, ← n)
 
 -- The free rings of a usable record are as many as were given less its endpoints' and control's.
 pub free_many :

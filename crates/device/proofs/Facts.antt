@@ -1,6 +1,7 @@
 -- What a sound record gives.
+use Rattle.std.proofs.lemmas.Bool.{and_parts}
 use Prim.Native.Nat.{ℕ, ◌≤◌}
-use mathlib.Core.Path.{◌≡◌, refl}
+use mathlib.Core.Path.{◌≡◌, refl, sym, ◌∙◌}
 use mathlib.Core.Logic.{◌⊎◌, inl, inr, ⊎_elim}
 use mathlib.Core.Bool.{Bool, true, false, ◌&&◌, ◌||◌}
 use mathlib.Core.List.{List, [], ◌∷◌}
@@ -8,17 +9,19 @@ use native.Mathlib.Omega.{arith}
 use borrow.Author.Tests.{eqb-true, leb-true}
 use lib.Dec.{eqb, leb}
 use lib.ListN.{length, take}
-use Rattle.laws.proofs.Tests.{and_left, and_right}
 use Rattle.laws.proofs.Cases.{or_cases}
 use Rattle.def.specs.Speed.{speed_known}
 use Rattle.descriptor_list.specs.Valid.{valid_list}
 use Rattle.record_endpoint.specs.Endpoint.{addresses, addresses_fit}
-use Rattle.record_settings.specs.Held.{settings_sound}
+use Rattle.record_endpoint.specs.EndpointMap.{endpoint_map_of}
+use Rattle.record_endpoint.proofs.Clean.{front_of}
+use Rattle.record_settings.specs.Held.{Held, settings_sound}
+use Rattle.record_checks.specs.Sound.{sound_lists}
 use Rattle.record_settings.specs.Match.{endpoints_match}
 use Rattle.record_checks.proofs.Together.{SoundRings, rings_told}
 use Rattle.record_checks.proofs.Stored.{SoundStore, store_told}
 use Rattle.device.specs.declared.record.Device.{Device}
-use Rattle.device.specs.Device.{list_of, endpoint_map_in, held_of, quarantined_of, given_of, unusable}
+use Rattle.device.specs.Device.{list_of, endpoint_map_in, held_of, quarantined_of, given_of}
 use Rattle.device.specs.Sound.{slot_sound, counts_fit, lists_sound, live_rings, rings_sound, store_sound, sound}
 
 pub record PlaceFacts (d : Device) : Type 0 where
@@ -47,10 +50,6 @@ pub record SoundFacts (d : Device) : Type 0 where
   pub rings : SoundRings d.usable (live_rings d) (quarantined_of d)
   pub store : SoundStore (given_of d) (live_rings d) (quarantined_of d)
 
--- both sides of a conjunction
-both : (a b : Bool) → (a && b) ≡ true → (a ≡ true) × (b ≡ true)
-both a b e = (and_left a b e, and_right a b e)
-
 -- one of two spacings
 spaced : (s : ℕ) → (s ≡ 32) ⊎ (s ≡ 64) → (32 ≤ s) × (s ≤ 64)
 spaced s (inl e) = omega arith
@@ -62,10 +61,10 @@ unfolding slot_sound
 place_facts d e =
     let s = d.slot.0 in
     let w = d.spacing in
-    let e1 = both (leb 1 s && (leb s d.max_slots && leb d.max_slots 255)) ((eqb w 32 || eqb w 64) && speed_known d.port_speed) e in
-    let e2 = both (leb 1 s) (leb s d.max_slots && leb d.max_slots 255) e1.0 in
-    let e4 = both (leb s d.max_slots) (leb d.max_slots 255) e2.1 in
-    let e3 = both (eqb w 32 || eqb w 64) (speed_known d.port_speed) e1.1 in
+    let e1 = and_parts (leb 1 s && (leb s d.max_slots && leb d.max_slots 255)) ((eqb w 32 || eqb w 64) && speed_known d.port_speed) e in
+    let e2 = and_parts (leb 1 s) (leb s d.max_slots && leb d.max_slots 255) e1.0 in
+    let e4 = and_parts (leb s d.max_slots) (leb d.max_slots 255) e2.1 in
+    let e3 = and_parts (eqb w 32 || eqb w 64) (speed_known d.port_speed) e1.1 in
     let one : (w ≡ 32) ⊎ (w ≡ 64) =
     ⊎_elim (λ p. inl (eqb-true w 32 p)) (λ p. inr (eqb-true w 64 p)) (or_cases (eqb w 32) (eqb w 64) e3.0) in
     record {
@@ -87,10 +86,10 @@ count_facts d e =
     let h = d.held_count in
     let q = d.quarantined_count in
     let g = d.given_count in
-    let e1 = both (leb l 256) (leb n 30 && (leb h 32 && (leb q 61 && leb g 64))) e in
-    let e2 = both (leb n 30) (leb h 32 && (leb q 61 && leb g 64)) e1.1 in
-    let e3 = both (leb h 32) (leb q 61 && leb g 64) e2.1 in
-    let e4 = both (leb q 61) (leb g 64) e3.1 in
+    let e1 = and_parts (leb l 256) (leb n 30 && (leb h 32 && (leb q 61 && leb g 64))) e in
+    let e2 = and_parts (leb n 30) (leb h 32 && (leb q 61 && leb g 64)) e1.1 in
+    let e3 = and_parts (leb h 32) (leb q 61 && leb g 64) e2.1 in
+    let e4 = and_parts (leb q 61) (leb g 64) e3.1 in
     record {
       list = leb-true l 256 e1.0;
       endpoints = leb-true n 30 e2.0;
@@ -118,13 +117,13 @@ sound_facts d e =
     let fit = addresses_fit (addresses (take d.ep_count d.eps)) in
     let match = endpoints_match (list_of d) (held_of d) (endpoint_map_in d) in
     let rings = rings_sound d in
-    let e1 = both (slot_sound d) (counts_fit d && (lists_sound d && (rings && store_sound d))) e in
-    let e2 = both (counts_fit d) (lists_sound d && (rings && store_sound d)) e1.1 in
-    let e3 = both (lists_sound d) (rings && store_sound d) e2.1 in
-    let e7 = both rings (store_sound d) e3.1 in
-    let e4 = both list (settings && (fit && match)) e3.0 in
-    let e5 = both settings (fit && match) e4.1 in
-    let e6 = both fit match e5.1 in
+    let e1 = and_parts (slot_sound d) (counts_fit d && (lists_sound d && (rings && store_sound d))) e in
+    let e2 = and_parts (counts_fit d) (lists_sound d && (rings && store_sound d)) e1.1 in
+    let e3 = and_parts (lists_sound d) (rings && store_sound d) e2.1 in
+    let e7 = and_parts rings (store_sound d) e3.1 in
+    let e4 = and_parts list (settings && (fit && match)) e3.0 in
+    let e5 = and_parts settings (fit && match) e4.1 in
+    let e6 = and_parts fit match e5.1 in
     record {
       place = place_facts d e1.0;
       counts = count_facts d e2.0;
@@ -136,10 +135,23 @@ sound_facts d e =
       store = store_facts d e7.1;
     }
 
--- a record marked unusable is not usable
-pub unusable_not : (d : Device) → (unusable d).usable ≡ false
-unfolding unusable
-unusable_not d = refl
+-- The code's test of the lists, on the endpoints in use alone, says whether the record is sound where its place and counts are.
+module _ (d : Device) (room : length d.eps ≡ 30) (slot : slot_sound d ≡ true) (counts : counts_fit d ≡ true)
+    (hs : List Held) (held : hs ≡ held_of d) (lists : Bool)
+    (tested : lists ≡ sound_lists (list_of d) hs (addresses (take d.ep_count d.eps))
+    (endpoint_map_of (length (take d.ep_count d.eps)) (take d.ep_count d.eps) (take d.ep_count d.ep_interfaces))) where
+  lists_as : lists ≡ lists_sound d
+  unfolding lists_sound endpoint_map_in
+  lists_as =
+      tested ∙ rw (held, front_of d.ep_count d.eps d.ep_interfaces (omega (arith, room, (count_facts d counts).endpoints)))
+
+  pub sound_by_rings : lists ≡ true → (rings : Bool) → rings ≡ (rings_sound d && store_sound d) → rings ≡ sound d
+  unfolding sound
+  sound_by_rings e rings r = r ∙ sym (rw (slot, counts, ← lists_as, e))
+
+  pub unsound_lists : lists ≡ false → lists ≡ sound d
+  unfolding sound
+  unsound_lists e = e ∙ sym (rw (slot, counts, ← lists_as, e))
 
 -- a usable sound record has no quarantined ring
 pub none_quarantined : (d : Device) → d.usable ≡ true → sound d ≡ true → quarantined_of d ≡ []

@@ -1,7 +1,6 @@
 -- What claim, release, set configuration and hub update make of a record.
 use Prim.Native.Nat.{ℕ, ◌≤◌, ◌<◌}
-use mathlib.Core.Path.{◌≡◌, refl, sym, ap, ◌∙◌}
-use mathlib.Core.Logic.{◌⊎◌, inl, inr, ⊎_elim}
+use mathlib.Core.Path.{◌≡◌, refl, sym, ◌∙◌}
 use mathlib.Core.Bool.{Bool, true, false, cond}
 use mathlib.Core.List.{List, []}
 use native.Mathlib.Omega.{arith}
@@ -9,27 +8,23 @@ use borrow.Author.Tests.{leb-true}
 use lib.Dec.{leb}
 use lib.ListN.{length, get_or, take, replicate, get_or-replicate}
 use Rattle.laws.specs.Distinct.{elem}
-use Rattle.laws.proofs.Cases.{decided, false_if}
+use Rattle.laws.proofs.Cases.{false_if}
 use Rattle.laws.proofs.Tests.{not_both}
 use Rattle.laws.proofs.Distinct.{elem_place}
 use Rattle.answer.specs.declared.Answer.{Answer}
 use Rattle.answer.specs.declared.Answer.TheVariants as answer
-use Rattle.answer.specs.Check.{Check, Pass}
+use Rattle.answer.specs.Check.{Pass}
 use Rattle.answer.specs.Answer.{number, is_accepted, is_broken, is_lost}
-use Rattle.command.specs.Course.{Played}
 use Rattle.descriptor_list.specs.Lookup.{find_endpoints}
 use Rattle.record_ring.specs.Rings.{rings_ok, disjoint, entered}
 use Rattle.record_ring.specs.Store.{given_ok, lowest, free_rings}
 use Rattle.record_ring.proofs.Promises.{drawn_promise, drawn_given}
 use Rattle.record_ring.proofs.Laws.{ring_at, ring_nonzero, disjoint_elem, disjoint_from, Offered, offered}
-use Rattle.record_endpoint.specs.declared.endpoint_map.EndpointMap.{EndpointMap}
-use Rattle.record_endpoint.specs.declared.endpoint_map.Owner.{Owner}
 use Rattle.record_endpoint.specs.declared.endpoint_map.Owner.TheVariants.{Any, Interface}
 use Rattle.record_endpoint.specs.Endpoint.{rings_of}
 use Rattle.record_endpoint.specs.EndpointMap.{no_endpoints, queues_of, queue_rings, pending_rings, claimed_endpoints, with_active}
-use Rattle.record_endpoint.proofs.Laws.{active_rings, active_owners}
 use Rattle.record_endpoint.proofs.Clean.{clean_none, clean_claimed}
-use Rattle.record_settings.specs.Held.{Held, with_setting, without_setting, setting_words, is_found}
+use Rattle.record_settings.specs.Held.{with_setting, without_setting, setting_words, is_found}
 use Rattle.record_settings.specs.Match.{addresses_free}
 use Rattle.record_settings.proofs.Laws.{sound_with, sound_without, sound_none, pending_place, match_claimed, match_released, match_none}
 use Rattle.course_steps.specs.End.{End}
@@ -38,17 +33,15 @@ use Rattle.record_checks.proofs.Laws.{ring_live, apart_none, apart_offered, apar
 use Rattle.device.specs.declared.record.Device.{Device}
 use Rattle.device.specs.Device.{list_of, endpoint_map_in, held_of, quarantined_of, given_of, free_of, with_endpoints, with_held, with_configuration, unusable}
 use Rattle.device.specs.Sound.{live_rings, sound}
-use Rattle.device.specs.Left.{refused, marked, ended}
-use Rattle.device.specs.Check.{record_check, hub_check}
-use Rattle.device.specs.Calls.{on_check, hub_left, hub_update}
-use Rattle.device.specs.Claim.{claim_check, drawn, pending_of, quarantines, claim_record, claim}
-use Rattle.device.specs.Release.{release_check, release_record, release}
-use Rattle.device.specs.SetConfiguration.{bare, set_record, set_configuration}
+use Rattle.device.specs.Left.{marked}
+use Rattle.device.specs.Check.{record_check}
+use Rattle.device.specs.Claim.{claim_check, drawn, pending_of, quarantines, claim_record}
+use Rattle.device.specs.Release.{release_check, release_record}
+use Rattle.device.specs.SetConfiguration.{bare, set_record}
 use Rattle.device.proofs.Facts.{SoundFacts, sound_facts}
 use Rattle.device.proofs.Laws.{passed, pass_if}
-use Rattle.device.proofs.Marks.{on_pass}
 use Rattle.device.proofs.Updates.{with_quarantined_quarantined}
-use Rattle.device.proofs.Made.{Made, sound_clean, sound_apart, marked_made, held_made, configured_made, pending_entered, active_made, quarantined_made}
+use Rattle.device.proofs.Made.{Made, sound_clean, sound_apart, held_made, configured_made, pending_entered, active_made, quarantined_made}
 
 -- What a passed check of a claim says.
 pub record ClaimPassed (d : Device) (i a : ℕ) : Type 0 where
@@ -195,15 +188,6 @@ set_stays d ctx routes log value k e m =
     let t = passed d ctx routes log Pass k in
     rw m (active_made d t.0.usable t.0.is_sound Any e.active e.answer)
 
--- A call that does not move settings keeps rings and owners.
-pub stays_rings :
-    {d e : Device} {hs : List Held} {lost : Bool} (who : Owner) (n : ℕ) → Made d e hs (with_active who n (endpoint_map_in d)) lost →
-    ((endpoint_map_in e).rings ≡ (endpoint_map_in d).rings) × ((endpoint_map_in e).owners ≡ (endpoint_map_in d).owners)
-stays_rings {d} who n m = (
-  ap (λ (c : EndpointMap). c.rings) m.endpoints ∙ active_rings who (endpoint_map_in d) n,
-  ap (λ (c : EndpointMap). c.owners) m.endpoints ∙ active_owners who (endpoint_map_in d) n,
-)
-
 -- The pending rings of a claim all enter quarantine, in their order: none is there, and none is twice among them.
 pub claim_entered :
     (d : Device) (ctx routes log i a : ℕ) → record_check d ctx routes log (claim_check d i a Pass) ≡ Pass →
@@ -235,64 +219,3 @@ pub set_value :
     ((set_record d value e).configured ≡ true) × ((set_record d value e).current_config_value ≡ value)
 unfolding set_record marked with_configuration number
 set_value d value e m a = rw (m, a) (refl, refl)
-
--- What a call returns: the record as it came, or a sound one.
-abbrev pub Returned : Device → Device → Type 0
-Returned d r = (r ≡ d) ⊎ (sound r ≡ true)
-
-ended_device : (made : End → Device) (p : Played End) → (ended made p).device ≡ made p.end
-unfolding ended
-ended_device made p = refl
-
--- what a call returns whose record is made in either of two ways
-returned :
-    (d : Device) (k : Check) (made : End → Device) (p : Played End) (ctx routes log : List ℕ) →
-    (k ≡ Pass → (e : End) → e.moved ≡ true → Returned d (made e)) →
-    (k ≡ Pass → (e : End) → e.moved ≡ false → Returned d (made e)) →
-    Returned d (on_check k (ended made p) (λ a. refused d a ctx routes log)).device
-unfolding refused
-returned d k made p ctx routes log f g =
-    on_pass (λ l. Returned d l.device) k (ended made p) (λ a. refused d a ctx routes log)
-    (λ q. rw (ended_device made p) (⊎_elim (λ m. f q p.end m) (λ m. g q p.end m) (decided p.end.moved)))
-    (λ a. inl refl)
-
--- A claim returns the record as it came, or a sound one.
-pub claim_sound :
-    (d : Device) (ctx routes log outcomes : List ℕ) (i a : ℕ) → Returned d (claim d ctx routes log outcomes i a).device
-unfolding claim
-claim_sound d ctx routes log outcomes i a =
-    returned d (record_check d (length ctx) (length routes) (length log) (claim_check d i a Pass)) (claim_record d i a (drawn d i a)) _ ctx routes log
-    (λ k e m. inr (claim_moves d _ _ _ i a k e m).is_sound)
-    (λ k e m. inr (claim_stays d _ _ _ i a k e m).is_sound)
-
--- A release does.
-pub release_sound :
-    (d : Device) (ctx routes log outcomes : List ℕ) (i : ℕ) → Returned d (release d ctx routes log outcomes i).device
-unfolding release
-release_sound d ctx routes log outcomes i =
-    returned d (record_check d (length ctx) (length routes) (length log) (release_check d i)) (release_record d i) _ ctx routes log
-    (λ k e m. inr (release_moves d _ _ _ i k e m).is_sound)
-    (λ k e m. inr (release_stays d _ _ _ i k e m).is_sound)
-
--- A set configuration does.
-pub set_configuration_sound :
-    (d : Device) (ctx routes log outcomes : List ℕ) (value : ℕ) →
-    Returned d (set_configuration d ctx routes log outcomes value).device
-unfolding set_configuration
-set_configuration_sound d ctx routes log outcomes value =
-    returned d (record_check d (length ctx) (length routes) (length log) Pass) (set_record d value) _ ctx routes log
-    (λ k e m. inr (set_moves d _ _ _ value k e m).is_sound)
-    (λ k e m. inr (set_stays d _ _ _ value k e m).is_sound)
-
--- A hub update does.
-pub hub_update_returned :
-    (d : Device) (ctx routes log outcomes : List ℕ) (ports : ℕ) (multi : Bool) (ns : ℕ) →
-    Returned d (hub_update d ctx routes log outcomes ports multi ns).device
-unfolding hub_update hub_left refused
-hub_update_returned d ctx routes log outcomes ports multi ns =
-    let check = record_check d (length ctx) (length routes) (length log) (hub_check d ns) in
-    on_pass (λ l. Returned d l.device) check _ (λ a. refused d a ctx routes log)
-    (λ k.
-    let t = passed d (length ctx) (length routes) (length log) (hub_check d ns) k in
-    inr (marked_made d t.0.usable t.0.is_sound _).is_sound)
-    (λ a. inl refl)

@@ -50,9 +50,6 @@ pub record Made (d e : Device) (hs : List Held) (c : EndpointMap) (lost : Bool) 
 pub made_usable : {d e : Device} {hs : List Held} {c : EndpointMap} {lost : Bool} → Made d e hs c lost → lost ≡ false → e.usable ≡ true
 made_usable m l = m.usable ∙ rw l
 
-pub made_lost : {d e : Device} {hs : List Held} {c : EndpointMap} {lost : Bool} → Made d e hs c lost → lost ≡ true → e.usable ≡ false
-made_lost m l = m.usable ∙ rw l
-
 -- What makes a record sound.
 
 pub sound_if :

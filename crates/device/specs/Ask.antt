@@ -7,6 +7,7 @@ use Rattle.context_block.specs.Flags.{flags_of}
 use Rattle.record_endpoint.specs.Order.{PLACES}
 use Rattle.record_checks.specs.Draw.{same_rings}
 use Rattle.device.specs.declared.record.Device.{Device}
+use Rattle.device.specs.declared.ask.Asked.{Asked}
 use Rattle.device.specs.declared.ask.Preview.{Preview}
 use Rattle.device.specs.Left.{Left, refused}
 use Rattle.device.specs.Check.{record_check}
@@ -25,6 +26,10 @@ pub record Ask : Type 0 where
 abbrev pub asking : ℕ → ℕ → ℕ → ℕ → List ℕ → Ask
 asking interface alternate drops adds rings =
     record { interface = interface; alternate = alternate; drops = drops; adds = adds; rings = rings }
+
+-- What a commit is given in the code's words.
+abbrev pub ask_in : Asked → Ask
+ask_in a = asking a.interface a.alternate a.drops a.adds a.rings.now
 
 -- What a refused ask returns.
 unfoldable pub no_ask : Ask

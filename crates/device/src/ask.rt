@@ -8,17 +8,19 @@ ghost use Rattle.device.specs.Sound.{sound};
 ghost use Rattle.device.specs.Left.{leaves};
 ghost use Rattle.device.specs.Claim.{claim_check};
 ghost use Rattle.record_checks.specs.Draw.{CheckedAs};
-ghost use Rattle.device.specs.Ask.{asking, no_ask, ask_of, ask_check, ask, same_ask, current_check, commit, PreviewAs};
+ghost use Rattle.device.specs.Ask.{ask_in, no_ask, ask_of, ask_check, ask, same_ask, current_check, commit, PreviewAs};
 
-use super::claim;
 use super::record::{Called, Device};
+use super::{claim, endpoint_map};
 use answer::Answer;
 use descriptor_list::EndpointWords;
+use record_checks::Lengths;
 use record_endpoint::PLACES;
+use record_ring::GivenRings;
 
 // What an ask hands back: its answer and, of an accepted one, the flags of the endpoints that a claim would drop and add, and the rings
-// that it would draw, the first `count` of an array. Of a refused one all else is 0: the exported ask writes these words for C at
-// every answer.
+// that it would draw, the first `count` of an array. Of a refused one all else is 0. No Result: the exported ask, the one caller, gives
+// C each of these at every answer, and would have to make the zeros of an error again.
 #[derive(Clone, Copy)]
 pub struct Preview {
     pub answer: Answer,
@@ -30,12 +32,22 @@ pub struct Preview {
     pub count: usize,
 }
 
+// What a commit is given of the ask that it is to carry out.
+#[derive(Clone, Copy)]
+pub struct Asked<'a> {
+    pub interface: u8,
+    pub alternate: u8,
+    pub drops: u32,
+    pub adds: u32,
+    pub rings: &'a [u64],
+}
+
 impl Device {
     // What a claim that is lent a context, a table and a log of these lengths would do.
-    pub fn ask(self, ctx: usize, routes: usize, log: usize, interface: u8, alternate: u8) -> Preview
-        ensures { PreviewAs result (ask self ctx routes log interface alternate) }
+    pub fn ask(self, l: Lengths, interface: u8, alternate: u8) -> Preview
+        ensures { PreviewAs result (ask self l.ctx l.routes l.log interface alternate) }
     {
-        match claim::claim_check(self, ctx, routes, log, interface, alternate) {
+        match claim::claim_check(self, l, interface, alternate) {
             Ok(found) => show_claim(self, interface, alternate, found),
             Err(a) => no_preview(a),
         }
@@ -48,76 +60,62 @@ impl Device {
         routes: &mut [u64],
         log: &mut [u32],
         outcomes: &[u8],
-        interface: u8,
-        alternate: u8,
-        drops: u32,
-        adds: u32,
-        rings: &[u64],
+        asked: Asked,
     ) -> Called
         ensures { leaves result ctx.new routes.new log.new
-            ≡ commit self ctx.old routes.old log.old outcomes.now (asking interface alternate drops adds rings.now) }
+            ≡ commit self ctx.old routes.old log.old outcomes.now (ask_in asked.entry) }
     {
-        let checked = commit_check(
-            self,
-            ctx.len(),
-            routes.len(),
-            log.len(),
-            interface,
-            alternate,
-            drops,
-            adds,
-            rings,
-        );
+        let l = Lengths {
+            ctx: ctx.len(),
+            routes: routes.len(),
+            log: log.len(),
+        };
+        let checked = commit_check(self, l, asked);
         claim::run_claim(
-            self, ctx, routes, log, outcomes, interface, alternate, checked,
+            self,
+            ctx,
+            routes,
+            log,
+            outcomes,
+            asked.interface,
+            asked.alternate,
+            checked,
         )
     }
 }
 
 // The checks of a claim, and then 22.
-fn commit_check(
-    d: Device,
-    ctx: usize,
-    routes: usize,
-    log: usize,
-    interface: u8,
-    alternate: u8,
-    drops: u32,
-    adds: u32,
-    rings: &[u64],
-) -> Result<EndpointWords, Answer>
-    ensures { CheckedAs result (ask_check d ctx routes log interface alternate (current_check d (asking interface alternate drops adds rings.now)))
-        (find_endpoints (list_of d) interface alternate) }
+fn commit_check(d: Device, l: Lengths, asked: Asked) -> Result<EndpointWords, Answer>
+    ensures { CheckedAs result (ask_check d l.ctx l.routes l.log asked.entry.interface asked.entry.alternate (current_check d (ask_in asked.entry)))
+        (find_endpoints (list_of d) asked.entry.interface asked.entry.alternate) }
 {
-    let found = claim::claim_check(d, ctx, routes, log, interface, alternate)?;
-    if !is_current(d, interface, alternate, found, drops, adds, rings) {
+    let found = claim::claim_check(d, l, asked.interface, asked.alternate)?;
+    if !is_current(d, found, asked) {
         return Err(Answer::OutdatedAsk);
     }
     Ok(found)
 }
 
-// Of a claim whose checks have passed and found the setting's endpoint words.
+// Of a claim whose checks have passed and found the setting's endpoint words. (No type says so: a ghost field speaks of its own struct's
+// fields, so the struct would have the whole record among them.)
 fn show_claim(d: Device, interface: u8, alternate: u8, found: EndpointWords) -> Preview
     requires d_value { ((d.usable && sound d) ≡ true) × (claim_check d interface alternate Pass ≡ Pass) }
     requires alternate_value { find_endpoints (list_of d) interface alternate ≡ Some found }
     ensures { PreviewAs result (answers.Accepted, ask_of d interface alternate) }
 {
     let args = claim::claim_args(d, interface, alternate);
-    let words = &d.list[..d.list_len];
+    let words = d.list();
     let old_words = claim::old_words(words, args);
-    let new_words = &words[found.start..found.start + found.count];
+    let new_words = found.in_list(words);
+    let c = endpoint_map::endpoint_map_in(d);
+    let given = GivenRings { rings: d.given() };
     Preview {
         answer: Answer::Accepted,
         interface,
         alternate,
         drops: context_block::word_flags(old_words),
         adds: context_block::word_flags(new_words),
-        rings: record_checks::drawn_in_order(
-            &d.given[..d.given_count],
-            &d.eps[..d.ep_count],
-            d.control,
-            new_words,
-        ),
+        rings: record_checks::drawn_in_order(given, &c.rings, d.control, new_words),
         count: new_words.len(),
     }
 }
@@ -138,22 +136,14 @@ fn no_preview(a: Answer) -> Preview
 }
 
 // Whether an ask would now return these flags and rings.
-fn is_current(
-    d: Device,
-    interface: u8,
-    alternate: u8,
-    found: EndpointWords,
-    drops: u32,
-    adds: u32,
-    rings: &[u64],
-) -> bool
-    requires d_value { ((d.usable && sound d) ≡ true) × (claim_check d interface alternate Pass ≡ Pass) }
-    requires alternate_value { find_endpoints (list_of d) interface alternate ≡ Some found }
-    ensures { result ≡ same_ask (asking interface alternate drops adds rings.now) (ask_of d interface alternate) }
+fn is_current(d: Device, found: EndpointWords, asked: Asked) -> bool
+    requires d_value { ((d.usable && sound d) ≡ true) × (claim_check d asked.interface asked.alternate Pass ≡ Pass) }
+    requires found_value { find_endpoints (list_of d) asked.interface asked.alternate ≡ Some found }
+    ensures { result ≡ same_ask (ask_in asked.entry) (ask_of d asked.entry.interface asked.entry.alternate) }
 {
-    let shown = show_claim(d, interface, alternate, found);
-    if drops != shown.drops || adds != shown.adds {
+    let shown = show_claim(d, asked.interface, asked.alternate, found);
+    if asked.drops != shown.drops || asked.adds != shown.adds {
         return false;
     }
-    record_checks::same_rings(rings, &shown.rings[..shown.count])
+    asked.rings == &shown.rings[..shown.count]
 }

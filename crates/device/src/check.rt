@@ -5,30 +5,31 @@ ghost use Rattle.device.specs.Check.{check_marked, record_check, disconnect_chec
 
 use super::record::Device;
 use answer::Answer;
+use record_checks::Lengths;
 
 impl Device {
     // 12 where the mark is not set, 1, 2, 3.
-    fn check_marked(self, mark: bool, ctx: usize, routes: usize, log: usize) -> Result<(), Answer>
-        ensures { result ≡ check_marked mark self ctx routes log Pass }
+    fn check_marked(self, mark: bool, l: Lengths) -> Result<(), Answer>
+        ensures { result ≡ check_marked mark self l.ctx l.routes l.log Pass }
     {
         if !mark || !self.sound() {
             return Err(Answer::Unusable);
         }
-        record_checks::lengths_check(self.spacing, self.max_slots, ctx, routes, log)
+        record_checks::lengths_check(self.spacing, self.max_slots, l)
     }
 
     #[tactic(auto, unfolding(crate::specs::Check::record_check))]
-    pub fn record_check(self, ctx: usize, routes: usize, log: usize) -> Result<(), Answer>
-        ensures { result ≡ record_check self ctx routes log Pass }
+    pub fn record_check(self, l: Lengths) -> Result<(), Answer>
+        ensures { result ≡ record_check self l.ctx l.routes l.log Pass }
     {
-        self.check_marked(self.usable, ctx, routes, log)
+        self.check_marked(self.usable, l)
     }
 
     // The unplugging's: a record that is up need not be usable.
     #[tactic(auto, unfolding(crate::specs::Check::disconnect_check))]
-    pub fn disconnect_check(self, ctx: usize, routes: usize, log: usize) -> Result<(), Answer>
-        ensures { result ≡ disconnect_check self ctx routes log }
+    pub fn disconnect_check(self, l: Lengths) -> Result<(), Answer>
+        ensures { result ≡ disconnect_check self l.ctx l.routes l.log }
     {
-        self.check_marked(self.up, ctx, routes, log)
+        self.check_marked(self.up, l)
     }
 }

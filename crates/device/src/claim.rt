@@ -21,7 +21,9 @@ use answer::Answer;
 use course_claim::{ClaimArgs, ClaimPlan};
 use course_steps::CourseEnd;
 use descriptor_list::EndpointWords;
+use record_checks::Lengths;
 use record_endpoint::{EndpointMap, Owner, PLACES, Queues};
+use record_ring::GivenRings;
 
 impl Device {
     // The old endpoints are stopped and dropped, those of the setting added with rings drawn from the free ones, and the device switched.
@@ -37,14 +39,12 @@ impl Device {
         ensures { leaves result ctx.new routes.new log.new
             ≡ claim self ctx.old routes.old log.old outcomes.now interface alternate }
     {
-        let checked = claim_check(
-            self,
-            ctx.len(),
-            routes.len(),
-            log.len(),
-            interface,
-            alternate,
-        );
+        let l = Lengths {
+            ctx: ctx.len(),
+            routes: routes.len(),
+            log: log.len(),
+        };
+        let checked = claim_check(self, l, interface, alternate);
         run_claim(
             self, ctx, routes, log, outcomes, interface, alternate, checked,
         )
@@ -52,22 +52,20 @@ impl Device {
 }
 
 // 12, 1, 2, 3, and then 8, 9, 21: it needs the lengths of what is lent, and hands on where the setting's endpoint words stand. (An
-// interface and its alternate are two bytes here as in the calls: each function reads both of a struct again.)
+// interface and its alternate stay two bytes: the lookups of record_settings, `draw_check` and `with_setting`, to which they go on, take two.)
 pub fn claim_check(
     d: Device,
-    ctx: usize,
-    routes: usize,
-    log: usize,
+    l: Lengths,
     interface: u8,
     alternate: u8,
 ) -> Result<EndpointWords, Answer>
-    ensures { CheckedAs result (ask_check d ctx routes log interface alternate Pass) (find_endpoints (list_of d) interface alternate) }
+    ensures { CheckedAs result (ask_check d l.ctx l.routes l.log interface alternate Pass) (find_endpoints (list_of d) interface alternate) }
 {
-    d.record_check(ctx, routes, log)?;
+    d.record_check(l)?;
     let c = endpoint_map::endpoint_map_in(d);
     // A usable record has no ring in quarantine.
     let free = d.given_count - d.ep_count - 1;
-    record_checks::draw_check(&d.list[..d.list_len], interface, alternate, c, free)
+    record_checks::draw_check(d.list(), interface, alternate, c, free)
 }
 
 // The course of a claim, or the refusal of its checks.
@@ -94,16 +92,12 @@ pub fn run_claim(
         Err(a) => return update::refused(d, a),
     };
     let args = claim_args(d, interface, alternate);
-    let words = &d.list[..d.list_len];
+    let words = d.list();
     let old_words = old_words(words, args);
-    let new_words = &words[found.start..found.start + found.count];
-    let pending = record_checks::drawn_rings(
-        &d.given[..d.given_count],
-        &d.eps[..d.ep_count],
-        d.control,
-        new_words,
-    );
+    let new_words = found.in_list(words);
     let c = endpoint_map::endpoint_map_in(d);
+    let given = GivenRings { rings: d.given() };
+    let pending = record_checks::drawn_rings(given, &c.rings, d.control, new_words);
     let own = record_endpoint::owned_rings(Owner::Interface(interface), c);
     let plan = ClaimPlan {
         args,
@@ -156,12 +150,10 @@ fn claim_end(
 {
     let held = d.settings().with_setting(interface, alternate);
     let claimed = record_endpoint::claimed_endpoints(interface, pending, c);
-    if !e.moved {
-        if let Answer::InterfaceBroken = e.answer {
-            let quarantined = record_checks::quarantined_rings(&q.rings[..q.count]);
-            d.quarantined = quarantined;
-            d.quarantined_count = q.count;
-        }
+    if !e.moved && e.answer == Answer::InterfaceBroken {
+        let quarantined = record_endpoint::padded(q.rings(), 0);
+        d.quarantined = quarantined;
+        d.quarantined_count = q.count;
     }
     update::at_end(d, c, e, Owner::Interface(interface), claimed, held)
 }

@@ -11,7 +11,7 @@ use super::record::{Called, Device};
 use super::{endpoint_map, update};
 use answer::Answer;
 use course_steps::CourseEnd;
-use record_checks::Quarantine;
+use record_checks::{Lengths, Quarantine};
 use record_endpoint::{EndpointMap, Handle, Owner, Queues};
 use record_settings::Settings;
 
@@ -27,7 +27,12 @@ impl Device {
         ensures { leaves result ctx.new routes.new log.new ≡
             disconnect self ctx.old routes.old log.old outcomes.now }
     {
-        if let Err(a) = self.disconnect_check(ctx.len(), routes.len(), log.len()) {
+        let l = Lengths {
+            ctx: ctx.len(),
+            routes: routes.len(),
+            log: log.len(),
+        };
+        if let Err(a) = self.disconnect_check(l) {
             return update::refused(self, a);
         }
         let c = endpoint_map::endpoint_map_in(self);
@@ -46,11 +51,11 @@ fn disconnect_end(mut d: Device, c: EndpointMap, q: Queues, e: CourseEnd) -> Cal
     if e.moved {
         d.usable = false;
         d.up = false;
-    } else if let Answer::InterfaceBroken = e.answer {
+    } else if e.answer == Answer::InterfaceBroken {
         let Quarantine { rings, count } = record_checks::enter_rings(
-            &d.quarantined[..d.quarantined_count],
+            d.quarantined(),
             d.control,
-            &q.rings[..q.count],
+            q.rings(),
         );
         d.quarantined = rings;
         d.quarantined_count = count;

@@ -6,10 +6,9 @@ ghost use Rattle.device.specs.Device.{endpoint_map_in};
 use super::record::Device;
 use record_endpoint::EndpointMap;
 
-#[tactic(auto, unfolding(crate::specs::Device::endpoint_map_in))]
 pub fn endpoint_map_in(d: Device) -> EndpointMap
     requires { d.ep_count ≤ PLACES }
     ensures { result ≡ endpoint_map_in d }
 {
-    record_endpoint::endpoint_map_of(d.eps, d.ep_interfaces, d.ep_count)
+    record_endpoint::endpoint_map_of(&d.eps[..d.ep_count], &d.ep_interfaces[..d.ep_count])
 }

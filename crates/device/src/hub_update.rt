@@ -8,6 +8,7 @@ use super::record::{Called, Device};
 use super::update;
 use answer::Answer;
 use command::Command;
+use record_checks::Lengths;
 
 impl Device {
     // One Evaluate with the hub's slot fields.
@@ -24,7 +25,12 @@ impl Device {
         ensures { leaves result ctx.new routes.new log.new
             ≡ hub_update self ctx.old routes.old log.old outcomes.now ports multi ns }
     {
-        if let Err(a) = hub_check(self, ctx.len(), routes.len(), log.len(), ns) {
+        let l = Lengths {
+            ctx: ctx.len(),
+            routes: routes.len(),
+            log: log.len(),
+        };
+        if let Err(a) = hub_check(self, l, ns) {
             return update::refused(self, a);
         }
         let think = record_checks::think_value(ns);
@@ -40,9 +46,9 @@ impl Device {
 }
 
 // 12, 1, 2, 3, and then 7, at High speed only.
-fn hub_check(d: Device, ctx: usize, routes: usize, log: usize, ns: u32) -> Result<(), Answer>
-    ensures { result ≡ record_check d ctx routes log (hub_check d ns) }
+fn hub_check(d: Device, l: Lengths, ns: u32) -> Result<(), Answer>
+    ensures { result ≡ record_check d l.ctx l.routes l.log (hub_check d ns) }
 {
-    d.record_check(ctx, routes, log)?;
+    d.record_check(l)?;
     record_checks::think_check(d.port_speed, ns)
 }

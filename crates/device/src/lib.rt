@@ -9,12 +9,12 @@ mod claim;
 mod disconnect;
 mod endpoint_map;
 mod hub_update;
+mod lists;
 mod record;
 mod release;
 mod set_configuration;
-mod settings;
 mod sound;
 mod update;
 
-pub use ask::Preview;
+pub use ask::{Asked, Preview};
 pub use record::{Called, Device, no_device};

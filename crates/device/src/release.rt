@@ -8,6 +8,7 @@ use super::record::{Called, Device};
 use super::{endpoint_map, update};
 use answer::Answer;
 use course_release::ReleaseArgs;
+use record_checks::Lengths;
 use record_endpoint::{Owner, PLACES};
 
 impl Device {
@@ -23,7 +24,12 @@ impl Device {
         ensures { leaves result ctx.new routes.new log.new
             ≡ release self ctx.old routes.old log.old outcomes.now interface }
     {
-        if let Err(a) = release_check(self, ctx.len(), routes.len(), log.len(), interface) {
+        let l = Lengths {
+            ctx: ctx.len(),
+            routes: routes.len(),
+            log: log.len(),
+        };
+        if let Err(a) = release_check(self, l, interface) {
             return update::refused(self, a);
         }
         let settings = self.settings();
@@ -38,8 +44,7 @@ impl Device {
             old: record_endpoint::queues_of(own),
             all: record_endpoint::queues_of(c.rings),
         };
-        let words = &self.list[..self.list_len];
-        let setting = record_settings::setting_words(words, interface, args.alternate);
+        let setting = record_settings::setting_words(self.list(), interface, args.alternate);
         let e = course_release::release_interface(ctx, routes, log, outcomes, args, setting);
         let held = settings.without_setting(interface);
         let others = record_endpoint::claimed_endpoints(interface, [0u64; PLACES], c);
@@ -48,15 +53,9 @@ impl Device {
 }
 
 // 12, 1, 2, 3, and then 8.
-fn release_check(
-    d: Device,
-    ctx: usize,
-    routes: usize,
-    log: usize,
-    interface: u8,
-) -> Result<(), Answer>
-    ensures { result ≡ record_check d ctx routes log (release_check d interface) }
+fn release_check(d: Device, l: Lengths, interface: u8) -> Result<(), Answer>
+    ensures { result ≡ record_check d l.ctx l.routes l.log (release_check d interface) }
 {
-    d.record_check(ctx, routes, log)?;
-    record_checks::held_check(&d.list[..d.list_len], &d.settings(), interface)
+    d.record_check(l)?;
+    record_checks::held_check(d.list(), &d.settings(), interface)
 }

@@ -10,6 +10,7 @@ use super::{endpoint_map, update};
 use answer::Answer;
 use course_set_configuration::{SettingsArgs, run_set_configuration};
 use course_steps::CourseEnd;
+use record_checks::Lengths;
 use record_endpoint::Owner;
 use record_settings::Settings;
 
@@ -18,11 +19,9 @@ use record_settings::Settings;
 fn configured(mut d: Device, e: CourseEnd, value: u8) -> Device
     ensures { result ≡ cond e.moved (cond (is_accepted e.answer) (with_configuration value d) d) d }
 {
-    if e.moved {
-        if let Answer::Accepted = e.answer {
-            d.configured = true;
-            d.current_config_value = value;
-        }
+    if e.moved && e.answer == Answer::Accepted {
+        d.configured = true;
+        d.current_config_value = value;
     }
     d
 }
@@ -40,7 +39,12 @@ impl Device {
         ensures { leaves result ctx.new routes.new log.new
             ≡ set_configuration self ctx.old routes.old log.old outcomes.now value }
     {
-        if let Err(a) = self.record_check(ctx.len(), routes.len(), log.len()) {
+        let l = Lengths {
+            ctx: ctx.len(),
+            routes: routes.len(),
+            log: log.len(),
+        };
+        if let Err(a) = self.record_check(l) {
             return update::refused(self, a);
         }
         let c = endpoint_map::endpoint_map_in(self);
@@ -52,15 +56,7 @@ impl Device {
             held: self.settings(),
             old: record_endpoint::queues_of(c.rings),
         };
-        let e = run_set_configuration(
-            ctx,
-            routes,
-            log,
-            outcomes,
-            0,
-            args,
-            &self.list[..self.list_len],
-        );
+        let e = run_set_configuration(ctx, routes, log, outcomes, 0, args, self.list());
         self = configured(self, e, value);
         update::at_end(
             self,

@@ -5,7 +5,7 @@ ghost use Rattle.device.specs.Sound.{sound};
 use super::record::Device;
 
 impl Device {
-    #[tactic(auto, unfolding(crate::specs::Sound::sound, crate::specs::Sound::slot_sound, crate::specs::Sound::counts_fit, crate::specs::Sound::lists_sound, crate::specs::Sound::rings_sound, crate::specs::Sound::store_sound, crate::specs::Sound::live_rings, crate::specs::Device::list_of, crate::specs::Device::endpoint_map_in, crate::specs::Device::held_of, crate::specs::Device::quarantined_of, crate::specs::Device::given_of))]
+    #[tactic(auto, unfolding(crate::specs::Sound::sound, crate::specs::Sound::slot_sound, crate::specs::Sound::counts_fit))]
     pub fn sound(self) -> bool
         ensures { result ≡ sound self }
     {
@@ -22,18 +22,15 @@ impl Device {
             return false;
         }
         let settings = self.settings();
-        record_checks::lists_sound(
-            &self.list[..self.list_len],
-            &settings,
-            self.eps,
-            self.ep_interfaces,
-            self.ep_count,
-        ) && record_checks::rings_sound(
-            self.usable,
-            &self.eps[..self.ep_count],
-            self.control,
-            &self.quarantined[..self.quarantined_count],
-            &self.given[..self.given_count],
-        )
+        let eps = &self.eps[..self.ep_count];
+        let owners = &self.ep_interfaces[..self.ep_count];
+        record_checks::lists_sound(self.list(), &settings, eps, owners)
+            && record_checks::rings_sound(
+                self.usable,
+                eps,
+                self.control,
+                self.quarantined(),
+                self.given(),
+            )
     }
 }

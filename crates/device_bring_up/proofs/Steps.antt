@@ -1,6 +1,6 @@
 -- What each exit of the code comes to.
 use Prim.Native.Nat.{ℕ, ◌≤◌}
-use mathlib.Core.Path.{◌≡◌, refl, sym, ◌∙◌}
+use mathlib.Core.Path.{◌≡◌, refl, sym, ap, ◌∙◌}
 use mathlib.Core.Bool.{Bool, true, false, cond}
 use mathlib.Core.List.{List}
 use native.Mathlib.Omega.{arith}
@@ -12,7 +12,7 @@ use Rattle.record_ring.specs.Store.{given_ok}
 use Rattle.record_ring.proofs.Promises.{given_promise}
 use Rattle.descriptor_list.specs.Valid.{valid_list}
 use Rattle.descriptor_list.proofs.Laws.{valid_length}
-use Rattle.std.specs.Prelude.{Result, Ok, Err}
+use Rattle.std.specs.Prelude.{Result, Ok, Err, IsErrAnd, MatchResult}
 use Rattle.transfer.specs.declared.RouteError.{RouteError}
 use Rattle.transfer.specs.declared.RouteError.TheVariants.{QueueFull}
 use Rattle.transfer.specs.Routes.{route_of, with_route, registered, with_registered}
@@ -31,14 +31,13 @@ use Rattle.device_bring_up.specs.BringUp.{device_check, queue_check, bring_up_ch
 use Rattle.device_bring_up.proofs.Checks.{Passed, passed}
 
 -- one test decides what is answered, what 17 says, and what is left of the table
-full_test : (b : Bool) (x : RouteError) → ◌≡◌ {A = Result (Unit {0}) RouteError} (cond b (Ok (tt {0})) (Err QueueFull)) (Err x) →
-    Refuse answer.QueueFull ≡ cond b Pass (Refuse answer.QueueFull)
-full_test true x e = let z : ◌≡◌ {A = ℕ} 0 1 = cc in absurd (omega arith)
-full_test false x e = refl
-
-free_test : (b : Bool) {u : Unit {0}} → ◌≡◌ {A = Result (Unit {0}) RouteError} (cond b (Ok (tt {0})) (Err QueueFull)) (Ok u) → Pass ≡ cond b Pass (Refuse answer.QueueFull)
-free_test true e = refl
-free_test false e = let z : ◌≡◌ {A = ℕ} 0 1 = cc in absurd (omega arith)
+error_test :
+    (b : Bool) (m : Check) (given : RouteError → Answer → Type 0) → ((e : RouteError) (x : Answer) → given e x → x ≡ answer.QueueFull) →
+    MatchResult {T = Unit {0}} {E = RouteError} (cond b (Ok (tt {0})) (Err QueueFull)) (λ u. m ≡ Ok u) (λ e. IsErrAnd m (given e)) →
+    m ≡ cond b Pass (Refuse answer.QueueFull)
+error_test true m given says h = h
+error_test false (Ok u) given says h = absurd h
+error_test false (Err x) given says h = ap Refuse (says QueueFull x h)
 
 pass_test : (b : Bool) (x y : List ℕ) → cond b Pass (Refuse answer.QueueFull) ≡ Pass → cond b x y ≡ x
 pass_test true x y e = refl
@@ -49,15 +48,12 @@ refuse_test true x y z e = let z : ◌≡◌ {A = ℕ} 0 1 = cc in absurd (omega
 refuse_test false x y z e = refl
 
 module _ (a : BringUp) (routes : List ℕ) where
-  -- control's route is there already
-  pub queue_full : (x : RouteError) → registered routes a.slot 1 ≡ Err x → Refuse answer.QueueFull ≡ queue_check a routes
+  -- what registering control's route answers, with its error as 17
+  pub queue_answered :
+      {r : Result (Unit {0}) RouteError} (m : Check) (given : RouteError → Answer → Type 0) → ((e : RouteError) (x : Answer) → given e x → x ≡ answer.QueueFull) →
+      r ≡ registered routes a.slot 1 → MatchResult r (λ u. m ≡ Ok u) (λ e. IsErrAnd m (given e)) → m ≡ queue_check a routes
   unfolding registered queue_check
-  queue_full x e = full_test (eqb (route_of routes a.slot 1) 0) x e
-
-  -- or is registered now
-  pub queue_free : {u : Unit {0}} → registered routes a.slot 1 ≡ Ok u → Pass ≡ queue_check a routes
-  unfolding registered queue_check
-  queue_free e = free_test (eqb (route_of routes a.slot 1) 0) e
+  queue_answered m given says e h = error_test (eqb (route_of routes a.slot 1) 0) m given says (rw e at h)
 
   queue_pass : queue_check a routes ≡ Pass → with_registered routes a.slot 1 (control_ring a) ≡ with_route routes a.slot 1 (control_ring a)
   unfolding with_registered queue_check

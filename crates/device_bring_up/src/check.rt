@@ -10,6 +10,7 @@ ghost use Rattle.device_bring_up.specs.BringUp.{bring_up_check};
 use answer::Answer;
 use course_init::BringUpArgs;
 use def::Dci;
+use record_checks::Lengths;
 
 // Whether a slot is one of the slots, of which there are 255 at most.
 fn slot_fits(slot: usize, max_slots: usize) -> bool
@@ -39,7 +40,12 @@ pub fn enter(
     if !slot_fits(a.slot.0 as usize, a.max_slots) {
         return Err(Answer::SlotLimitReached);
     }
-    record_checks::lengths_check(spacing, a.max_slots as u8, ctx, routes.len(), log)?;
+    let l = Lengths {
+        ctx,
+        routes: routes.len(),
+        log,
+    };
+    record_checks::lengths_check(spacing, a.max_slots as u8, l)?;
     if !def::speed_known(a.speed) {
         return Err(Answer::Speed);
     }
@@ -52,8 +58,5 @@ pub fn enter(
     if !record_ring::given_fit(rings) {
         return Err(Answer::Rings);
     }
-    match transfer::register_queue(routes, a.slot, Dci(1), ring) {
-        Ok(()) => Ok(()),
-        Err(_) => Err(Answer::QueueFull),
-    }
+    transfer::register_queue(routes, a.slot, Dci::CTRL, ring).map_err(|_| Answer::QueueFull)
 }

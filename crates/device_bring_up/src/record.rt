@@ -26,7 +26,7 @@ pub fn brought(
     let kept = record_endpoint::padded(&list[..words], 0);
     let given = record_endpoint::padded(rings, 0);
     let mut d = device::no_device();
-    // By its number, as the definition asks.
+    // By its number, which `is_accepted` is about: of `==` it says nothing without a law of every answer.
     let accepted = answer::answer_number(e.answer) == 0;
     d.usable = accepted;
     d.up = accepted;

@@ -15,9 +15,11 @@ fn bits_of(words: &[u64]) -> u64
 pub fn is_image(image: &[u64]) -> bool
     ensures { result ≡ is_image image.now }
 {
-    image.len() == layout::WORDS
-        && bits_of(&image[layout::USABLE..layout::SLOT]) < 2
-        && bits_of(&image[layout::SLOT..layout::LIST]) < 256
-        && bits_of(&image[layout::LIST..layout::SPACING]) < 4294967296
-        && image[layout::UP] < 2
+    if image.len() != layout::WORDS {
+        return false;
+    }
+    let flags = bits_of(&image[layout::USABLE..layout::SLOT]);
+    let bytes = bits_of(&image[layout::SLOT..layout::LIST]);
+    let words = bits_of(&image[layout::LIST..layout::SPACING]);
+    flags < 2 && bytes < 256 && words < 4294967296 && image[layout::UP] < 2
 }

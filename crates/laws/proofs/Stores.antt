@@ -4,8 +4,13 @@ use mathlib.Core.Path.{◌≡◌, refl, ◌∙◌}
 use mathlib.Core.List.{List, [], ◌∷◌}
 use native.Mathlib.Nat.{add-zero}
 use native.Mathlib.Omega.{arith}
-use lib.ListN.{length, get_or, set, length-set}
+use lib.ListN.{length, get_or, set, drop, length-set}
 use lib.Seq.{sets, get_or-set_same, get_or-set_other}
+
+-- A list is read from its second number on.
+pub get_d_second : (l : List ℕ) (i : ℕ) → get_or l (suc i) 0 ≡ get_or (drop 1 l) i 0
+get_d_second [] i = refl
+get_d_second (x ∷ l) i = refl
 
 -- what is past them is kept
 pub sets_past : (ws log : List ℕ) (n k : ℕ) → n + length ws ≤ k → get_or (sets log n ws) k 0 ≡ get_or log k 0

@@ -1,26 +1,13 @@
 -- The rings that a claim draws, where they stand in arrays.
 use Prim.Native.Nat.{ℕ, ◌+◌, ◌-◌, ◌≤◌}
-use mathlib.Core.Path.{◌≡◌, refl, sym, ap, ◌∙◌}
-use mathlib.Core.Bool.{◌&&◌}
-use mathlib.Core.List.{List, [], ◌∷◌, ◌++◌}
+use mathlib.Core.Path.{◌≡◌, sym, ap, ◌∙◌}
+use mathlib.Core.List.{List, ◌++◌}
 use native.Mathlib.Nat.{add-sub_cancel_left}
-use native.Mathlib.Numerals.{add-one}
 use native.Mathlib.Omega.{arith}
-use lib.Dec.{eqb}
-use lib.Pointwise.{pointwise}
-use lib.ListN.{length, take, drop, length-take, length-drop}
+use lib.ListN.{length, take, drop, length-drop}
 use lib.Seq.{length-take-le, take-add, take-take, drop_at}
 use Rattle.record_ring.specs.Store.{sorted, lowest}
 use Rattle.record_ring.proofs.Sorted.{length_sorted}
-use Rattle.record_checks.specs.Draw.{same_rings}
-
--- What stands behind the first of an array.
-pub behind : (n control : ℕ) (rings l : List ℕ) → take (n + 1) rings ≡ control ∷ l → take (n + 1 - 1) (drop 1 rings) ≡ l
-behind n control [] l e = absurd (omega (arith, length-take {A = ℕ} (n + 1) [], ap length e))
-behind n control (r ∷ rings) l e =
-    let k : n + 1 - 1 ≡ n = omega arith in
-    let f : take (n + 1) (r ∷ rings) ≡ r ∷ take n rings = rw (add-one n) in
-    rw k (ap (drop 1) (sym f ∙ e))
 
 -- The free rings stand rising from an index on, up to the number of those given.
 module _ (g first : ℕ) (rings free : List ℕ) (room : g ≤ length rings) (low : first ≤ g) (kept : drop first (take g rings) ≡ sorted free) where
@@ -60,11 +47,3 @@ module _ (g first : ℕ) (rings free words : List ℕ) (room : length rings ≡ 
 
   pub drawn_lowest : take (first + length words - first) (drop first rings) ≡ lowest (length words) free
   drawn_lowest = drawn_part g first rings free (omega arith) kept.0 kept.1 (length words) enough
-
--- Rings that are the same as the library compares them.
-pub same_pointwise : (rs ss : List ℕ) → pointwise eqb rs ss ≡ same_rings rs ss
-unfolding same_rings
-same_pointwise [] [] = refl
-same_pointwise [] (s ∷ ss) = refl
-same_pointwise (r ∷ rs) [] = refl
-same_pointwise (r ∷ rs) (s ∷ ss) = ap (λ b. eqb r s && b) (same_pointwise rs ss)

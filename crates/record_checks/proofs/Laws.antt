@@ -2,7 +2,7 @@
 use Prim.Native.Nat.{ℕ, zero, suc, ◌+◌, ◌≤◌, ◌<◌}
 use mathlib.Core.Path.{◌≡◌, refl, sym, ap, ◌∙◌}
 use mathlib.Core.Logic.{◌⊎◌, inl, inr, ⊎_elim}
-use mathlib.Core.Bool.{Bool, true, false, cond}
+use mathlib.Core.Bool.{Bool, true, false, cond, ◌||◌}
 use mathlib.Core.List.{List, [], ◌∷◌, ◌++◌}
 use native.Mathlib.Decide.{dec_lt}
 use native.Mathlib.Omega.{arith}
@@ -13,9 +13,11 @@ use lib.Seq.{get_or-take, get_or-set_same, get_or-set_other, set_out, take-nil}
 use Rattle.laws.proofs.Tests.{and-true, not_both}
 use Rattle.laws.proofs.Cases.{Decided, decided, false_if, or_right}
 use Rattle.laws.specs.Distinct.{elem, distinct}
-use Rattle.laws.proofs.Distinct.{elem_none, elem_here, elem_cases, elem_at, elem_append, distinct_first, distinct_rest, distinct_cons, distinct_place, distinct_append}
+use Rattle.laws.proofs.Distinct.{elem_none, elem_here, elem_there, elem_cases, elem_at, elem_place, elem_append, distinct_first, distinct_rest, distinct_cons, distinct_place, distinct_append}
 use Rattle.descriptor.specs.Word.{endpoint_descriptor}
 use Rattle.record_ring.specs.Rings.{ring_ok, rings_ok}
+use Rattle.record_ring.specs.Store.{free_rings}
+use Rattle.record_ring.proofs.Sorted.{not_among_alike}
 use Rattle.record_ring.proofs.Laws.{ring_at, ring_nonzero, disjoint_elem, Offered}
 use Rattle.record_ring.proofs.Entered.{rings_ok_append, not_among_short}
 use Rattle.transfer.specs.Routes.{Queue}
@@ -41,6 +43,17 @@ pub record Apart (rings : List ℕ) (control : ℕ) (given : List ℕ) : Type 0 
 -- No place of one list has the ring of a place of another.
 abbrev pub Disjoint : List ℕ → List ℕ → Type 0
 Disjoint rings by = (p q : ℕ) → p < 30 → q < 30 → (get_or rings p 0 ≡ 0 → ⊥) → get_or rings p 0 ≡ get_or by q 0 → ⊥
+
+-- What a list reads as is in it, but for 0.
+elem_nonzero : (l : List ℕ) (k x : ℕ) → get_or l k 0 ≡ x → (x ≡ 0 → ⊥) → elem x l ≡ true
+elem_nonzero [] k x e z = absurd (z (sym e))
+elem_nonzero (y ∷ l) zero x e z = rw (← e) (elem_here y l)
+elem_nonzero (y ∷ l) (suc k) x e z = elem_there x y l (elem_nonzero l k x e z)
+
+same_if : (a b : Bool) → (a ≡ true → b ≡ true) → (b ≡ true → a ≡ true) → a ≡ b
+same_if true b f g = sym (f refl)
+same_if false true f g = g refl
+same_if false false f g = refl
 
 -- Endpoints of arrays.
 
@@ -322,6 +335,37 @@ module _ (n : ℕ) (eps : List Endpoint) (owners : List ℕ) (control : ℕ)
         elem (get_or (endpoint_map_of n eps owners).rings p 0) (rings_of (take n eps)) ≡ true
     unfolding live
     ring_live p h z = let t = stands p h z in rw t.same (elem_at live t.at t.inside)
+
+    -- A ring is by place where it is in the arrays.
+    pub live_placed : (x : ℕ) → (x ≡ 0 → ⊥) → elem x (endpoint_map_of n eps owners).rings ≡ elem x (rings_of (take n eps))
+    unfolding live
+    live_placed x nonzero = same_if (elem x (endpoint_map_of n eps owners).rings) (elem x (rings_of (take n eps))) to from
+      where
+        to : elem x (endpoint_map_of n eps owners).rings ≡ true → elem x (rings_of (take n eps)) ≡ true
+        to h =
+            let t = elem_place x (endpoint_map_of n eps owners).rings h in
+            let p : t.0 < 30 = omega (arith, t.1, clean_in.whole.rings) in
+            ap (λ y. elem y (rings_of (take n eps))) (sym t.2) ∙ ring_live t.0 p (λ z. nonzero (sym t.2 ∙ z))
+
+        from : elem x (rings_of (take n eps)) ≡ true → elem x (endpoint_map_of n eps owners).rings ≡ true
+        from h =
+            let t = elem_place x (rings_of (take n eps)) h in
+            let k = t.0 in
+            let l : k < n = omega (arith, t.1, rings_length (take n eps), length-take n eps) in
+            let r : k < length eps = omega (arith, t.1, rings_length (take n eps), length-take n eps) in
+            let p = place_of (get_or eps k blank).address in
+            let at : get_or (endpoint_map_of n eps owners).rings p 0 ≡ x = (map_at n eps owners k fit l r).rings ∙ sym (live_at k l) ∙ t.2 in
+            elem_nonzero (endpoint_map_of n eps owners).rings p x at nonzero
+
+    -- So the same rings are free.
+    pub free_placed : (given : List ℕ) → rings_ok given ≡ true →
+        free_rings given (endpoint_map_of n eps owners).rings control [] ≡ free_rings given (rings_of (take n eps)) control []
+    unfolding free_rings
+    free_placed given ok =
+        not_among_alike _ _ given
+        (λ x g. elem_append x (endpoint_map_of n eps owners).rings (control ∷ [])
+        ∙ ap (λ b. b || elem x (control ∷ [])) (live_placed x (ring_nonzero x (rings_ok_elem given ok x g)))
+        ∙ sym (elem_append x (rings_of (take n eps)) (control ∷ [])))
 
     -- The rings by place are the arrays'.
     pub placed_live : (x : ℕ) → elem x (placed_rings (endpoint_map_of n eps owners).rings) ≡ true → elem x (rings_of (take n eps)) ≡ true

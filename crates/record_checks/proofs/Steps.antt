@@ -6,7 +6,6 @@ use mathlib.Core.List.{List, [], ◌∷◌, ◌++◌}
 use native.Mathlib.Numerals.{add-one}
 use native.Mathlib.Omega.{arith}
 use borrow.Author.Tests.{le-leb, lt-leb}
-use lib.Dec.{eqb}
 use lib.ListN.{length, get_or, set, take, drop, replicate, length-append, length-set, length-take, length-drop, drop_of_length-le}
 use lib.Seq.{take-suc, take-suc-set, length-take-le, take-append_seam, take-length, get_or-append_seam, drop-cons}
 use Rattle.laws.specs.Distinct.{elem}
@@ -29,8 +28,6 @@ use Rattle.record_settings.specs.Match.{addresses_free}
 use Rattle.record_checks.specs.Draw.{draw_check, check_of, CheckedAs}
 use Rattle.record_checks.specs.declared.quarantine.Quarantine.{Quarantine}
 use Rattle.record_checks.specs.Rings.{quarantined_by, QuarantinedAs}
-use Rattle.record_settings.proofs.Laws.{eqb_turned}
-use Rattle.std.specs.List.{list_any}
 
 pub rings_length : (es : List Endpoint) → length (rings_of es) ≡ length es
 unfolding rings_of
@@ -80,12 +77,6 @@ padded_put l n r e h =
     let p : set (padded 61 0 (take (length l) m)) (length l) (get_or m (length l) 0) ≡ padded 61 0 (take (length l + 1) m) =
     padded_next 61 0 m (length l) (omega arith) (omega arith) in
     rw (← e) (rw (take-append_seam l (r ∷ []), get_or-append_seam l r [] 0, ← s, take-length m) at p)
-
--- Rings looked up as the library does.
-pub any_elem : (x : ℕ) (l : List ℕ) → list_any (λ y. eqb y x) l ≡ elem x l
-unfolding elem
-any_elem x [] = refl
-any_elem x (y ∷ l) = rw (eqb_turned y x, any_elem x l)
 
 -- A quarantine, and a ring after its last.
 module _ (q : Quarantine) where

@@ -6,24 +6,26 @@ ghost use Rattle.record_checks.specs.Lengths.{lengths_check};
 use answer::Answer;
 use command::LOG_ROOM;
 
+// How long the context, the route table and the log of a call are.
+#[derive(Clone, Copy)]
+pub struct Lengths {
+    pub ctx: usize,
+    pub routes: usize,
+    pub log: usize,
+}
+
 // 1, 2, 3.
-pub fn lengths_check(
-    spacing: usize,
-    max_slots: u8,
-    ctx: usize,
-    routes: usize,
-    log: usize,
-) -> Result<(), Answer>
+pub fn lengths_check(spacing: usize, max_slots: u8, l: Lengths) -> Result<(), Answer>
     requires { spacing ≤ 64 }
-    ensures { result ≡ lengths_check spacing max_slots ctx routes log Pass }
+    ensures { result ≡ lengths_check spacing max_slots l.ctx l.routes l.log Pass }
 {
-    if ctx != 33 * spacing {
+    if l.ctx != 33 * spacing {
         return Err(Answer::ContextLength);
     }
-    if routes != 32 * (usize::from(max_slots) + 1) {
+    if l.routes != 32 * (usize::from(max_slots) + 1) {
         return Err(Answer::RoutesLength);
     }
-    if log < LOG_ROOM {
+    if l.log < LOG_ROOM {
         return Err(Answer::LogTooShort);
     }
     Ok(())

@@ -10,11 +10,11 @@ mod rings;
 mod sound;
 mod think;
 
-pub use draw::{draw_check, drawn_in_order, drawn_rings, same_rings};
+pub use draw::{draw_check, drawn_in_order, drawn_rings};
 pub use enter::enter_rings;
 pub use held::held_check;
-pub use lengths::lengths_check;
+pub use lengths::{Lengths, lengths_check};
 pub use quarantine::Quarantine;
-pub use rings::{quarantined_rings, rings_sound};
+pub use rings::rings_sound;
 pub use sound::{counts_fit, lists_sound, slot_sound};
 pub use think::{think_check, think_value};

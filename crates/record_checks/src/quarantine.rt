@@ -5,7 +5,7 @@ ghost use Rattle.record_endpoint.specs.Endpoint.{padded};
 
 use record_ring::RING_ROOM;
 
-// Rings in quarantine: the first `count` of an array of fixed size, zeros after them.
+// Rings in quarantine: the first `count` of an array of fixed size, since the layer has no heap, zeros after them.
 #[derive(Clone, Copy)]
 pub struct Quarantine {
     pub rings: [u64; RING_ROOM],

@@ -3,7 +3,7 @@ ghost use Rattle.std.specs.Prelude.{◌≡◌, ◌&&◌, ◌∷◌, [], ◌++◌
 ghost use Rattle.record_ring.specs.Rings.{RING-ROOM};
 ghost use Rattle.record_ring.specs.Store.{GIVEN-ROOM};
 ghost use Rattle.record_endpoint.specs.Order.{PLACES};
-ghost use Rattle.record_endpoint.specs.Endpoint.{rings_of, padded};
+ghost use Rattle.record_endpoint.specs.Endpoint.{rings_of};
 ghost use Rattle.record_checks.specs.Rings.{sound_rings};
 ghost use Rattle.record_checks.specs.Store.{sound_store};
 
@@ -11,7 +11,7 @@ use record_endpoint::Endpoint;
 use record_ring::RING_ROOM;
 
 // Control's ring, and behind it those of the endpoints.
-pub fn live_rings(eps: &[Endpoint], control: u64) -> [u64; RING_ROOM]
+fn live_rings(eps: &[Endpoint], control: u64) -> [u64; RING_ROOM]
     requires { length eps.now ≤ PLACES }
     ensures { (length result ≡ RING-ROOM) × (take (length eps.now + 1) result ≡ control ∷ rings_of eps.now) }
 {
@@ -25,7 +25,6 @@ pub fn live_rings(eps: &[Endpoint], control: u64) -> [u64; RING_ROOM]
 
 // Whether live and quarantined rings may stand together.
 fn together(usable: bool, live: &[u64], kept: &[u64]) -> bool
-    requires { (length live.now ≤ RING-ROOM) × (length kept.now ≤ RING-ROOM) }
     ensures { result ≡ sound_rings usable live.now kept.now }
 {
     (!usable || kept.is_empty())
@@ -51,19 +50,11 @@ pub fn rings_sound(
     quarantined: &[u64],
     given: &[u64],
 ) -> bool
-    requires { (length eps.now ≤ PLACES) × ((length quarantined.now ≤ RING-ROOM) × (length given.now ≤ GIVEN-ROOM)) }
+    requires { length eps.now ≤ PLACES }
     ensures { result ≡ (sound_rings usable (rings_of eps.now ++ (control ∷ [])) quarantined.now
         && sound_store given.now (rings_of eps.now ++ (control ∷ [])) quarantined.now) }
 {
     let rings = live_rings(eps, control);
     let live = &rings[..eps.len() + 1];
     together(usable, live, quarantined) && store_sound(given, live, quarantined)
-}
-
-// Some rings as all that are quarantined.
-pub fn quarantined_rings(rings: &[u64]) -> [u64; RING_ROOM]
-    requires { length rings.now ≤ PLACES }
-    ensures { result ≡ padded RING-ROOM 0 rings.now }
-{
-    record_endpoint::padded(rings, 0)
 }

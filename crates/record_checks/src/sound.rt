@@ -1,6 +1,5 @@
-// Whether the fields and arrays of a record are sound; an array holds a list in its first n words.
-ghost use Rattle.std.specs.Prelude.{◌≡◌, ◌≤◌, take};
-ghost use Rattle.record_endpoint.specs.Order.{PLACES};
+// Whether the fields and lists of a record are sound.
+ghost use Rattle.std.specs.Prelude.{◌≡◌, length};
 ghost use Rattle.record_endpoint.specs.EndpointMap.{endpoint_map_of};
 ghost use Rattle.record_endpoint.specs.Endpoint.{addresses};
 ghost use Rattle.record_settings.specs.Held.{held_by};
@@ -33,23 +32,16 @@ pub fn counts_fit(
         && given <= GIVEN_ROOM
 }
 
-// The list, and beside it the held settings and the endpoints: arrays beside their count, as the record has them.
-pub fn lists_sound(
-    list: &[u32],
-    settings: &Settings,
-    eps: [Endpoint; PLACES],
-    owners: [u8; PLACES],
-    count: usize,
-) -> bool
-    requires { count ≤ PLACES }
-    ensures { result ≡ sound_lists list.now (held_by settings.now) (addresses (take count eps)) (endpoint_map_of count eps owners) }
+// The list, and beside it the endpoints with their owners and the held settings.
+pub fn lists_sound(list: &[u32], settings: &Settings, eps: &[Endpoint], owners: &[u8]) -> bool
+    ensures { result ≡ sound_lists list.now (held_by settings.now) (addresses eps.now) (endpoint_map_of (length eps.now) eps.now owners.now) }
 {
     descriptor_list::valid_list(list)
         && settings.are_sound(list)
-        && record_endpoint::addresses_fit(eps, count)
+        && record_endpoint::addresses_fit(eps)
         && record_settings::endpoints_match(
             list,
             settings,
-            record_endpoint::endpoint_map_of(eps, owners, count),
+            record_endpoint::endpoint_map_of(eps, owners),
         )
 }

@@ -11,6 +11,7 @@ use borrow.Author.Tests.{eq-eqb, ne_eqb, eqb-true, eqb-false, lt-ltb, ltb-true, 
 use lib.Dec.{eqb, ltb}
 use lib.ListN.{length, get_or, set, take, drop, replicate, length-take, get_or-eq_default, length-append, length-replicate, get_or-replicate}
 use lib.Seq.{take-suc, take_all, append_snoc, set_at, get_or-set_same, get_or-set_other, length-take-le, get_or-take}
+use Rattle.std.proofs.lemmas.List.{drop-take}
 use Rattle.laws.proofs.Tests.{and_left, and_right, not_both}
 use Rattle.laws.proofs.Cases.{Decided, decided}
 use Rattle.laws.specs.Distinct.{elem}
@@ -117,6 +118,27 @@ pub clean_of :
     CleanMap (endpoint_map_of n eps owners)
 unfolding endpoint_map_of
 clean_of n eps owners h = clean_from n eps owners no_endpoints clean_none h
+
+-- The first n of two arrays have the map that the arrays have.
+rest_taken : {A : Type 0} (n : ℕ) (l : List A) → drop 1 (take (suc n) l) ≡ take n (drop 1 l)
+rest_taken n l = let e : 1 + n ≡ suc n = omega arith in rw e at (drop-take 1 n l)
+
+first_taken : {A : Type 0} (n : ℕ) (l : List A) (d : A) → get_or (take (suc n) l) 0 d ≡ get_or l 0 d
+first_taken n l d = get_or-take (suc n) l 0 d (omega arith)
+
+front_from :
+    (n : ℕ) (eps : List Endpoint) (owners : List ℕ) (c : EndpointMap) →
+    endpoint_map_from n (take n eps) (take n owners) c ≡ endpoint_map_from n eps owners c
+unfolding endpoint_map_from
+front_from zero eps owners c = refl
+front_from (suc n) eps owners c =
+    rw (rest_taken n eps, rest_taken n owners, first_taken n eps blank, first_taken n owners 0) (front_from n (drop 1 eps) (drop 1 owners) _)
+
+pub front_of :
+    (n : ℕ) (eps : List Endpoint) (owners : List ℕ) → n ≤ length eps →
+    endpoint_map_of (length (take n eps)) (take n eps) (take n owners) ≡ endpoint_map_of n eps owners
+unfolding endpoint_map_of
+front_of n eps owners h = rw (length-take-le n eps h) (front_from n eps owners no_endpoints)
 
 -- To arrays and back.
 

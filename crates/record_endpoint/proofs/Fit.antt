@@ -8,7 +8,7 @@ use native.Mathlib.Decide.{dec_lt}
 use native.Mathlib.Omega.{arith}
 use borrow.Author.Tests.{lt-ltb, le-ltb, eqb-true, eqb-false}
 use lib.Dec.{eqb, ltb}
-use lib.ListN.{length, get_or, set, take, drop, replicate, length-set, get_or-replicate, get_or-eq_default}
+use lib.ListN.{length, get_or, set, drop, replicate, length-set, get_or-replicate, get_or-eq_default}
 use lib.Seq.{get_or-set_same, get_or-set_other}
 use Rattle.laws.proofs.Cases.{Decided, decided}
 use Rattle.laws.specs.Distinct.{elem}
@@ -98,15 +98,15 @@ fit_all l = sym (fit_marked (replicate 30 false) l refl ∙ rw (unmarked_all l) 
     and_one true = refl
     and_one false = refl
 
-module _ (taken : List Bool) (eps : List Endpoint) (n i : ℕ) (room : n ≤ length eps) where
+module _ (taken : List Bool) (eps : List Endpoint) (i : ℕ) where
   pub fit_next :
-      i < n →
-      fit_from taken (drop i (addresses (take n eps)))
+      i < length eps →
+      fit_from taken (drop i (addresses eps))
       ≡ (ltb (place_of (get_or eps i blank).address) 30 && not (get_or taken (place_of (get_or eps i blank).address) false))
-      && fit_from (set taken (place_of (get_or eps i blank).address) true) (drop (i + 1) (addresses (take n eps)))
+      && fit_from (set taken (place_of (get_or eps i blank).address) true) (drop (i + 1) (addresses eps))
   unfolding fit_from
-  fit_next h = rw (addresses_next eps n i room h)
+  fit_next h = rw (addresses_next eps i h)
 
-  pub fit_none : n ≤ i → fit_from taken (drop i (addresses (take n eps))) ≡ true
+  pub fit_none : length eps ≤ i → fit_from taken (drop i (addresses eps)) ≡ true
   unfolding fit_from
-  fit_none h = rw (addresses_none eps n i room h)
+  fit_none h = rw (addresses_none eps i h)

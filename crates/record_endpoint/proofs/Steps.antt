@@ -11,7 +11,7 @@ use mathlib.Core.Logic.{inl, inr}
 use borrow.Author.Tests.{lt-ltb, le-ltb, eq-eqb, ne_eqb, eqb-true, eqb-false}
 use lib.Dec.{eqb, ltb}
 use lib.ListN.{length, get_or, set, take, drop, replicate, length-append, length-set, length-replicate, drop_of_length-le}
-use lib.Seq.{get_or-set_same, get_or-set_other, set-get_or, take-suc-set, take_all, take-append_seam, set-append_seam, set_out, drop-cons, drop-drop, get_or-drop, get_or-take, length-take-le}
+use lib.Seq.{get_or-set_same, get_or-set_other, set-get_or, take-suc-set, take_all, take-append_seam, set-append_seam, set_out, drop-cons, drop-drop, get_or-drop}
 use Rattle.laws.proofs.Cases.{Decided, decided}
 use Rattle.descriptor.specs.Word.{endpoint_descriptor}
 use Rattle.transfer.specs.Routes.{Queue}
@@ -385,18 +385,12 @@ addresses_at [] i = refl
 addresses_at (e ∷ eps) zero = refl
 addresses_at (e ∷ eps) (suc i) = addresses_at eps i
 
-module _ (eps : List Endpoint) (n i : ℕ) (room : n ≤ length eps) where
-  listed : length (addresses (take n eps)) ≡ n
-  listed = addresses_length (take n eps) ∙ length-take-le n eps room
+pub addresses_next :
+    (eps : List Endpoint) (i : ℕ) → i < length eps → drop i (addresses eps) ≡ (get_or eps i blank).address ∷ drop (i + 1) (addresses eps)
+addresses_next eps i h = rw (← addresses_at eps i, add-one i) (drop-cons (addresses eps) i 0 (rw (addresses_length eps) h))
 
-  pub addresses_next : i < n → drop i (addresses (take n eps)) ≡ (get_or eps i blank).address ∷ drop (i + 1) (addresses (take n eps))
-  addresses_next h =
-      let l = addresses (take n eps) in
-      let a : get_or l i 0 ≡ (get_or eps i blank).address = addresses_at (take n eps) i ∙ rw (get_or-take n eps i blank h) in
-      rw (← a, add-one i) (drop-cons l i 0 (rw listed h))
-
-  pub addresses_none : n ≤ i → drop i (addresses (take n eps)) ≡ []
-  addresses_none h = let g : length (addresses (take n eps)) ≤ i = rw listed h in drop_of_length-le (addresses (take n eps)) g
+pub addresses_none : (eps : List Endpoint) (i : ℕ) → length eps ≤ i → drop i (addresses eps) ≡ []
+addresses_none eps i h = let g : length (addresses eps) ≤ i = rw (addresses_length eps) h in drop_of_length-le (addresses eps) g
 
 -- `pending_rings`
 pending_step :

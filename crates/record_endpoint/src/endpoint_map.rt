@@ -1,5 +1,5 @@
 // The endpoints of a record by place: what the arrays say, whatever their order.
-ghost use Rattle.std.specs.Prelude.{◌≡◌, ◌<◌, ◌≤◌};
+ghost use Rattle.std.specs.Prelude.{◌≡◌, ◌<◌, length};
 ghost use Rattle.record_endpoint.specs.Order.{PLACES};
 ghost use Rattle.record_endpoint.specs.EndpointMap.{no_endpoints, endpoint_map_of, is_owned, owned_rings, with_active};
 
@@ -33,17 +33,15 @@ pub fn no_endpoints() -> EndpointMap
     }
 }
 
-// The map of the first n endpoints of the arrays, which stand beside their count in the record.
-pub fn endpoint_map_of(eps: [Endpoint; PLACES], owners: [u8; PLACES], n: usize) -> EndpointMap
-    requires { n ≤ PLACES }
-    ensures { result ≡ endpoint_map_of n eps owners }
+// The map of endpoints and their owners.
+pub fn endpoint_map_of(eps: &[Endpoint], owners: &[u8]) -> EndpointMap
+    ensures { result ≡ endpoint_map_of (length eps.now) eps.now owners.now }
 {
     let mut c = no_endpoints();
-    for i in 0..n {
-        let e = eps[i];
+    for (i, e) in eps.iter().enumerate() {
         if let Some(place) = order::place_of(e.address) {
             c.rings[place] = e.ring;
-            c.owners[place] = owners[i];
+            c.owners[place] = owners.get(i).copied().unwrap_or(0);
             c.active[place] = e.handle.is_active();
         }
     }

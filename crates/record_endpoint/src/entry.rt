@@ -1,6 +1,5 @@
 // The endpoint and owner arrays of a record, beside their count.
-ghost use Rattle.std.specs.Prelude.{◌≡◌, ◌≤◌, take};
-ghost use Rattle.record_endpoint.specs.Order.{PLACES};
+ghost use Rattle.std.specs.Prelude.{◌≡◌};
 ghost use Rattle.record_endpoint.specs.Endpoint.{addresses, addresses_fit};
 ghost use Rattle.record_endpoint.specs.EndpointMap.{EndpointsAs, handle_of, is_active};
 
@@ -42,7 +41,7 @@ pub struct Endpoint {
     pub handle: Handle,
 }
 
-// The arrays and the count of the record.
+// The arrays and the count of the record: arrays beside their count, since the layer has no heap.
 #[derive(Clone, Copy)]
 pub struct Endpoints {
     pub eps: [Endpoint; PLACES],
@@ -80,14 +79,13 @@ pub fn endpoints_of(c: EndpointMap) -> Endpoints
     }
 }
 
-// Whether each of the first n endpoints has an address that an endpoint can have, and no two the same.
-pub fn addresses_fit(eps: [Endpoint; PLACES], n: usize) -> bool
-    requires { n ≤ PLACES }
-    ensures { result ≡ addresses_fit (addresses (take n eps)) }
+// Whether each endpoint has an address that an endpoint can have, and no two the same.
+pub fn addresses_fit(eps: &[Endpoint]) -> bool
+    ensures { result ≡ addresses_fit (addresses eps.now) }
 {
     let mut taken = [false; PLACES];
-    for i in 0..n {
-        let Some(place) = order::place_of(eps[i].address) else {
+    for e in eps {
+        let Some(place) = order::place_of(e.address) else {
             return false;
         };
         if taken[place] {

@@ -1,14 +1,16 @@
 -- What callers use of rings.
 use Prim.Native.Nat.{ℕ, zero, suc, ◌%◌, ◌<◌}
-use mathlib.Core.Path.{◌≡◌, refl}
+use mathlib.Core.Path.{◌≡◌, refl, sym}
 use mathlib.Core.Logic.{◌⊎◌, inl, inr}
 use mathlib.Core.Bool.{true, false, not, ◌&&◌}
 use mathlib.Core.List.{List, [], ◌∷◌}
 use native.Mathlib.Omega.{arith}
-use borrow.Author.Tests.{eqb-true, eqb-false, not-true}
+use borrow.Author.Tests.{eq-eqb, ne_eqb, eqb-true, eqb-false, not-true}
 use lib.Dec.{eqb}
 use lib.ListN.{length, get_or}
 use Rattle.laws.proofs.Tests.{and_left, and_right}
+use Rattle.std.specs.List.{list_any}
+use Rattle.laws.proofs.Cases.{Decided, decided}
 use Rattle.laws.specs.Distinct.{elem, distinct}
 use Rattle.laws.proofs.Distinct.{elem_none, elem_here, elem_there, elem_cases}
 use Rattle.record_ring.specs.Rings.{ring_ok, rings_ok, disjoint, offer_ok}
@@ -76,3 +78,16 @@ offered count rings live control quarantined e =
       not_control = not-true (elem control rings) (and_left n q e4);
       not_quarantined = and_right n q e4;
     }
+
+-- Rings looked up as the library does.
+turned : (a b : ℕ) → eqb a b ≡ eqb b a
+turned a b = go (decided (eqb b a))
+  where
+    go : Decided (eqb b a) → eqb a b ≡ eqb b a
+    go (inl p) = rw p (eq-eqb a b (sym (eqb-true b a p)))
+    go (inr p) = rw p (ne_eqb a b (λ e. eqb-false b a p (sym e)))
+
+pub any_elem : (x : ℕ) (l : List ℕ) → list_any (λ y. eqb y x) l ≡ elem x l
+unfolding elem
+any_elem x [] = refl
+any_elem x (y ∷ l) = rw (turned y x, any_elem x l)

@@ -3,12 +3,12 @@
 
 mod store;
 
-ghost use Rattle.std.specs.Prelude.{◌≡◌, true, ◌&&◌, length, drop};
-ghost use Rattle.laws.specs.Distinct.{elem, distinct};
+ghost use Rattle.std.specs.Prelude.{◌≡◌, true, ◌&&◌, length};
+ghost use Rattle.laws.specs.Distinct.{distinct};
 ghost use Rattle.record_ring.specs.Rings.{ring_ok, rings_ok, not_among};
 ghost use Rattle.record_ring.specs.Struck.{PlaceIn};
 
-pub use store::{Free, GIVEN_ROOM, all_among, free_rings, given_fit, least};
+pub use store::{Free, GIVEN_ROOM, GivenRings, all_among, free_rings, given_fit, least};
 
 // How many rings a record may have: live, control's and quarantined.
 pub const RING_ROOM: usize = 61;
@@ -22,7 +22,8 @@ pub fn ring_ok(ring: u64) -> bool
     ring % 16 == 0
 }
 
-// Where a ring stands from an index on.
+// Where a ring stands from an index on. A loop: `position` after `skip(from)` takes 9 instructions more for each ring sought, after
+// `get(from..)` 3 more, and every call seeks each ring of its record.
 fn place_from(rings: &[u64], from: usize, ring: u64) -> Option<usize>
     ensures { PlaceIn rings.now from ring result }
 {
@@ -32,12 +33,6 @@ fn place_from(rings: &[u64], from: usize, ring: u64) -> Option<usize>
         }
     }
     None
-}
-
-pub fn has_ring(rings: &[u64], from: usize, ring: u64) -> bool
-    ensures { result ≡ elem ring (drop from rings.now) }
-{
-    place_from(rings, from, ring).is_some()
 }
 
 // Whether rings rise from one to the next, and are nonzero multiples of 16: then they fit.
@@ -54,12 +49,13 @@ fn rings_rise(rings: &[u64]) -> bool
     true
 }
 
-// Whether rings in any order are distinct nonzero multiples of 16.
+// Whether rings in any order are distinct nonzero multiples of 16. A loop: `all` over the same `enumerate()` has the same body in a closure,
+// to which the bound of `i + 1` would have to be given.
 fn rings_apart(rings: &[u64]) -> bool
     ensures { result ≡ (rings_ok rings.now && distinct rings.now) }
 {
     for (i, &ring) in rings.iter().enumerate() {
-        if !ring_ok(ring) || has_ring(rings, i + 1, ring) {
+        if !ring_ok(ring) || rings[i + 1..].contains(&ring) {
             return false;
         }
     }
@@ -80,8 +76,5 @@ pub fn rings_fit(rings: &[u64]) -> bool
 pub fn count_not_among(others: &[u64], rings: &[u64]) -> usize
     ensures { result ≡ length (not_among others.now rings.now) }
 {
-    rings
-        .iter()
-        .filter(|&&ring| !has_ring(others, 0, ring))
-        .count()
+    rings.iter().filter(|&ring| !others.contains(ring)).count()
 }

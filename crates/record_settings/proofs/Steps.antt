@@ -46,21 +46,12 @@ held_step m is is' alts alts' x a p q r s = rw (← p, ← q, ← r, ← s)
 first_drop : (i : ℕ) (l : List ℕ) → get_or (drop i l) 0 0 ≡ get_or l i 0
 first_drop i l = get_or-drop i l 0 0 ∙ rw (add-zero i)
 
-module _ (is : List ℕ) (n i : ℕ) where
-  less : i < n → n - i ≡ suc (n - (i + 1))
-  less h = omega arith
-
-  pub held_next :
-      (alts : List ℕ) → i < n →
-      held_in (n - i) (drop i is) (drop i alts) ≡ held_at is alts i ∷ held_in (n - (i + 1)) (drop (i + 1) is) (drop (i + 1) alts)
-  held_next alts h =
-      rw (less h)
-      (held_step (n - (i + 1)) (drop i is) (drop (i + 1) is) (drop i alts) (drop (i + 1) alts) (get_or is i 0) (get_or alts i 0)
-      (drop-drop 1 i is) (drop-drop 1 i alts) (first_drop i is) (first_drop i alts))
-
-  pub held_none : (alts : List ℕ) → n ≤ i → held_in (n - i) (drop i is) alts ≡ []
-  unfolding held_in
-  held_none alts h = let e : n - i ≡ zero = omega arith in rw e
+held_from :
+    (is alts : List ℕ) (k p : ℕ) →
+    held_in (suc k) (drop p is) (drop p alts) ≡ held_at is alts p ∷ held_in k (drop (p + 1) is) (drop (p + 1) alts)
+held_from is alts k p =
+    held_step k (drop p is) (drop (p + 1) is) (drop p alts) (drop (p + 1) alts) (get_or is p 0) (get_or alts p 0)
+    (drop-drop 1 p is) (drop-drop 1 p alts) (first_drop p is) (first_drop p alts)
 
 -- An interface is looked up among the first n.
 pub held_any :
@@ -98,18 +89,14 @@ held_position (suc n) (y ∷ ys) alts x h = rw (one-add k) (go (eqb y x) (held_p
     go true e = rw (lt-ltb 0 (suc m) (omega arith))
     go false e = rw (leb-suc-suc (suc k) m) (later (nat_lt k m) ∙ e)
 
--- The test of one setting.
-module _ (test : ℕ → ℕ → Bool) (is alts : List ℕ) (n i : ℕ) where
-  pub passed_next :
-      i < n →
-      each_setting test (held_in (n - i) (drop i is) (drop i alts))
-      ≡ test (get_or is i 0) (get_or alts i 0) && each_setting test (held_in (n - (i + 1)) (drop (i + 1) is) (drop (i + 1) alts))
-  unfolding each_setting
-  passed_next h = rw (held_next is n i alts h)
-
-  pub passed_none : n ≤ i → each_setting test (held_in (n - i) (drop i is) (drop i alts)) ≡ true
-  unfolding each_setting
-  passed_none h = rw (held_none is n i (drop i alts) h)
+-- The test of each setting from an index on.
+pub each_index :
+    (test : ℕ → ℕ → Bool) (is alts : List ℕ) (k p : ℕ) →
+    list_all (λ i. test (get_or is i 0) (get_or alts i 0)) (range_with_len p k) ≡ each_setting test (held_in k (drop p is) (drop p alts))
+unfolding held_in each_setting
+each_index test is alts zero p = refl
+each_index test is alts (suc k) p =
+    ap (λ b. test (get_or is p 0) (get_or alts p 0) && b) (each_index test is alts k (p + 1)) ∙ ap (each_setting test) (sym (held_from is alts k p))
 
 -- The first settings, one more.
 held_snoc : (k : ℕ) (is alts : List ℕ) → held_in (suc k) is alts ≡ held_in k is alts ++ (held_at is alts k ∷ [])

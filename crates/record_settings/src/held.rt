@@ -5,7 +5,8 @@ ghost use Rattle.record_settings.specs.Room.{HELD-ROOM};
 // How many settings a record has room for: one of each interface.
 pub const HELD_ROOM: usize = 32;
 
-// The first `count` interfaces and alternates. Two arrays of fixed size, since the record and its image have two.
+// The first `count` interfaces and alternates. Two arrays of fixed size, since the record and its image have two. They are walked by
+// index: an iterator of both, cut and zipped, would save two index expressions at each of four loops, and need a method with a contract.
 #[derive(Clone, Copy)]
 pub struct Settings {
     pub interfaces: [u8; HELD_ROOM],
@@ -48,7 +49,8 @@ impl Settings {
         Some(self.alternates[place])
     }
 
-    // Whether the interfaces are distinct and lookup finds their alternates.
+    // Whether the interfaces are distinct and lookup finds their alternates. A loop, since each interface is sought among those before it:
+    // `all` over the indices has the same body in a closure.
     pub fn are_sound(&self, list: &[u32]) -> bool
         ensures { result ≡ settings_sound list.now (held_by self.now) }
     {

@@ -7,7 +7,7 @@ pub fn setting_words<'a>(list: &'a [u32], interface: u8, alternate: u8) -> &'a [
     ensures { result.now ≡ setting_words list.now interface alternate }
 {
     match descriptor_list::find_interface_endpoints(list, interface, alternate) {
-        Some(words) => &list[words.start..words.start + words.count],
+        Some(words) => words.in_list(list),
         None => &[],
     }
 }

@@ -40,12 +40,12 @@ fn owners_held(settings: &Settings, c: EndpointMap) -> bool
 pub fn endpoints_match(list: &[u32], settings: &Settings, c: EndpointMap) -> bool
     ensures { result ≡ endpoints_match list.now (held_by settings.now) c }
 {
-    for i in 0..settings.count {
-        if !owns_places(list, settings.interfaces[i], settings.alternates[i], c) {
-            return false;
-        }
-    }
-    owners_held(settings, c)
+    (0..settings.count).all(|i| owns_places(
+        list,
+        settings.interfaces[i],
+        settings.alternates[i],
+        c,
+    )) && owners_held(settings, c)
 }
 
 // Whether a word's address has no endpoint of another interface.

@@ -7,31 +7,25 @@ use xhci_device::Answered;
 // Rings, hubs and a list, and then the numbers in the order of the parameters: slot, n, speed, has_parent, parent, port, root_port, header, packet,
 // value.
 fn bring_up(
-    rt: &impl Input,
+    rt: &(impl Input + Alloc),
     image: &mut [u64],
     ctx: &mut [u8],
     routes: &mut [u64],
     log: &mut [u32],
     outcomes: &[u8],
 ) -> io::Result<Answered> {
-    let mut rings = [0u64; replay_sample::RINGS_ROOM];
-    replay_sample::elements(rt, &mut rings, |w| w)?;
-    let given = replay_sample::count(rt, replay_sample::RINGS_ROOM)?;
-    let mut hubs = [0u64; replay_sample::HUBS_ROOM];
-    replay_sample::elements(rt, &mut hubs, |w| w)?;
-    let hubs_len = replay_sample::count(rt, replay_sample::HUBS_ROOM)?;
-    let mut list = [0u32; replay_sample::LIST_ROOM];
-    replay_sample::elements(rt, &mut list, |w| (w % 4294967296) as u32)?;
-    let list_len = replay_sample::count(rt, replay_sample::LIST_ROOM)?;
+    let rings = replay_sample::list(rt, replay_sample::RINGS_ROOM, |w| w)?;
+    let hubs = replay_sample::list(rt, replay_sample::HUBS_ROOM, |w| w)?;
+    let list = replay_sample::list(rt, replay_sample::LIST_ROOM, |w| (w % 4294967296) as u32)?;
     Ok(xhci_device::xhci_device_bring_up(
         image,
         ctx,
         routes,
         log,
         outcomes,
-        &rings[..given],
-        &hubs[..hubs_len],
-        &list[..list_len],
+        &rings,
+        &hubs,
+        &list,
         replay_sample::byte(rt)?,
         replay_sample::next(rt)? as usize,
         replay_sample::byte(rt)?,

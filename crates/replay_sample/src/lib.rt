@@ -7,5 +7,5 @@ mod show;
 mod sizes;
 
 pub use frame::replay;
-pub use read::{byte, count, elements, next, read_record, word};
+pub use read::{byte, list, next, read_record, word};
 pub use sizes::{HUBS_ROOM, LIST_ROOM, RINGS_ROOM};

@@ -1,5 +1,5 @@
 // Numbers from standard input, each 16 hexadecimal digits and a line's end.
-ghost use Rattle.std.specs.Prelude.{◌≤◌, IfOk};
+ghost use Rattle.std.specs.Prelude.{◌≤◌, IfOk, length};
 
 use std::io;
 use std::io::Read;
@@ -17,18 +17,25 @@ fn fill(rt: &impl Input, buf: &mut [u8]) -> io::Result<()> {
     Ok(())
 }
 
-// What are no digits say 0.
+// The low four bits of a byte before `a`; from there on the six digits `a` to `f` over and over.
+fn digit(b: u8) -> u64 {
+    u64::from(if b < b'a' {
+        b % 16
+    } else {
+        (b - b'a') % 6 + 10
+    })
+}
+
 fn value(digits: &[u8]) -> u64 {
-    match std::str::from_utf8(digits) {
-        Ok(text) => u64::from_str_radix(text, 16).unwrap_or(0),
-        Err(_) => 0,
-    }
+    digits.iter().fold(0, |v, b| v << 4 | digit(*b))
 }
 
 pub fn next(rt: &impl Input) -> io::Result<u64> {
-    let mut line = [0u8; 17];
-    fill(rt, &mut line)?;
-    Ok(value(&line[..16]))
+    let mut digits = [0u8; 16];
+    fill(rt, &mut digits)?;
+    let mut end = [0u8; 1];
+    fill(rt, &mut end)?;
+    Ok(value(&digits))
 }
 
 // A length, or an index, at most so much.
@@ -62,6 +69,21 @@ pub fn elements<T: Copy, F: Fn(u64) -> T>(
         }
     }
     Ok(())
+}
+
+// A list: the elements that are not 0, and then its length, at most so much.
+pub fn list<R: Input + Alloc, T: Copy, F: Fn(u64) -> T>(
+    rt: &R,
+    most: usize,
+    element: F,
+) -> io::Result<Vec<T, R::A>>
+    requires { F.IsAlwaysCallable element }
+    ensures { IfOk result (λ v. length v.items ≤ most) }
+{
+    let mut list = vec![in rt.alloc(); element(0); most]?;
+    elements(rt, &mut list, element)?;
+    list.truncate(count(rt, most)?);
+    Ok(list)
 }
 
 // The record of a call.

@@ -33,7 +33,7 @@ fn words(rt: &impl Print, label: &str, words: &[u64]) -> io::Result<()> {
     rt.print("\n")
 }
 
-// A call's answer, and what it left.
+// A call's answer, and what it left in each memory that was lent to it.
 pub fn left(
     rt: &impl Print,
     a: Answered,

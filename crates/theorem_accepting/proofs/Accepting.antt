@@ -1,5 +1,5 @@
 -- The statements of specs/Accepting.antt.
-use Prim.Native.Nat.{ℕ, suc, ◌+◌, ◌*◌, ◌<◌}
+use Prim.Native.Nat.{ℕ, ◌+◌, ◌*◌, ◌<◌}
 use mathlib.Core.Path.{◌≡◌, refl, sym, ap, ◌∙◌}
 use mathlib.Core.Bool.{true, false, cond}
 use mathlib.Core.List.{List, [], ◌∷◌, ◌++◌}
@@ -17,6 +17,7 @@ use Rattle.context_block.specs.Blocks.{word_dci, some_dci}
 use Rattle.context.specs.Steps.{word_dcis}
 use Rattle.transfer.specs.Routes.{route_of, queues, ring_for, OutsideSlot}
 use Rattle.transfer.proofs.Laws.{ring_for_none}
+use Rattle.laws.proofs.Stores.{get_d_second}
 use Rattle.record_endpoint.specs.Order.{dci_at, place_of}
 use Rattle.record_endpoint.specs.declared.endpoint_map.EndpointMap.{EndpointMap}
 use Rattle.record_endpoint.specs.declared.endpoint_map.Owner.TheVariants.{Interface}
@@ -25,7 +26,7 @@ use Rattle.record_endpoint.proofs.Laws.{place_dci, claimed_ring_lem}
 use Rattle.record_settings.specs.Held.{Held, is_held, setting_words, without_setting}
 use Rattle.record_settings.specs.Match.{has_place}
 use Rattle.record_settings.proofs.Laws.{held_with, alternate_with, has_place_lem, setting_place, match_facts, match_unheld}
-use Rattle.theorem_routing.proofs.Laws.{each_dci, words_dci, words_ring, low_kept, outside_kept, length_kept}
+use Rattle.theorem_routing.proofs.Laws.{free_ring, each_dci, words_dci, words_ring, low_kept, outside_kept, length_kept}
 use Rattle.course_steps.specs.End.{answer_of}
 use Rattle.device.specs.declared.record.Device.{Device}
 use Rattle.device.specs.Device.{list_of, endpoint_map_in, held_of}
@@ -40,7 +41,7 @@ use Rattle.device.proofs.Made.{made_usable, sound_clean}
 use Rattle.device.proofs.Kept.{claim_passed, set_value}
 use Rattle.device.proofs.Laws.{passed}
 use Rattle.theorem_accepting.specs.Accepting.{Ready, Enough, Accepted, ClaimAccepted, ReleaseAccepted, ReleaseBack, SetAccepted, SetAgain, HubAccepted}
-use Rattle.theorem_accepting.proofs.Back.{same_words_lem, setting_back, map_back, free_ring}
+use Rattle.theorem_accepting.proofs.Back.{same_words_lem, setting_back, map_back}
 use Rattle.theorem_accepting.proofs.Runs.{Ran, done_at, offer_nonzero, offer_places, claim_ran, release_ran, set_end, set_ends, set_ran}
 
 -- What a call that ran gives.
@@ -99,10 +100,6 @@ ready_next d l ctx log o check a b e =
     }
 
 -- The last word of a Dci gives it its ring.
-second : (l : List ℕ) (k : ℕ) → get_or (drop 1 l) k 0 ≡ get_or l (suc k) 0
-second [] k = refl
-second (x ∷ l) k = refl
-
 last_ring :
     (xs ys : List ℕ) (w : ℕ) (rings : List ℕ) (v : ℕ) → some_dci (word_dci w) ys ≡ false →
     ring_for (word_dci w) (queues (word_dcis (xs ++ (w ∷ ys))) rings) v ≡ get_or rings (length xs) 0
@@ -111,7 +108,7 @@ last_ring [] ys w rings v e =
     let rest = queues (word_dcis ys) (drop 1 rings) in
     ap (λ t. ring_for (word_dci w) rest (cond t (get_or rings 0 0) v)) (eq-eqb (word_dci w) (word_dci w) refl)
     ∙ ring_for_none (word_dci w) rest (get_or rings 0 0) (words_dci (word_dci w) ys (drop 1 rings) ∙ e)
-last_ring (x ∷ xs) ys w rings v e = last_ring xs ys w (drop 1 rings) _ e ∙ second rings (length xs)
+last_ring (x ∷ xs) ys w rings v e = last_ring xs ys w (drop 1 rings) _ e ∙ sym (get_d_second rings (length xs))
 
 -- An endpoint word's address has a place, and its Dci is that place's.
 word_dci_lem : (w : ℕ) → place_of (endpoint_descriptor w).address < 30 → dci_at (place_of (endpoint_descriptor w).address) ≡ word_dci w

@@ -2,25 +2,23 @@
 use Prim.Native.Nat.{ℕ, ◌+◌, ◌-◌, ◌*◌, ◌<◌}
 use mathlib.Core.Path.{◌≡◌, refl, sym, ap, ◌∙◌}
 use mathlib.Core.Logic.{inl, inr}
-use mathlib.Core.Bool.{Bool, true, false, not, cond, ◌||◌}
+use mathlib.Core.Bool.{Bool, true, false, not, cond}
 use mathlib.Core.List.{List, [], ◌∷◌, ◌++◌}
 use native.Mathlib.Decide.{dec_lt}
 use native.Mathlib.Omega.{arith}
-use borrow.Author.Tests.{eq-eqb, eqb-true}
+use borrow.Author.Tests.{eq-eqb}
 use lib.Dec.{eqb}
 use lib.ListN.{get_or, replicate, get_or-replicate}
 use lib.Seq.{ext_get_or}
-use Rattle.laws.proofs.Tests.{not_both}
 use Rattle.laws.proofs.Cases.{Decided, decided, or_none}
 use Rattle.transfer.specs.Routes.{route_index, route_of, OutsideSlot}
 use Rattle.record_endpoint.specs.declared.endpoint_map.EndpointMap.{EndpointMap}
 use Rattle.record_endpoint.specs.declared.endpoint_map.Owner.TheVariants.{Interface}
-use Rattle.record_endpoint.specs.EndpointMap.{is_owned, owns, claimed_ring, claimed_owner, claimed_active, claimed_endpoints}
+use Rattle.record_endpoint.specs.EndpointMap.{is_owned, claimed_ring, claimed_owner, claimed_active, claimed_endpoints}
 use Rattle.record_endpoint.proofs.Laws.{claimed_whole, claimed_ring_lem, claimed_owner_lem, claimed_active_lem}
 use Rattle.record_endpoint.proofs.Clean.{CleanMap}
 use Rattle.record_settings.specs.Held.{Held, is_held, without_setting, with_setting}
-use Rattle.record_settings.specs.Match.{has_place, addresses_free}
-use Rattle.record_settings.proofs.Laws.{free_at, without_unheld, claimed_owned}
+use Rattle.record_settings.proofs.Laws.{without_unheld, claimed_owned}
 
 -- A table that agrees with another outside a slot and at each of its Dcis is the same.
 pub same_words_lem :
@@ -116,15 +114,3 @@ module _ (i : ℕ) (pending : List ℕ) (c : EndpointMap) (clean : CleanMap c)
       (ext_get_or 0 two.rings c.rings (w.rings ∙ sym v.rings) (λ p h. ring_back p (omega (arith, w.rings))))
       (ext_get_or 0 two.owners c.owners (w.owners ∙ sym v.owners) (λ p h. owner_back p (omega (arith, w.owners))))
       (ext_get_or false two.active c.active (w.active ∙ sym v.active) (λ p h. active_back p (omega (arith, w.active))))
-
--- A free address of an interface without endpoints has no endpoint.
-pub free_ring :
-    (words : List ℕ) (i : ℕ) (c : EndpointMap) (p : ℕ) → addresses_free words i c ≡ true → p < 30 → has_place p words ≡ true →
-    is_owned (Interface i) c p ≡ false → get_or c.rings p 0 ≡ 0
-unfolding is_owned owns
-free_ring words i c p f h w o =
-    go (decided (eqb (get_or c.rings p 0) 0)) (free_at words i c p f w)
-  where
-    go : Decided (eqb (get_or c.rings p 0) 0) → (eqb (get_or c.rings p 0) 0 || eqb (get_or c.owners p 0) i) ≡ true → get_or c.rings p 0 ≡ 0
-    go (inl e) t = eqb-true (get_or c.rings p 0) 0 e
-    go (inr e) t = not_both (eqb (get_or c.owners p 0) i) (rw e at t) (rw e at o)

@@ -31,11 +31,11 @@ use Rattle.record_settings.specs.Match.{has_place}
 use Rattle.record_settings.proofs.Laws.{pending_place}
 use Rattle.theorem_routing.specs.Routing.{InTable, RoutedBy, Rerouted}
 use Rattle.theorem_routing.proofs.Laws.{claim_routed, release_routed, bare_routed, no_queues}
-use Rattle.course_steps.specs.End.{End, settings_moved}
+use Rattle.course_steps.specs.End.{End, settings_moved, published}
 use Rattle.course_steps.proofs.Laws.{length_dcis}
 use Rattle.course_claim.specs.Claim.{claim_course, claim_context}
 use Rattle.course_claim.proofs.Laws.{claim_accepted}
-use Rattle.course_release.specs.Release.{Release, release_course, release_context, release_configure, release_publish, release_published}
+use Rattle.course_release.specs.Release.{Release, release_course, release_context, release_configure, release_publish}
 use Rattle.course_set_configuration.specs.SetConfiguration.{set_course, value_context, drop_context}
 use Rattle.course_set_configuration.proofs.Laws.{set_accepted}
 use Rattle.device.specs.declared.record.Device.{Device}
@@ -131,7 +131,7 @@ module _ (a : Release) (routes o : List ℕ) where
   publish_done :
       (ctx : List ℕ) (n : ℕ) → replaced routes a.slot a.old [] ≡ Ok (tt {0}) →
       result o n (release_publish a ctx routes) ≡ settings_moved answer.Accepted ctx (with_replaced routes a.slot a.old [])
-  unfolding release_publish release_published result
+  unfolding release_publish published result
   publish_done ctx n r = rw r
 
   configure_done :

@@ -13,9 +13,8 @@ use Rattle.descriptor_list.specs.Valid.{configurations}
 use Rattle.answer.specs.declared.Answer.TheVariants as answer
 use Rattle.answer.specs.Answer.{number, is_accepted}
 use Rattle.command.specs.declared.Command.{Command}
-use Rattle.command.specs.declared.Sent.{Sent}
-use Rattle.command.specs.Command.{outcome_at}
-use Rattle.command.specs.Course.{Course, ends, sends, then, result, played}
+use Rattle.command.specs.Course.{Course, ends, result, played}
+use Rattle.command.proofs.EachEnd.{EachEnd, end_of, end_then}
 use Rattle.command.proofs.Cuts.{on_sent_lem}
 use Rattle.course_set_configuration.specs.SetConfiguration.{set_course}
 use Rattle.course_init.specs.Reading.{BringUp, control_ring, Reading, nothing_read, read_up_to, Brought, brought}
@@ -26,21 +25,6 @@ use Rattle.context.specs.Place.{spacing_of}
 use Rattle.device_bring_up.specs.BringUp.{bring_up_course, brought_record, brought_left, bring_up}
 use Rattle.device_bring_up.proofs.Laws.{Refused, Ran, bring_up_cases}
 use Rattle.theorem_accepting.specs.Accepting.{value_set}
-
--- Every end of a course.
-unfoldable EachEnd : {A : Type 0} → (A → Type 0) → Course A → Type 0
-EachEnd P (ends a) = P a
-EachEnd P (sends c ctx k) = (s : Sent) → EachEnd P (k s)
-
-end_of : {A : Type 0} (P : A → Type 0) (o : List ℕ) (n : ℕ) (c : Course A) → EachEnd P c → P (result o n c)
-unfolding EachEnd result
-end_of P o n (ends a) e = e
-end_of P o n (sends c ctx k) e = end_of P o (n + 1) (k (outcome_at o n)) (e (outcome_at o n))
-
-each_then : {A B : Type 0} (Q : B → Type 0) (c : Course A) (f : A → Course B) → ((a : A) → EachEnd Q (f a)) → EachEnd Q (then c f)
-unfolding EachEnd then
-each_then Q (ends a) f e = e a
-each_then Q (sends c ctx k) f e = λ s. each_then Q (k s) f e
 
 -- Where a bring-up is accepted.
 pub record Valued (a : BringUp) (b : Brought) : Type 0 where
@@ -66,7 +50,7 @@ module _ (a : BringUp) (spacing : ℕ) (routes : List ℕ) where
   set_valued : eqb (length a.list) 0 ≡ false → (ctx : List ℕ) → EachEnd (Valued a) (bring_up_set a spacing ctx routes)
   unfolding EachEnd bring_up_set bring_up_settings value_set
   set_valued some ctx =
-      each_then (Valued a) (set_course (bring_up_settings a spacing) ctx routes) _
+      end_then (Valued a) (set_course (bring_up_settings a spacing) ctx routes) _
       (λ e. record { configured = λ z. refl; value = λ z. rw (z, some) refl })
 
   configs_valued : eqb (length a.list) 0 ≡ false → (k i : ℕ) (ctx : List ℕ) → EachEnd (Valued a) (bring_up_configs a spacing k i ctx routes)

@@ -13,8 +13,9 @@ use Rattle.answer.specs.Check.{Check, Pass, Refuse}
 use Rattle.answer.specs.Answer.{number}
 use Rattle.command.specs.declared.Sent.{Sent}
 use Rattle.command.specs.declared.Sent.TheVariants as sent
-use Rattle.command.specs.Command.{outcome_at}
-use Rattle.command.specs.Course.{Course, ends, sends, on_sent, then, result}
+use Rattle.command.specs.Course.{Course, ends, result}
+use Rattle.command.proofs.Cuts.{each_outcome}
+use Rattle.command.proofs.EachEnd.{EachEnd, end_of, end_then}
 use Rattle.command.specs.Sweep.{stop_endpoints, resume_stopped_endpoints, or_code}
 use Rattle.descriptor_list.specs.Lookup.{find_endpoints}
 use Rattle.record_endpoint.specs.EndpointMap.{queue_dcis}
@@ -22,8 +23,8 @@ use Rattle.record_settings.specs.Held.{is_found, setting_words}
 use Rattle.record_settings.specs.Match.{addresses_free}
 use Rattle.transfer.specs.declared.RouteError.{RouteError}
 use Rattle.transfer.specs.Routes.{replaced}
-use Rattle.course_steps.specs.End.{End, settings_kept, answer_of}
-use Rattle.course_claim.specs.Claim.{Claim, claim_published, claim_publish, claim_switch_back, claim_undone, claim_undo, claim_switch, claim_resume, claim_configure, claim_course}
+use Rattle.course_steps.specs.End.{End, settings_kept, published, answer_of}
+use Rattle.course_claim.specs.Claim.{Claim, claim_publish, claim_switch_back, claim_undone, claim_undo, claim_switch, claim_resume, claim_configure, claim_course}
 use Rattle.device.specs.declared.record.Device.{Device}
 use Rattle.device.specs.Device.{list_of, endpoint_map_in, free_of}
 use Rattle.device.specs.Sound.{sound}
@@ -72,28 +73,6 @@ module _ (d : Device) (ctx routes log i a : ℕ) (z : Answer) (e : ask_check d c
   unfolding number
   not_outdated h = not_both (is_other z) other (ap is_other h)
 
--- Every end of a course.
-unfoldable EachEnd : {A : Type 0} → (A → Type 0) → Course A → Type 0
-EachEnd P (ends a) = P a
-EachEnd P (sends c ctx k) = (s : Sent) → EachEnd P (k s)
-
-each_result : {A : Type 0} (P : A → Type 0) (o : List ℕ) (n : ℕ) (c : Course A) → EachEnd P c → P (result o n c)
-unfolding EachEnd result
-each_result P o n (ends a) e = e
-each_result P o n (sends c ctx k) e = each_result P o (n + 1) (k (outcome_at o n)) (e (outcome_at o n))
-
-each_then : {A B : Type 0} (P : B → Type 0) (c : Course A) (f : A → Course B) → ((a : A) → EachEnd P (f a)) → EachEnd P (then c f)
-unfolding EachEnd then
-each_then P (ends a) f h = h a
-each_then P (sends c ctx k) f h = λ s. each_then P (k s) f h
-
-on_each : {A : Type 0} (P : A → Type 0) (s : Sent) (done : A) (failed : ℕ → A) (cut : A) → P done → ((code : ℕ) → P (failed code)) → P cut →
-    P (on_sent s done failed cut)
-unfolding on_sent
-on_each P sent.Done done failed cut d f c = d
-on_each P (sent.Failed code) done failed cut d f c = f code
-on_each P sent.Cut done failed cut d f c = c
-
 abbrev Current : End → Type 0
 Current e = eqb (number e.answer) 22 ≡ false
 
@@ -107,42 +86,42 @@ current_later code (sent.Failed later) = refl
 current_later code sent.Cut = refl
 
 module _ (a : Claim) where
-  published : (r : Result Unit RouteError) (ctx routes : List ℕ) → Current (claim_published r a ctx routes)
-  unfolding claim_published number
-  published (Ok _) ctx routes = refl
-  published (Err _) ctx routes = refl
+  moved : (r : Result Unit RouteError) (ctx routes : List ℕ) → Current (published r answer.InterfaceBroken a.args.slot.0 a.old a.pending ctx routes)
+  unfolding published number
+  moved (Ok _) ctx routes = refl
+  moved (Err _) ctx routes = refl
 
   undone : (b : Bool) (code : ℕ) (ctx routes : List ℕ) →
       CurrentEnds (cond b (claim_switch_back a code ctx routes) (ends (settings_kept (answer.Failed code) (length a.old) ctx routes)))
   unfolding EachEnd claim_switch_back number
-  undone true code ctx routes = λ s. on_each CurrentEnds s _ _ _ refl (λ later. refl) refl
+  undone true code ctx routes = each_outcome CurrentEnds _ _ _ refl (λ later. refl) refl
   undone false code ctx routes = refl
 
   undo : (code : ℕ) (ctx routes : List ℕ) → CurrentEnds (claim_undo a code ctx routes)
   unfolding EachEnd claim_undo claim_undone number
-  undo code ctx routes = λ s. on_each CurrentEnds s _ _ _ (undone (is_some a.args.held_alternate) code _ routes) (λ later. refl) refl
+  undo code ctx routes = each_outcome CurrentEnds _ _ _ (undone (is_some a.args.held_alternate) code _ routes) (λ later. refl) refl
 
   switched : (ctx routes : List ℕ) → CurrentEnds (claim_switch a ctx routes)
   unfolding EachEnd claim_switch claim_publish number
   switched ctx routes =
-      λ s. on_each CurrentEnds s _ _ _ (published (replaced routes a.args.slot.0 a.old a.pending) ctx routes) (λ code. undo code ctx routes) refl
+      each_outcome CurrentEnds _ _ _ (moved (replaced routes a.args.slot.0 a.old a.pending) ctx routes) (λ code. undo code ctx routes) refl
 
   resumed : (code : ℕ) (ctx routes : List ℕ) → CurrentEnds (claim_resume a code ctx routes)
   unfolding EachEnd claim_resume
-  resumed code ctx routes = each_then Current (resume_stopped_endpoints ctx (queue_dcis a.old)) _ (λ r. current_later code r.sent)
+  resumed code ctx routes = end_then Current (resume_stopped_endpoints ctx (queue_dcis a.old)) _ (λ r. current_later code r.sent)
 
   configured : (ctx routes : List ℕ) → CurrentEnds (claim_configure a ctx routes)
   unfolding EachEnd claim_configure number
-  configured ctx routes = λ s. on_each CurrentEnds s _ _ _ (switched _ routes) (λ code. resumed code _ routes) refl
+  configured ctx routes = each_outcome CurrentEnds _ _ _ (switched _ routes) (λ code. resumed code _ routes) refl
 
   claimed : (ctx routes : List ℕ) → CurrentEnds (claim_course a ctx routes)
   unfolding EachEnd claim_course number
   claimed ctx routes =
-      each_then Current (stop_endpoints ctx (queue_dcis a.old)) _
-      (λ r. on_each CurrentEnds r.sent _ _ _ (configured ctx routes) (λ code. refl) refl)
+      end_then Current (stop_endpoints ctx (queue_dcis a.old)) _
+      (λ r. each_outcome CurrentEnds _ _ _ (configured ctx routes) (λ code. refl) refl r.sent)
 
   pub claim_current : (o ctx routes : List ℕ) → (result o 0 (claim_course a ctx routes)).answer ≡ answer.OutdatedAsk → ⊥
   unfolding number
   claim_current o ctx routes h =
       not_both (eqb (number (result o 0 (claim_course a ctx routes)).answer) 22) (ap (λ x. eqb (number x) 22) h)
-      (each_result Current o 0 (claim_course a ctx routes) (claimed ctx routes))
+      (end_of Current o 0 (claim_course a ctx routes) (claimed ctx routes))

@@ -1,15 +1,15 @@
 -- What a claim, a release and a set configuration do to the routes of a slot.
 use Prim.Native.Nat.{ℕ, zero, suc, ◌+◌, ◌≤◌, ◌<◌}
 use mathlib.Core.Path.{◌≡◌, refl, sym, ap, ◌∙◌}
-use mathlib.Core.Logic.{◌⊎◌, inl, inr}
+use mathlib.Core.Logic.{inl, inr}
 use mathlib.Core.Bool.{Bool, true, false, not, cond, ◌||◌}
 use mathlib.Core.List.{List, [], ◌∷◌, ◌++◌}
 use native.Mathlib.Omega.{arith}
-use borrow.Author.Tests.{eq-eqb, ne_eqb, eqb-true, eqb-false, not-false}
+use borrow.Author.Tests.{eq-eqb, ne_eqb, eqb-true, eqb-false, not-true, not-false}
 use lib.Dec.{eqb}
 use lib.ListN.{length, get_or, drop, replicate, get_or-replicate}
 use Rattle.laws.proofs.Tests.{and-true, not_both}
-use Rattle.laws.proofs.Cases.{Decided, decided, or_left, or_right, or_cases}
+use Rattle.laws.proofs.Cases.{Decided, decided, or_left, or_right}
 use Rattle.record_ring.specs.Rings.{offer_ok}
 use Rattle.record_ring.proofs.Laws.{ring_at, ring_nonzero, offered}
 use Rattle.descriptor.specs.Word.{ENDPOINT, kind, word_ok, endpoint_descriptor}
@@ -133,23 +133,16 @@ owned_part who c p h z = go (decided (is_owned who c p))
     go (inr o) = absurd (z (owned_at who c p h ∙ rw o))
 
 -- A free address without an endpoint of the interface has none.
-free_none :
+pub free_ring :
     (words : List ℕ) (i : ℕ) (c : EndpointMap) (p : ℕ) → addresses_free words i c ≡ true → p < 30 → has_place p words ≡ true →
-    get_or (owned_rings (Interface i) c) p 0 ≡ 0 → get_or c.rings p 0 ≡ 0
+    is_owned (Interface i) c p ≡ false → get_or c.rings p 0 ≡ 0
 unfolding is_owned owns
-free_none words i c p f h w z =
-    go (or_cases (eqb ring 0) (eqb owner i) (free_at words i c p f w)) (decided (eqb ring 0))
+free_ring words i c p f h w o =
+    go (decided (eqb (get_or c.rings p 0) 0)) (free_at words i c p f w)
   where
-    ring : ℕ
-    ring = get_or c.rings p 0
-
-    owner : ℕ
-    owner = get_or c.owners p 0
-
-    go : (eqb ring 0 ≡ true) ⊎ (eqb owner i ≡ true) → Decided (eqb ring 0) → ring ≡ 0
-    go (inl e) d = eqb-true ring 0 e
-    go (inr e) (inl d) = eqb-true ring 0 d
-    go (inr e) (inr d) = sym (owned_at (Interface i) c p h ∙ rw (d, e)) ∙ z
+    go : Decided (eqb (get_or c.rings p 0) 0) → (eqb (get_or c.rings p 0) 0 || eqb (get_or c.owners p 0) i) ≡ true → get_or c.rings p 0 ≡ 0
+    go (inl e) t = eqb-true (get_or c.rings p 0) 0 e
+    go (inr e) t = not_both (eqb (get_or c.owners p 0) i) (rw e at t) (rw e at o)
 
 -- Interface i's queues replaced by pending ones: at each place.
 module _ (routes : List ℕ) (slot : ℕ) (i : ℕ) (pending : List ℕ) (c : EndpointMap) where
@@ -191,7 +184,8 @@ module _ (routes : List ℕ) (slot : ℕ) (i : ℕ) (pending : List ℕ) (c : En
       (free : addresses_free words i c ≡ true)
       (at : (p : ℕ) → p < 30 → (get_or pending p 0 ≡ 0 → ⊥) → has_place p words ≡ true) where
     claim_free : (p : ℕ) → p < 30 → (get_or pending p 0 ≡ 0 → ⊥) → get_or old p 0 ≡ 0 → get_or c.rings p 0 ≡ 0
-    claim_free p h z = free_none words i c p free h (at p h z)
+    claim_free p h z e =
+        free_ring words i c p free h (at p h z) (not-true (is_owned (Interface i) c p) (sym (owned_zero (Interface i) c p h) ∙ eq-eqb _ 0 e))
 
     pub claim_routed : Rerouted routes slot (queues_of old) (queues_of pending) (claimed_endpoints i pending c)
     unfolding claimed_ring

@@ -6,7 +6,7 @@ use mathlib.Core.Bool.{true, false, not, cond}
 use mathlib.Core.List.{List, [], ◌∷◌, ◌++◌}
 use mathlib.Core.Logic.{◌⊎◌, inl, inr, ◌↔◌}
 use native.Mathlib.Omega.{arith}
-use borrow.Author.Tests.{eq-eqb, ne_eqb, eqb-true, not-false}
+use borrow.Author.Tests.{eq-eqb, ne_eqb, not-false}
 use lib.Dec.{eqb}
 use lib.ListN.{length, get_or}
 use Rattle.laws.proofs.Tests.{not_both}
@@ -33,7 +33,7 @@ use Rattle.record_settings.specs.Held.{is_held, alternate_of, setting_words, wit
 use Rattle.record_settings.specs.Match.{has_place}
 use Rattle.record_settings.proofs.Laws.{match_facts, match_unheld}
 use Rattle.theorem_routing.specs.Routing.{NamedBy, Rerouted}
-use Rattle.theorem_routing.proofs.Laws.{each_dci, words_dci, claim_named, offer_places, offer_routed}
+use Rattle.theorem_routing.proofs.Laws.{free_ring, each_dci, words_dci, claim_named, offer_places, offer_routed}
 use Rattle.course_steps.specs.End.{End}
 use Rattle.theorem_controller.specs.Controller.{DISABLE, enabled_after}
 use Rattle.theorem_controller.proofs.Followed.{followed}
@@ -62,7 +62,7 @@ use Rattle.theorem_slot.proofs.Owned.{pending_by_place}
 use Rattle.theorem_slot.proofs.Record.{AgreeWith, draws_same}
 use Rattle.theorem_slot.proofs.Moved.{claim_keeps, agree_accepted, agree_broke}
 use Rattle.theorem_slot.proofs.Made.{fit_active, agree_made, made_moved, made_same, byte_dcis}
-use Rattle.theorem_slot.proofs.Claimed.{some_place, owned_ring, free_ring, fits_other, fits_own, pending_free, claimed_some}
+use Rattle.theorem_slot.proofs.Claimed.{some_place, owned_ring, fits_other, fits_own, pending_free, claimed_some}
 
 -- What was drawn meets what 01 asks of rings offered.
 offer_ok_lem :
@@ -231,8 +231,7 @@ module _ (slot : ℕ) (before : List ℕ) (s : State) (buffers : Buffers) (i a :
 
     idle : (q : ℕ) → q < 30 → eqb (get_or pending q 0) 0 ≡ false → is_owned (Interface i) (endpoint_map_in d) q ≡ false → get_or (endpoint_map_in d).rings q 0 ≡ 0
     idle q h z o =
-        eqb-true (get_or (endpoint_map_in d).rings q 0) 0
-        (free_ring new_words i (endpoint_map_in d) q tests.free h (not-false (has_place q new_words) (sym (places q h) ∙ z)) o)
+        free_ring new_words i (endpoint_map_in d) q tests.free h (not-false (has_place q new_words) (sym (places q h) ∙ z)) o
 
     -- The groups after each answer.
     accepted_groups : end.answer ≡ answer.Accepted → end.moved ≡ true → AgreeWith now.device now.plain.groups
@@ -299,7 +298,7 @@ module _ (slot : ℕ) (before : List ℕ) (s : State) (buffers : Buffers) (i a :
         claim_failed_enabled (claim_in d i a rings) buffers.ctx s.routes buffers.outcomes 0 spaced (dci_at q) (dci_low q h)
         (dci_high q h) p.enabled code e
         (λ o. was b f q h ∙ ap not (owned_ring i (endpoint_map_in d) q (sym (old_dci q h) ∙ o)))
-        (λ w o. was b f q h ∙ ap not (free_ring new_words i (endpoint_map_in d) q tests.free h (sym (new_dci q h) ∙ w) (sym (old_dci q h) ∙ o)))
+        (λ w o. was b f q h ∙ ap not (eq-eqb _ 0 (free_ring new_words i (endpoint_map_in d) q tests.free h (sym (new_dci q h) ∙ w) (sym (old_dci q h) ∙ o))))
         ∙ g.enabled b f (dci_at q) (dci_low q h) (dci_high q h))
 
     ended_good :

@@ -21,7 +21,7 @@ use Rattle.record_endpoint.specs.declared.endpoint_map.Owner.TheVariants.{Interf
 use Rattle.record_endpoint.proofs.Laws.{dci_low, dci_high, place_dci, claimed_ring_lem}
 use Rattle.record_settings.specs.Held.{setting_words}
 use Rattle.record_settings.specs.Match.{has_place, addresses_free}
-use Rattle.record_settings.proofs.Laws.{setting_place, claimed_owned, free_at, free_apart}
+use Rattle.record_settings.proofs.Laws.{setting_place, claimed_owned, free_apart}
 use Rattle.theorem_routing.proofs.Laws.{words_dci, words_name, words_ring}
 use Rattle.theorem_slot.specs.Plain.{HeldSetting, setting_of}
 use Rattle.theorem_slot.proofs.Settings.{Fits}
@@ -57,25 +57,6 @@ unfolding is_owned owns
 one_owner i j c p n o =
     let w : get_or c.owners p 0 ≡ i = eqb-true (get_or c.owners p 0) i (and_right (not (eqb (get_or c.rings p 0) 0)) _ o) in
     rw (ne_eqb (get_or c.owners p 0) j (λ e. n (sym w ∙ e))) (and-false (not (eqb (get_or c.rings p 0) 0)))
-
--- At a free address there is no endpoint, or the interface's.
-pub free_ring :
-    (words : List ℕ) (i : ℕ) (c : EndpointMap) (p : ℕ) → addresses_free words i c ≡ true → p < 30 → has_place p words ≡ true →
-    is_owned (Interface i) c p ≡ false → eqb (get_or c.rings p 0) 0 ≡ true
-unfolding is_owned owns
-free_ring words i c p free h w o =
-    go (or_cases (eqb ring 0) (eqb owner i) (free_at words i c p free w)) (decided (eqb ring 0))
-  where
-    ring : ℕ
-    ring = get_or c.rings p 0
-
-    owner : ℕ
-    owner = get_or c.owners p 0
-
-    go : (eqb ring 0 ≡ true) ⊎ (eqb owner i ≡ true) → Decided (eqb ring 0) → eqb ring 0 ≡ true
-    go (inl e) d = e
-    go (inr e) (inl d) = d
-    go (inr e) (inr d) = not_both true refl (rw (d, e) at o)
 
 -- The endpoints of another interface, after a claim of interface i with these pending rings.
 module _ (i j : ℕ) (pending : List ℕ) (c : EndpointMap) (p : ℕ) (h : p < 30) (n : i ≡ j → ⊥)

@@ -21,10 +21,10 @@ use Rattle.command.specs.Course.{Course, ends, on_sent, then, words, EndsWith}
 use Rattle.command.specs.Sweep.{stop_endpoints, resume_stopped_endpoints, stop_each, or_code}
 use Rattle.record_endpoint.specs.EndpointMap.{queue_dcis}
 use Rattle.transfer.specs.declared.RouteError.{RouteError}
-use Rattle.transfer.specs.Routes.{replaced}
-use Rattle.course_steps.specs.End.{End, settings_kept, answer_of, configure_failed}
-use Rattle.course_claim.specs.Claim.{Claim, claim_published, claim_publish, claim_switch_back, claim_undone, claim_undo, claim_switch, claim_resume, claim_configure, claim_course}
-use Rattle.course_release.specs.Release.{Release, release_published, release_publish, release_resume, release_configure, release_course}
+use Rattle.transfer.specs.Routes.{Queue, replaced}
+use Rattle.course_steps.specs.End.{End, settings_kept, published, move_routes, answer_of, configure_failed}
+use Rattle.course_claim.specs.Claim.{Claim, claim_publish, claim_switch_back, claim_undone, claim_undo, claim_switch, claim_resume, claim_configure, claim_course}
+use Rattle.course_release.specs.Release.{Release, release_publish, release_resume, release_configure, release_course}
 use Rattle.course_set_configuration.specs.SetConfiguration.{Settings, set_evaluate, set_published, set_publish, set_restored, set_restore, set_switch, set_resume, set_configure, set_course}
 use Rattle.course_disconnect.specs.Disconnect.{disable, disconnect_course}
 use Rattle.course_init.specs.Reading.{BringUp, Reading, Brought}
@@ -113,16 +113,21 @@ module _ (K : ℕ → Type 0) where
   abbrev pub TellsEnd : Course End → Type 0
   TellsEnd = Told FairEnd CutEnd K
 
+  -- routes moved as a last step
+  published_tells : {refused : Answer} → Fair K refused → (slot : ℕ) (old new : List Queue) (ctx routes : List ℕ) →
+      TellsEnd (ends (move_routes refused slot old new ctx routes))
+  unfolding Told published
+  published_tells {refused} f slot old new ctx routes = go (replaced routes slot old new)
+    where
+      go : (r : Result Unit RouteError) → Fair K (published r refused slot old new ctx routes).answer
+      go (Ok _) = fair_accepted
+      go (Err _) = f
+
   -- Claim.
   module _ (a : Claim) where
-    claim_published_lem : (r : Result Unit RouteError) (ctx routes : List ℕ) → Fair K (claim_published r a ctx routes).answer
-    unfolding claim_published
-    claim_published_lem (Ok _) ctx routes = fair_accepted
-    claim_published_lem (Err _) ctx routes = fair_broken
-
     claim_publish_lem : (ctx routes : List ℕ) → TellsEnd (claim_publish a ctx routes)
     unfolding Told claim_publish
-    claim_publish_lem ctx routes = claim_published_lem (replaced routes a.args.slot.0 a.old a.pending) ctx routes
+    claim_publish_lem ctx routes = published_tells fair_broken _ _ _ ctx routes
 
     module _ (code : ℕ) (k : K code) where
       claim_back : (ctx routes : List ℕ) → TellsEnd (claim_switch_back a code ctx routes)
@@ -166,14 +171,9 @@ module _ (K : ℕ → Type 0) where
 
   -- Release.
   module _ (a : Release) where
-    release_published_lem : (r : Result Unit RouteError) (ctx routes : List ℕ) → Fair K (release_published r a ctx routes).answer
-    unfolding release_published
-    release_published_lem (Ok _) ctx routes = fair_accepted
-    release_published_lem (Err _) ctx routes = fair_endpoint
-
     release_publish_lem : (ctx routes : List ℕ) → TellsEnd (release_publish a ctx routes)
     unfolding Told release_publish
-    release_publish_lem ctx routes = release_published_lem _ ctx routes
+    release_publish_lem ctx routes = published_tells fair_endpoint _ _ _ ctx routes
 
     release_resume_lem : (code : ℕ) → K code → (ctx routes : List ℕ) → TellsEnd (release_resume a code ctx routes)
     unfolding Told EndsWith release_resume configure_failed

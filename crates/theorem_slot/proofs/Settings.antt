@@ -10,7 +10,7 @@ use borrow.Author.Tests.{eqb-false}
 use lib.Dec.{eqb}
 use lib.ListN.{get_or}
 use Rattle.laws.proofs.Tests.{not_both}
-use Rattle.laws.proofs.Cases.{Decided, decided, false_if, or_none, or_cases}
+use Rattle.laws.proofs.Cases.{Decided, decided, false_if, or_cases}
 use Rattle.transfer.specs.Routes.{ring_for, names}
 use Rattle.record_endpoint.specs.Order.{dci_at}
 use Rattle.record_endpoint.specs.EndpointMap.{is_owned, owns}
@@ -145,14 +145,6 @@ pairs_without i (s ∷ ss) = go (eqb s.interface i) (pairs_without i ss)
         (record { interface = s.interface; alternate = s.alternate } ∷ without_setting i (pairs ss))
     go true e = e
     go false e = rw e
-
--- An interface without a setting loses none.
-pub without_none : (i : ℕ) (ss : List HeldSetting) → has_setting i ss ≡ false → without i ss ≡ ss
-unfolding without has_setting
-without_none i [] e = refl
-without_none i (s ∷ ss) e =
-    let n : (eqb s.interface i ≡ false) × (has_setting i ss ≡ false) = or_none (eqb s.interface i) (has_setting i ss) e in
-    rw (n.0, without_none i ss n.1)
 
 -- Settings that fit some endpoints fit others where each does.
 pub fit_other :

@@ -1,8 +1,7 @@
 -- One turn of each loop: what a definition says of the queues from the i-th on.
 use Prim.Native.Nat.{ℕ, zero, suc, ◌+◌, ◌-◌, ◌*◌, ◌≤◌, ◌<◌}
 use mathlib.Core.Path.{◌≡◌, refl, sym, ap, ◌∙◌}
-use mathlib.Core.Bool.{not, true, false, ◌&&◌, ◌||◌, or-true}
-use mathlib.Core.Logic.{◌⊎◌, inl, inr}
+use mathlib.Core.Bool.{Bool, not, true, false, ◌||◌}
 use mathlib.Core.List.{List, [], ◌∷◌}
 use native.Mathlib.Omega.{arith}
 use native.Mathlib.Nat.{add-zero}
@@ -11,9 +10,10 @@ use borrow.Author.Tests.{not-true, not-false}
 use lib.Dec.{eqb}
 use lib.ListN.{length, get_or, set, drop, replicate, drop_of_length-le}
 use lib.Seq.{sets}
+use Rattle.laws.proofs.Stores.{get_d_second}
 use Rattle.transfer.proofs.Laws.{invalid_replaced, full_replaced, done_replaced, error_kept, done_moved}
 use Rattle.std.specs.Prelude.{Ok, Err}
-use Rattle.std.specs.List.{list_any}
+use Rattle.std.specs.List.{list_any, list_all, enumerate_from}
 use Rattle.transfer.specs.declared.RouteError.TheVariants.{InvalidEndpoint, QueueFull}
 use Rattle.transfer.specs.Routes.{Queue, queues, names, route_index, route_of, with_route, old_match, is_free, new_free, cleared, published, replaced, with_replaced, without_slot}
 
@@ -21,10 +21,6 @@ length_queues : (ds rs : List ℕ) → length (queues ds rs) ≡ length ds
 unfolding queues
 length_queues [] rs = refl
 length_queues (d ∷ ds) rs = ap suc (length_queues ds (drop 1 rs))
-
-get_d_second : (rs : List ℕ) (i : ℕ) → get_or rs (suc i) 0 ≡ get_or (drop 1 rs) i 0
-get_d_second [] i = refl
-get_d_second (r ∷ rs) i = refl
 
 abbrev queue_at : List ℕ → List ℕ → ℕ → Queue
 queue_at ds rs i = record { dci = get_or ds i 0; ring = get_or rs i 0 }
@@ -43,37 +39,6 @@ module _ (ds rs : List ℕ) (i : ℕ) where
   rest_none h = let l : length (queues ds rs) ≤ i = rw (length_queues ds rs) h in drop_of_length-le (queues ds rs) l
 
   module _ (routes : List ℕ) (slot : ℕ) where
-    pub match_next : i < length ds → old_match routes slot (drop i (queues ds rs)) ≡ eqb (route_of routes slot (get_or ds i 0)) (get_or rs i 0) && old_match routes slot (drop (i + 1) (queues ds rs))
-    unfolding old_match
-    match_next h = rw (rest_next h)
-
-    pub match_none : length ds ≤ i → old_match routes slot (drop i (queues ds rs)) ≡ true
-    unfolding old_match
-    match_none h = rw (rest_none h)
-
-    free_next : (old : List Queue) → i < length ds → new_free routes slot old (drop i (queues ds rs)) ≡ is_free routes slot old (queue_at ds rs i) && new_free routes slot old (drop (i + 1) (queues ds rs))
-    unfolding new_free
-    free_next old h = rw (rest_next h)
-
-    -- A route that is an old endpoint's, its own ring or none is free, and no other.
-    module _ (old : List Queue) (h : i < length ds) (word ring : ℕ) (w : word ≡ route_of routes slot (get_or ds i 0)) (r : ring ≡ get_or rs i 0) where
-      is_free_lem : (names (get_or ds i 0) old ≡ true) ⊎ ((eqb word ring ≡ true) ⊎ (eqb word 0 ≡ true)) → is_free routes slot old (queue_at ds rs i) ≡ true
-      unfolding is_free
-      is_free_lem (inl a) = rw (a, or-true (eqb (route_of routes slot (get_or ds i 0)) 0))
-      is_free_lem (inr (inl o)) = rw (← w, ← r, o, or-true (eqb word 0 || names (get_or ds i 0) old))
-      is_free_lem (inr (inr z)) = rw (← w, z)
-
-      pub free_go : (names (get_or ds i 0) old ≡ true) ⊎ ((eqb word ring ≡ true) ⊎ (eqb word 0 ≡ true)) → new_free routes slot old (drop i (queues ds rs)) ≡ new_free routes slot old (drop (i + 1) (queues ds rs))
-      free_go f = free_next old h ∙ rw (is_free_lem f)
-
-      pub free_stop : names (get_or ds i 0) old ≡ false → eqb word ring ≡ false → eqb word 0 ≡ false → new_free routes slot old (drop i (queues ds rs)) ≡ false
-      unfolding is_free
-      free_stop a o z = free_next old h ∙ rw (← w, ← r, z, a, o)
-
-    pub free_none : (old : List Queue) → length ds ≤ i → new_free routes slot old (drop i (queues ds rs)) ≡ true
-    unfolding new_free
-    free_none old h = rw (rest_none h)
-
     pub publish_next : i < length ds → published routes slot (drop i (queues ds rs)) ≡ published (with_route routes slot (get_or ds i 0) (get_or rs i 0)) slot (drop (i + 1) (queues ds rs))
     unfolding published
     publish_next h = rw (rest_next h)
@@ -82,11 +47,53 @@ module _ (ds rs : List ℕ) (i : ℕ) where
     unfolding published
     publish_none h = rw (rest_none h)
 
+-- The tests of all queues, each by its index: what stands in rings from n on is in rs.
+module _ (routes : List ℕ) (slot : ℕ) (rings : List ℕ) where
+  shifted : (rs : List ℕ) (n : ℕ) → ((i : ℕ) → get_or rings (n + i) 0 ≡ get_or rs i 0) → (i : ℕ) → get_or rings (n + 1 + i) 0 ≡ get_or (drop 1 rs) i 0
+  shifted rs n h i =
+      let e : n + 1 + i ≡ n + suc i = omega arith in
+      ap (λ (k : ℕ). get_or rings k 0) e ∙ h (suc i) ∙ get_d_second rs i
+
+  first_ring : (rs : List ℕ) (n : ℕ) → ((i : ℕ) → get_or rings (n + i) 0 ≡ get_or rs i 0) → get_or rings n 0 ≡ get_or rs 0 0
+  first_ring rs n h = let e : n ≡ n + 0 = omega arith in ap (λ (k : ℕ). get_or rings k 0) e ∙ h 0
+
+  match_from : (ds rs : List ℕ) (n : ℕ) → ((i : ℕ) → get_or rings (n + i) 0 ≡ get_or rs i 0)
+      → list_all (λ (p : ℕ × ℕ). eqb (route_of routes slot p.1) (get_or rings p.0 0)) (enumerate_from n ds) ≡ old_match routes slot (queues ds rs)
+  unfolding queues old_match
+  match_from [] rs n h = refl
+  match_from (d ∷ ds) rs n h = rw (first_ring rs n h, match_from ds (drop 1 rs) (n + 1) (shifted rs n h))
+
+  pub match_all : (ds : List ℕ)
+      → list_all (λ (p : ℕ × ℕ). eqb (route_of routes slot p.1) (get_or rings p.0 0)) (enumerate_from 0 ds) ≡ old_match routes slot (queues ds rings)
+  match_all ds = match_from ds rings 0 (λ i. ap (λ (k : ℕ). get_or rings k 0) (omega arith))
+
+  free_from : (old : List Queue) (ds rs : List ℕ) (n : ℕ) → ((i : ℕ) → get_or rings (n + i) 0 ≡ get_or rs i 0)
+      → list_all (λ (p : ℕ × ℕ). is_free routes slot old (record { dci = p.1; ring = get_or rings p.0 0 })) (enumerate_from n ds) ≡ new_free routes slot old (queues ds rs)
+  unfolding queues new_free
+  free_from old [] rs n h = refl
+  free_from old (d ∷ ds) rs n h = rw (first_ring rs n h, free_from old ds (drop 1 rs) (n + 1) (shifted rs n h))
+
+  pub free_all : (old : List Queue) (ds : List ℕ)
+      → list_all (λ (p : ℕ × ℕ). is_free routes slot old (record { dci = p.1; ring = get_or rings p.0 0 })) (enumerate_from 0 ds) ≡ new_free routes slot old (queues ds rings)
+  free_all old ds = free_from old ds rings 0 (λ i. ap (λ (k : ℕ). get_or rings k 0) (omega arith))
+
 -- The endpoints that queues name are their Dcis.
-pub names_dcis : (d : ℕ) (ds rs : List ℕ) → list_any (λ y. eqb y d) ds ≡ names d (queues ds rs)
+names_dcis : (d : ℕ) (ds rs : List ℕ) → list_any (λ y. eqb y d) ds ≡ names d (queues ds rs)
 unfolding names queues
 names_dcis d [] rs = refl
 names_dcis d (e ∷ ds) rs = rw (names_dcis d ds (drop 1 rs))
+
+swap_last : (a b c : Bool) → (a || b) || c ≡ (a || c) || b
+swap_last true b c = refl
+swap_last false true true = refl
+swap_last false true false = refl
+swap_last false false true = refl
+swap_last false false false = refl
+
+pub is_free_test : (routes : List ℕ) (slot d ring : ℕ) (old : List ℕ) →
+    (eqb (route_of routes slot d) 0 || eqb (route_of routes slot d) ring) || list_any (λ y. eqb y d) old ≡ is_free routes slot (queues old []) (record { dci = d; ring = ring })
+unfolding is_free
+is_free_test routes slot d ring old = rw (names_dcis d old []) (swap_last (eqb (route_of routes slot d) 0) (eqb (route_of routes slot d) ring) (names d (queues old [])))
 
 -- Where only the endpoints of the queues count.
 names_rings : (d : ℕ) (ds rs : List ℕ) → names d (queues ds rs) ≡ names d (queues ds [])

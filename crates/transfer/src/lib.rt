@@ -58,27 +58,18 @@ pub fn register_queue(
 fn old_match(routes: &[u64], slot: SlotId, dcis: &[u8], rings: &[u64]) -> bool
     ensures { result ≡ old_match routes.now slot.0 (queues dcis.now rings.now) }
 {
-    for (i, &dci) in dcis.iter().enumerate() {
-        let word = word_at(routes, route_index(slot, Dci(dci)));
-        if word != word_at(rings, i) {
-            return false;
-        }
-    }
-    true
+    dcis.iter().enumerate().all(|(i, &dci)| word_at(routes, route_index(slot, Dci(dci)))
+        == word_at(rings, i))
 }
 
 // Whether each new endpoint's route is none, its own ring already, or an old endpoint's.
 fn new_free(routes: &[u64], slot: SlotId, old_dcis: &[u8], dcis: &[u8], rings: &[u64]) -> bool
     ensures { result ≡ new_free routes.now slot.0 (queues old_dcis.now []) (queues dcis.now rings.now) }
 {
-    for (i, &dci) in dcis.iter().enumerate() {
+    dcis.iter().enumerate().all(|(i, &dci)| {
         let word = word_at(routes, route_index(slot, Dci(dci)));
-        let ring = word_at(rings, i);
-        if word != 0 && word != ring && !old_dcis.contains(&dci) {
-            return false;
-        }
-    }
-    true
+        word == 0 || word == word_at(rings, i) || old_dcis.contains(&dci)
+    })
 }
 
 // Writes each endpoint's ring, or 0 where there is none; a word past the end is not written.

@@ -1,4 +1,5 @@
 // Blocks of a context on standard output.
+use super::memory::Context;
 use std::io;
 
 // The little-endian doubleword that begins at a place; nothing where the context ends before.
@@ -11,15 +12,15 @@ fn doubleword(rt: &impl Print, ctx: &[u8], at: usize) -> io::Result<()> {
 }
 
 // The eight doublewords of block number b, and after them the next one where blocks are 64 bytes apart.
-pub fn block(rt: &impl Print, label: &str, ctx: &[u8], spacing: usize, b: u8) -> io::Result<()> {
+pub fn block(rt: &impl Print, label: &str, c: &Context, b: u8) -> io::Result<()> {
     print!(rt; "{label}")?;
-    let at = spacing.saturating_mul(b as usize);
+    let at = c.spacing.saturating_mul(b as usize);
     for word in 0..8 {
-        doubleword(rt, ctx, at.saturating_add(4 * word))?;
+        doubleword(rt, c.bytes, at.saturating_add(4 * word))?;
     }
-    if spacing == 64 {
+    if c.spacing == 64 {
         print!(rt; " |")?;
-        doubleword(rt, ctx, at.saturating_add(32))?;
+        doubleword(rt, c.bytes, at.saturating_add(32))?;
     }
     println!(rt; "")
 }

@@ -1,36 +1,31 @@
 // Each step that writes a context, with the blocks that it touches and one that it does not.
-ghost use Rattle.std.specs.Prelude.{length};
-ghost use Rattle.context.specs.Place.{Spaced};
-
+use super::memory::Context;
 use super::show;
 use hub::Translator;
 use std::io;
 
 // Address of a Full speed device on port 20 of a High hub, over contents that are not zero.
-pub fn address(rt: &impl Print, ctx: &mut [u8], spacing: usize) -> io::Result<()>
-    requires { Spaced spacing (length ctx.old) }
-{
+pub fn address(rt: &impl Print, c: &mut Context) -> io::Result<()> {
     let t = Translator {
         slot_id: 5,
         multi: true,
         port: 20,
     };
-    context_writer::address_context(ctx, spacing, def::FULL, 0xf4, t, 3, 0x1_2345_6780);
+    context_writer::address_context(c.bytes, c.spacing, def::FULL, 0xf4, t, 3, 0x1_2345_6780);
     println!(rt; "Address")?;
-    show::block(rt, "control:", ctx, spacing, 0)?;
-    show::block(rt, "slot:", ctx, spacing, 1)?;
-    show::block(rt, "Dci 1:", ctx, spacing, 2)?;
-    show::block(rt, "Dci 31:", ctx, spacing, 32)
+    show::block(rt, "control:", c, 0)?;
+    show::block(rt, "slot:", c, 1)?;
+    show::block(rt, "Dci 1:", c, 2)?;
+    show::block(rt, "Dci 31:", c, 32)
 }
 
-pub fn header(rt: &impl Print, ctx: &mut [u8], spacing: usize) -> io::Result<()>
-    requires { Spaced spacing (length ctx.old) }
-{
-    context_writer::setup_max_packet(ctx, spacing, def::FULL, 0);
+#[tactic(auto, unfolding(def::specs::Speed::exponent_ok, def::specs::Speed::is_super))]
+pub fn header(rt: &impl Print, c: &mut Context) -> io::Result<()> {
+    context_writer::setup_max_packet(c.bytes, c.spacing, def::FULL, 0);
     println!(rt; "header byte 0")?;
-    show::block(rt, "control:", ctx, spacing, 0)?;
-    show::block(rt, "Dci 1:", ctx, spacing, 2)?;
-    show::block(rt, "Dci 31:", ctx, spacing, 32)
+    show::block(rt, "control:", c, 0)?;
+    show::block(rt, "Dci 1:", c, 2)?;
+    show::block(rt, "Dci 31:", c, 32)
 }
 
 // 0x81, interrupt, size 64, packets 1, interval 4.
@@ -43,12 +38,10 @@ const BULK: u32 = 0x8520_0000;
 const ISOCHRONOUS: u32 = 0xa6bf_fc04;
 
 // Document 01's Dci 3 case where the block is zero.
-pub fn claim_one(rt: &impl Print, ctx: &mut [u8], spacing: usize) -> io::Result<()>
-    requires { Spaced spacing (length ctx.old) }
-{
+pub fn claim_one(rt: &impl Print, c: &mut Context) -> io::Result<()> {
     context_writer::prepare_configure_context(
-        ctx,
-        spacing,
+        c.bytes,
+        c.spacing,
         def::HIGH,
         0,
         1,
@@ -59,17 +52,15 @@ pub fn claim_one(rt: &impl Print, ctx: &mut [u8], spacing: usize) -> io::Result<
         &[0u8; 0],
     );
     println!(rt; "claim of 0x81, interrupt")?;
-    show::block(rt, "control:", ctx, spacing, 0)?;
-    show::block(rt, "slot:", ctx, spacing, 1)?;
-    show::block(rt, "Dci 3:", ctx, spacing, 4)
+    show::block(rt, "control:", c, 0)?;
+    show::block(rt, "slot:", c, 1)?;
+    show::block(rt, "Dci 3:", c, 4)
 }
 
-pub fn claim_two(rt: &impl Print, ctx: &mut [u8], spacing: usize) -> io::Result<()>
-    requires { Spaced spacing (length ctx.old) }
-{
+pub fn claim_two(rt: &impl Print, c: &mut Context) -> io::Result<()> {
     context_writer::prepare_configure_context(
-        ctx,
-        spacing,
+        c.bytes,
+        c.spacing,
         def::HIGH,
         0,
         2,
@@ -80,26 +71,22 @@ pub fn claim_two(rt: &impl Print, ctx: &mut [u8], spacing: usize) -> io::Result<
         &[3],
     );
     println!(rt; "claim of 0x02, bulk, and 0x83, isochronous, for 0x81")?;
-    show::block(rt, "control:", ctx, spacing, 0)?;
-    show::block(rt, "slot:", ctx, spacing, 1)?;
-    show::block(rt, "Dci 3:", ctx, spacing, 4)?;
-    show::block(rt, "Dci 4:", ctx, spacing, 5)?;
-    show::block(rt, "Dci 7:", ctx, spacing, 8)
+    show::block(rt, "control:", c, 0)?;
+    show::block(rt, "slot:", c, 1)?;
+    show::block(rt, "Dci 3:", c, 4)?;
+    show::block(rt, "Dci 4:", c, 5)?;
+    show::block(rt, "Dci 7:", c, 8)
 }
 
-pub fn configuration(rt: &impl Print, ctx: &mut [u8], spacing: usize) -> io::Result<()>
-    requires { Spaced spacing (length ctx.old) }
-{
-    context_writer::configuration_context(ctx, 9);
+pub fn configuration(rt: &impl Print, c: &mut Context) -> io::Result<()> {
+    context_writer::configuration_context(c.bytes, 9);
     println!(rt; "configuration 9")?;
-    show::block(rt, "control:", ctx, spacing, 0)
+    show::block(rt, "control:", c, 0)
 }
 
-pub fn hub(rt: &impl Print, ctx: &mut [u8], spacing: usize, speed: u8, think: u8) -> io::Result<()>
-    requires { Spaced spacing (length ctx.old) }
-{
-    context_writer::hub_context(ctx, spacing, speed, 4, false, think);
+pub fn hub(rt: &impl Print, c: &mut Context, speed: u8, think: u8) -> io::Result<()> {
+    context_writer::hub_context(c.bytes, c.spacing, speed, 4, false, think);
     println!(rt; "hub of 4 ports, not multi")?;
-    show::block(rt, "slot:", ctx, spacing, 1)?;
-    show::block(rt, "Dci 31:", ctx, spacing, 32)
+    show::block(rt, "slot:", c, 1)?;
+    show::block(rt, "Dci 31:", c, 32)
 }

@@ -12,7 +12,7 @@ use std::io::Read;
 // The most that is read.
 const ROOM: u64 = 16384;
 
-// The descriptors of one device.
+// The descriptors of one device. The functions for C write to lent memory, and return how much they wrote.
 fn run(rt: &impl Print, bytes: &[u8]) -> io::Result<()> {
     let mut words = [0u32; 256];
     let r = xhci_descriptors::xhci_device_read_descriptors(bytes, &mut words);
@@ -29,14 +29,16 @@ fn run(rt: &impl Print, bytes: &[u8]) -> io::Result<()> {
 }
 
 // The devices of a text: the lines of one, and an empty one.
-fn devices<A: Allocator>(rt: &impl Print, alloc: A, input: &str) -> io::Result<()> {
+fn devices<A: Allocator>(rt: &impl Print, alloc: A, input: &[u8]) -> io::Result<()> {
     let mut bytes = Vec::new(alloc);
-    for line in input.lines() {
+    for line in input.split_inclusive(|b| *b == b'\n') {
+        let line = line.strip_suffix(b"\n").unwrap_or(line);
         if line.is_empty() {
             run(rt, &bytes)?;
             bytes.clear();
-        } else if line.starts_with('#') {
-            rt.println(line)?;
+        } else if line[0] == b'#' {
+            rt.write_all(line)?;
+            rt.print("\n")?;
         } else {
             text::put_line(line, &mut bytes)?;
         }
@@ -45,6 +47,7 @@ fn devices<A: Allocator>(rt: &impl Print, alloc: A, input: &str) -> io::Result<(
 }
 
 fn main(rt: HostRuntime) -> io::Result<()> {
-    let lines = io::read_to_string(rt.alloc(), rt.reader().take(ROOM))?;
+    let mut lines = Vec::new(rt.alloc());
+    rt.reader().take(ROOM).read_to_end(&mut lines)?;
     devices(&rt, rt.alloc(), &lines)
 }

@@ -3,17 +3,26 @@ ghost use Rattle.std.specs.Prelude.{◌<◌};
 
 use std::alloc::{AllocError, Allocator};
 
-// The value of a digit, 0 of what is none.
+// The most bytes of one device.
+const ROOM: usize = 1024;
+
+// As crates/replay_sample reads a digit, which is over another library.
 fn digit(b: u8) -> u8
     ensures { result < 16 }
 {
-    (b as char).to_digit(16).unwrap_or(0) as u8
+    if b < b'a' {
+        b % 16
+    } else {
+        (b - b'a') % 6 + 10
+    }
 }
 
-// Puts the bytes of a line behind others.
-pub fn put_line<A: Allocator>(line: &str, bytes: &mut Vec<u8, A>) -> Result<(), AllocError> {
-    for digits in line.as_bytes().chunks_exact(2) {
-        bytes.push(digit(digits[0]) * 16 + digit(digits[1]))?;
+// Puts the bytes of a line behind others, as many as there is room for.
+pub fn put_line<A: Allocator>(line: &[u8], bytes: &mut Vec<u8, A>) -> Result<(), AllocError> {
+    for digits in line.chunks_exact(2) {
+        if bytes.len() < ROOM {
+            bytes.push(digit(digits[0]) * 16 + digit(digits[1]))?;
+        }
     }
     Ok(())
 }

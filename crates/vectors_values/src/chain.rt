@@ -1,5 +1,5 @@
 // Chains of hubs accepted, and refused for each reason; routes, translators and think times.
-use super::out;
+use super::yes_or_no;
 use std::io;
 
 const PRESENT: u64 = 0x8000_0000_0000_0000;
@@ -24,10 +24,9 @@ const MULTI: u64 = 0xc041d30280000000;
 const ORPHAN: u64 = 0x80004b0100000000;
 
 fn alone(rt: &impl Print) -> io::Result<()> {
-    out::text(rt, "no parent:")?;
-    out::truth(rt, hub::chain_ok(&[ROOT], None))?;
-    out::hex(rt, hub::route_string(&[ROOT], None, 7) as u64)?;
-    out::end(rt)
+    let verdict = yes_or_no(hub::chain_ok(&[ROOT], None));
+    let route = hub::route_string(&[ROOT], None, 7);
+    println!(rt; "no parent: {verdict} 0x{route:x}")
 }
 
 // The verdict on a chain, then route, and slot, multi and port of the translator of a Full speed device.
@@ -38,18 +37,18 @@ fn chain_line(
     parent: usize,
     port: u8,
 ) -> io::Result<()> {
-    out::text(rt, label)?;
-    out::truth(rt, hub::chain_ok(hubs, Some(parent)))?;
-    out::hex(rt, hub::route_string(hubs, Some(parent), port) as u64)?;
+    let verdict = yes_or_no(hub::chain_ok(hubs, Some(parent)));
+    let route = hub::route_string(hubs, Some(parent), port);
     let t = hub::transaction_translator(def::FULL, hubs, Some(parent), port);
-    out::number(rt, t.slot_id as u64)?;
-    out::truth(rt, t.multi)?;
-    out::number(rt, t.port as u64)?;
-    out::end(rt)
+    let multi = yes_or_no(t.multi);
+    println!(rt;
+        "{label} {verdict} 0x{route:x} {} {multi} {}",
+        t.slot_id, t.port
+    )
 }
 
 pub fn accepted(rt: &impl Print) -> io::Result<()> {
-    out::text(rt, "verdict, route, translator's slot, multi, port\n")?;
+    println!(rt; "verdict, route, translator's slot, multi, port")?;
     shallow(rt)?;
     deep(rt)?;
     alone(rt)
@@ -76,9 +75,7 @@ fn deep(rt: &impl Print) -> io::Result<()> {
 }
 
 fn refusal(rt: &impl Print, label: &str, hubs: &[u64], parent: usize) -> io::Result<()> {
-    out::text(rt, label)?;
-    out::truth(rt, hub::chain_ok(hubs, Some(parent)))?;
-    out::end(rt)
+    println!(rt; "{label} {}", yes_or_no(hub::chain_ok(hubs, Some(parent))))
 }
 
 pub fn refused(rt: &impl Print) -> io::Result<()> {
@@ -117,25 +114,23 @@ fn too_many(rt: &impl Print) -> io::Result<()> {
     let hubs = [ROOT; 257];
     refusal(rt, "256 hubs:", &hubs[0..256], 0)?;
     refusal(rt, "257 hubs:", &hubs, 0)?;
-    out::text(rt, "257 hubs, no parent:")?;
-    out::truth(rt, hub::chain_ok(&hubs, None))?;
-    out::end(rt)
+    println!(rt;
+        "257 hubs, no parent: {}",
+        yes_or_no(hub::chain_ok(&hubs, None))
+    )
 }
 
 fn think(rt: &impl Print, ns: u32) -> io::Result<()> {
     match hub::think_time(ns) {
-        Some(v) => out::number(rt, v as u64),
-        None => out::text(rt, " refused"),
+        Some(v) => print!(rt; " {v}"),
+        None => print!(rt; " refused"),
     }
 }
 
 pub fn think_times(rt: &impl Print) -> io::Result<()> {
-    out::text(
-        rt,
-        "think times of 0, 1, 665, 666, 1331, 1332, 3329, 3330 ns:",
-    )?;
+    print!(rt; "think times of 0, 1, 665, 666, 1331, 1332, 3329, 3330 ns:")?;
     for ns in [0, 1, 665, 666, 1331, 1332, 3329, 3330] {
         think(rt, ns)?;
     }
-    out::end(rt)
+    println!(rt; "")
 }

@@ -1,73 +1,72 @@
 // Packet sizes, intervals, Dcis, types, bursts and payloads.
 use super::list::endpoint;
-use super::out;
+use super::yes_or_no;
 use descriptor::TransferType;
 use std::io;
 
 fn header_size(rt: &impl Print, speed: u8, byte: u8) -> io::Result<()> {
     if def::exponent_ok(speed, byte) {
-        out::number(rt, def::header_packet_size(speed, byte) as u64)
+        print!(rt; " {}", def::header_packet_size(speed, byte))
     } else {
-        out::text(rt, " none")
+        print!(rt; " none")
     }
 }
 
-fn header_sizes(rt: &impl Print, speed: u8) -> io::Result<()> {
+fn header_sizes(rt: &impl Print, label: &str, speed: u8) -> io::Result<()> {
+    print!(rt; "{label}")?;
     for byte in [0, 8, 9, 64, 255] {
         header_size(rt, speed, byte)?;
     }
-    out::end(rt)
+    println!(rt; "")
 }
 
 fn first_sizes(rt: &impl Print) -> io::Result<()> {
-    out::text(rt, "first packet sizes at speeds 0 to 6:")?;
+    print!(rt; "first packet sizes at speeds 0 to 6:")?;
     for speed in 0..=6 {
         let size = def::parse_default_max_packet_size_from_port_speed(speed);
-        out::number(rt, size as u64)?;
+        print!(rt; " {size}")?;
     }
-    out::end(rt)
+    println!(rt; "")
 }
 
 fn known_speeds(rt: &impl Print) -> io::Result<()> {
-    out::text(rt, "speeds 0, 1, 5 and 6 are known:")?;
+    print!(rt; "speeds 0, 1, 5 and 6 are known:")?;
     for speed in [0, 1, 5, 6] {
-        out::truth(rt, def::speed_known(speed))?;
+        print!(rt; " {}", yes_or_no(def::speed_known(speed)))?;
     }
-    out::end(rt)
+    println!(rt; "")
 }
 
 pub fn packet_sizes(rt: &impl Print) -> io::Result<()> {
     first_sizes(rt)?;
     known_speeds(rt)?;
-    out::text(rt, "packet sizes of header bytes 0, 8, 9, 64, 255:")?;
-    header_sizes(rt, def::HIGH)?;
-    out::text(rt, "  at SuperSpeed:")?;
-    header_sizes(rt, def::SUPER)?;
-    out::text(rt, "  at SuperSpeedPlus:")?;
-    header_sizes(rt, def::SUPER_PLUS)
+    header_sizes(
+        rt,
+        "packet sizes of header bytes 0, 8, 9, 64, 255:",
+        def::HIGH,
+    )?;
+    header_sizes(rt, "  at SuperSpeed:", def::SUPER)?;
+    header_sizes(rt, "  at SuperSpeedPlus:", def::SUPER_PLUS)
 }
 
-fn interval_line(rt: &impl Print, t: TransferType, speed: u8) -> io::Result<()> {
+fn interval_line(rt: &impl Print, label: &str, t: TransferType, speed: u8) -> io::Result<()> {
+    print!(rt; "{label}")?;
     for byte in [0, 1, 2, 3, 16, 17, 255] {
         let interval = descriptor_periodic::calculate_xhci_interval(byte, t, speed);
-        out::number(rt, interval as u64)?;
+        print!(rt; " {interval}")?;
     }
-    out::end(rt)
+    println!(rt; "")
 }
 
 fn intervals_at(rt: &impl Print, speed: u8) -> io::Result<()> {
-    out::text(rt, "speed")?;
-    out::number(rt, speed as u64)?;
-    out::text(rt, ", interrupt:")?;
-    interval_line(rt, TransferType::Interrupt, speed)?;
-    out::text(rt, "  isochronous:")?;
-    interval_line(rt, TransferType::Isochronous, speed)?;
-    out::text(rt, "  bulk:")?;
-    interval_line(rt, TransferType::Bulk, speed)
+    print!(rt; "speed {speed}")?;
+    interval_line(rt, ", interrupt:", TransferType::Interrupt, speed)?;
+    interval_line(rt, "  isochronous:", TransferType::Isochronous, speed)?;
+    interval_line(rt, "  bulk:", TransferType::Bulk, speed)
 }
 
 pub fn intervals(rt: &impl Print) -> io::Result<()> {
-    out::text(rt, "intervals of bytes 0, 1, 2, 3, 16, 17, 255\n")?;
+    println!(rt; "intervals of bytes 0, 1, 2, 3, 16, 17, 255")?;
     for speed in def::FULL..=def::SUPER_PLUS {
         intervals_at(rt, speed)?;
     }
@@ -79,29 +78,19 @@ fn endpoint_line(rt: &impl Print, w: u32, speed: u8) -> io::Result<()> {
     let e = descriptor::endpoint_descriptor(w);
     let t = e.transfer_type;
     let dci = descriptor::endpoint_address_dci(e.address);
+    let kind = descriptor_periodic::endpoint_type(t, e.address);
+    let interval = descriptor_periodic::calculate_xhci_interval(e.interval, t, speed);
+    let size = e.max_packet_size;
     let burst = descriptor_periodic::periodic_burst_size(t, e.packets_per_microframe, speed);
-    out::text(rt, "endpoint:")?;
-    out::hex(rt, e.address as u64)?;
-    out::number(rt, dci.0 as u64)?;
-    out::number(rt, descriptor_periodic::endpoint_type(t, e.address) as u64)?;
-    out::number(
-        rt,
-        descriptor_periodic::calculate_xhci_interval(e.interval, t, speed) as u64,
-    )?;
-    out::number(rt, e.max_packet_size as u64)?;
-    out::number(rt, burst as u64)?;
-    out::number(
-        rt,
-        descriptor_periodic::max_esit_payload(e.max_packet_size, burst) as u64,
-    )?;
-    out::end(rt)
+    let payload = descriptor_periodic::max_esit_payload(size, burst);
+    println!(rt;
+        "endpoint: 0x{:x} {} {kind} {interval} {size} {burst} {payload}",
+        e.address, dci.0
+    )
 }
 
 pub fn endpoints(rt: &impl Print) -> io::Result<()> {
-    out::text(
-        rt,
-        "address, Dci, EP type, interval, packet size, burst, payload\n",
-    )?;
+    println!(rt; "address, Dci, EP type, interval, packet size, burst, payload")?;
     let lines = [
         (endpoint(1, 1, 3, 64, 1, 4), def::HIGH),
         (endpoint(1, 1, 3, 64, 0, 4), def::HIGH),
@@ -114,9 +103,9 @@ pub fn endpoints(rt: &impl Print) -> io::Result<()> {
     for (w, speed) in lines {
         endpoint_line(rt, w, speed)?;
     }
-    out::text(rt, "Dcis of addresses 0x01, 0x81, 0x0f, 0x8f:")?;
+    print!(rt; "Dcis of addresses 0x01, 0x81, 0x0f, 0x8f:")?;
     for address in [0x01, 0x81, 0x0f, 0x8f] {
-        out::number(rt, descriptor::endpoint_address_dci(address).0 as u64)?;
+        print!(rt; " {}", descriptor::endpoint_address_dci(address).0)?;
     }
-    out::end(rt)
+    println!(rt; "")
 }

@@ -1,5 +1,5 @@
 // Valid lists, lists refused for each reason, lists at each limit, and lookup.
-use super::out;
+use super::yes_or_no;
 use descriptor_list::EndpointWords;
 use std::io;
 
@@ -14,7 +14,7 @@ fn alternate(interface: u8, setting: u8) -> u32 {
     0x4000_0000 + (interface as u32) * 0x40_0000 + (setting as u32) * 0x4000
 }
 
-// An endpoint word; what does not fit a field is cut.
+// An endpoint word, with a parameter for each field; what does not fit one is cut.
 pub fn endpoint(input: u32, number: u32, kind: u32, size: u32, packets: u32, interval: u32) -> u32 {
     0x8000_0000
         + input % 2 * 0x2000_0000
@@ -27,9 +27,7 @@ pub fn endpoint(input: u32, number: u32, kind: u32, size: u32, packets: u32, int
 
 // Whether a list is valid, after its description.
 fn case(rt: &impl Print, label: &str, list: &[u32]) -> io::Result<()> {
-    out::text(rt, label)?;
-    out::truth(rt, descriptor_list::valid_list(list))?;
-    out::end(rt)
+    println!(rt; "{label} {}", yes_or_no(descriptor_list::valid_list(list)))
 }
 
 pub fn valid(rt: &impl Print) -> io::Result<()> {
@@ -138,15 +136,10 @@ fn interface_limit(rt: &impl Print) -> io::Result<()> {
 }
 
 fn find(rt: &impl Print, label: &str, list: &[u32], interface: u8, setting: u8) -> io::Result<()> {
-    out::text(rt, label)?;
     match descriptor_list::find_interface_endpoints(list, interface, setting) {
-        Some(EndpointWords { start, count }) => {
-            out::number(rt, start as u64)?;
-            out::number(rt, count as u64)?;
-        }
-        None => out::text(rt, " not found")?,
+        Some(EndpointWords { start, count }) => println!(rt; "{label} {start} {count}"),
+        None => println!(rt; "{label} not found"),
     }
-    out::end(rt)
 }
 
 pub fn lookup(rt: &impl Print) -> io::Result<()> {

@@ -4,10 +4,13 @@
 mod chain;
 mod endpoint;
 mod list;
-mod out;
 mod route;
 
 use std::io;
+
+fn yes_or_no(b: bool) -> &'static str {
+    if b { "yes" } else { "no" }
+}
 
 fn main(rt: HostRuntime) -> io::Result<()> {
     endpoint::packet_sizes(&rt)?;

@@ -1,42 +1,36 @@
 // The route table: registering, replacing, and each refusal.
-use super::out;
 use def::{Dci, SlotId};
 use std::io;
 use transfer::RouteError;
 
-// The words of Dcis 1 to 4 of slot 1.
-fn slot_words(rt: &impl Print, routes: [u64; 64]) -> io::Result<()> {
+// What came of it, and the words of Dcis 1 to 4 of slot 1.
+fn routed(
+    rt: &impl Print,
+    label: &str,
+    r: Result<(), RouteError>,
+    routes: [u64; 64],
+) -> io::Result<()> {
+    let outcome = match r {
+        Ok(()) => "done",
+        Err(RouteError::InvalidEndpoint) => "invalid endpoint",
+        Err(RouteError::QueueFull) => "queue full",
+    };
+    print!(rt; "{label} {outcome};")?;
     for word in &routes[33..37] {
-        out::hex(rt, *word)?;
+        print!(rt; " 0x{word:x}")?;
     }
-    out::end(rt)
-}
-
-fn routed(rt: &impl Print, r: Result<(), RouteError>) -> io::Result<()> {
-    match r {
-        Ok(()) => out::text(rt, " done;"),
-        Err(RouteError::InvalidEndpoint) => out::text(rt, " invalid endpoint;"),
-        Err(RouteError::QueueFull) => out::text(rt, " queue full;"),
-    }
+    println!(rt; "")
 }
 
 pub fn table(rt: &impl Print) -> io::Result<()> {
     let mut routes = [0u64; 64];
-    out::text(rt, "register Dci 1:")?;
-    routed(
-        rt,
-        transfer::register_queue(&mut routes, SlotId(1), Dci::CTRL, 0x1000),
-    )?;
-    slot_words(rt, routes)?;
-    out::text(rt, "register Dci 1 again:")?;
-    routed(
-        rt,
-        transfer::register_queue(&mut routes, SlotId(1), Dci::CTRL, 0x2000),
-    )?;
-    slot_words(rt, routes)
+    let first = transfer::register_queue(&mut routes, SlotId(1), Dci::CTRL, 0x1000);
+    routed(rt, "register Dci 1:", first, routes)?;
+    let again = transfer::register_queue(&mut routes, SlotId(1), Dci::CTRL, 0x2000);
+    routed(rt, "register Dci 1 again:", again, routes)
 }
 
-// Replaces two endpoints by two others in a table where Dcis 1 to 3 are taken.
+// Replaces two endpoints by two others in a table where Dcis 1 to 3 are taken. Dcis and rings stand apart, as `replace_queues` takes them.
 fn replace(
     rt: &impl Print,
     label: &str,
@@ -49,12 +43,8 @@ fn replace(
     routes[33] = 0x1000;
     routes[34] = 0x20;
     routes[35] = 0x30;
-    out::text(rt, label)?;
-    routed(
-        rt,
-        transfer::replace_queues(&mut routes, SlotId(1), &old, &old_rings, &new, &new_rings),
-    )?;
-    slot_words(rt, routes)
+    let r = transfer::replace_queues(&mut routes, SlotId(1), &old, &old_rings, &new, &new_rings);
+    routed(rt, label, r, routes)
 }
 
 pub fn replacements(rt: &impl Print) -> io::Result<()> {

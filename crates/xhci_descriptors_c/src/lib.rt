@@ -1,4 +1,5 @@
-// The static library of the reader and the writer of raw descriptors for C (host/include/xhci_device.h).
+// The static library of the reader and the writer of raw descriptors for C (host/include/xhci_device.h): each export calls the function of its name,
+// since no crate can use an archive.
 #![tactic(auto)]
 
 ghost use Rattle.std.specs.Prelude.{◌≡◌};

@@ -1,4 +1,4 @@
-// A claim in two calls: the ask, which shows what it would do, and the commit.
+// A claim in two calls: the ask, which shows what it would do, and the commit. The parameters, and `Shown`, are those of the C interface.
 ghost use Rattle.std.specs.Prelude.{◌≡◌, ◌≤◌, length};
 ghost use Rattle.device.specs.Ask.{asking, commit};
 ghost use Rattle.device_image.specs.Image.{decode, is_image};
@@ -7,6 +7,8 @@ ghost use Rattle.xhci_device.specs.Ask.{in_front, shown_of, asked_in};
 
 use super::returned;
 use answer::Answered;
+use device::Asked;
+use record_checks::Lengths;
 use record_endpoint::PLACES;
 
 // What an ask returns beside the rings. Of a refused one all but the answer is 0.
@@ -47,7 +49,12 @@ pub fn xhci_device_ask(
 {
     let d = device_image::decode(image);
     let room = if rings.len() < PLACES { 0 } else { log };
-    let p = d.ask(ctx, routes, room, interface, alternate);
+    let l = Lengths {
+        ctx,
+        routes,
+        log: room,
+    };
+    let p = d.ask(l, interface, alternate);
     put_rings(rings, &p.rings[..p.count]);
     Shown {
         answer: u32::from(answer::answer_number(p.answer)),
@@ -77,8 +84,13 @@ pub fn xhci_device_commit(
         image.old ctx.old routes.old log.old }
 {
     let d = device_image::decode(image);
-    let called = d.commit(
-        ctx, routes, log, outcomes, interface, alternate, drops, adds, rings,
-    );
+    let asked = Asked {
+        interface,
+        alternate,
+        drops,
+        adds,
+        rings,
+    };
+    let called = d.commit(ctx, routes, log, outcomes, asked);
     returned::finish(called, image)
 }

@@ -1,4 +1,4 @@
-// The claim of an interface's alternate setting.
+// The claim of an interface's alternate setting. Its parameters are those of the C interface.
 ghost use Rattle.device.specs.Claim.{claim};
 ghost use Rattle.device_image.specs.Image.{decode, is_image};
 ghost use Rattle.xhci_device.specs.Crossed.{crosses, CrossedAs};

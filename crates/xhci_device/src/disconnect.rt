@@ -1,4 +1,4 @@
-// The unplugging of a device.
+// The unplugging of a device. Its parameters are those of the C interface.
 ghost use Rattle.device.specs.Disconnect.{disconnect};
 ghost use Rattle.device_image.specs.Image.{decode, is_image};
 ghost use Rattle.xhci_device.specs.Crossed.{crosses, CrossedAs};

@@ -1,4 +1,4 @@
-// The hub update.
+// The hub update. Its parameters are those of the C interface.
 ghost use Rattle.device.specs.Calls.{hub_update};
 ghost use Rattle.device_image.specs.Image.{is_set, decode, is_image};
 ghost use Rattle.xhci_device.specs.Crossed.{crosses, CrossedAs};

@@ -1,4 +1,5 @@
-// The calls that crates/xhci_device_c exports to C: the record as an image in a buffer that the caller lends.
+// The calls that crates/xhci_device_c exports to C: the record as an image in a buffer that the caller lends. There is a function here for each
+// export, since a crate is a library or an archive.
 #![tactic(auto)]
 
 mod ask;

@@ -1,4 +1,4 @@
-// The bring-up of a slot, which makes its record.
+// The bring-up of a slot, which makes its record. The parameters are those of the C interface.
 ghost use Rattle.std.specs.Prelude.{◌≡◌, eqb, length};
 ghost use Rattle.course_init.specs.Reading.{bring_up_of};
 ghost use Rattle.device_bring_up.specs.BringUp.{bring_up};

@@ -1,4 +1,4 @@
-// The release of an interface.
+// The release of an interface. Its parameters are those of the C interface.
 ghost use Rattle.device.specs.Release.{release};
 ghost use Rattle.device_image.specs.Image.{decode, is_image};
 ghost use Rattle.xhci_device.specs.Crossed.{crosses, CrossedAs};

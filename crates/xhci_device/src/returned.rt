@@ -1,4 +1,4 @@
-// What a call returns, and the record that it leaves.
+// What a call returns, and the record that it leaves. The five calls on a record and the commit differ in the call alone, and each is an export.
 ghost use Rattle.std.specs.Prelude.{◌≡◌, false, cond, eqb, length};
 ghost use Rattle.device_image.specs.Layout.{WORDS};
 ghost use Rattle.device_image.specs.Image.{FixedIn, stored};

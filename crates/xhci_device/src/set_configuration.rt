@@ -1,4 +1,4 @@
-// The setting of a configuration, which ends all held settings.
+// The setting of a configuration, which ends all held settings. Its parameters are those of the C interface.
 ghost use Rattle.device.specs.SetConfiguration.{set_configuration};
 ghost use Rattle.device_image.specs.Image.{decode, is_image};
 ghost use Rattle.xhci_device.specs.Crossed.{crosses, CrossedAs};

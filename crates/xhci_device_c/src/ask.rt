@@ -1,4 +1,4 @@
-// A claim in two calls: the ask, which shows what it would do, and the commit.
+// A claim in two calls: the ask, which shows what it would do, and the commit. The parameters are those of the C interface.
 ghost use Rattle.std.specs.Prelude.{◌≡◌, length};
 ghost use Rattle.device.specs.Ask.{asking, commit};
 ghost use Rattle.device_image.specs.Image.{decode, is_image};

@@ -1,4 +1,4 @@
-// The calls on a slot, but for the claim in two steps.
+// The calls on a slot, but for the claim in two steps. The parameters are those of the C interface.
 ghost use Rattle.std.specs.Prelude.{eqb, length};
 ghost use Rattle.device.specs.Claim.{claim};
 ghost use Rattle.device.specs.Release.{release};

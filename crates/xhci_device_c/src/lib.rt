@@ -1,4 +1,5 @@
-// The static library of the calls for C (host/include/xhci_device.h): each export calls the function of its name.
+// The static library of the calls for C (host/include/xhci_device.h): each export calls the function of its name, with the same parameters, since no
+// crate can use an archive.
 #![tactic(auto)]
 
 mod ask;

@@ -1,6 +1,3 @@
-use Rattle.std.proofs.Common.{ap, ◌∙◌}
-use Rattle.std.proofs.lemmas.List.{take_all}
-use Rattle.context_block.specs.Flags.{flags_of}
 use Rattle.context_block.proofs.Flags.{no_flags, flag_next}
 use Rattle.context_block.proofs.word_flags.Goals as goal
 
@@ -9,6 +6,3 @@ loop-w-init c = no_flags
 
 pub loop-w-preserved : goal.loop-w-preserved
 loop-w-preserved c = flag_next _ _ _ _ c.loop-w-test.true c.word_dci.ensures.0 c.word_dci.ensures.1 c.loop-w.invariant
-
-pub returns : goal.returns
-returns c = c.loop-w.invariant ∙ ap flags_of (take_all c.loop-w.w-index c.args.words.now c.loop-w-test.false)

@@ -5,18 +5,6 @@ use Rattle.context_field.specs.Field.{with_bits, write_field}
 use Rattle.context_field.proofs.Laws.{bits_below, word_pasted}
 use Rattle.context_field.proofs.put_field.Goals as goal
 
-pub overflow_mul-x : goal.overflow_mul-x
-overflow_mul-x c = omega (arith, bits_below _ _ _ c.args.value _ _ _ c.requires.1.1 c.word_at-d.ensures.1 c.power-end.ensures.0 c.power-scale.ensures.0 c.power-span.ensures.0)
-
-pub overflow_mul-x-2 : goal.overflow_mul-x-2
-overflow_mul-x-2 c = omega (arith, bits_below _ _ _ c.args.value _ _ _ c.requires.1.1 c.word_at-d.ensures.1 c.power-end.ensures.0 c.power-scale.ensures.0 c.power-span.ensures.0)
-
-pub overflow_add-x : goal.overflow_add-x
-overflow_add-x c = omega (arith, bits_below _ _ _ c.args.value _ _ _ c.requires.1.1 c.word_at-d.ensures.1 c.power-end.ensures.0 c.power-scale.ensures.0 c.power-span.ensures.0)
-
-pub overflow_add-x-2 : goal.overflow_add-x-2
-overflow_add-x-2 c = omega (arith, bits_below _ _ _ c.args.value _ _ _ c.requires.1.1 c.word_at-d.ensures.1 c.power-end.ensures.0 c.power-scale.ensures.0 c.power-span.ensures.0)
-
 pub overflow_cast-x : goal.overflow_cast-x
 overflow_cast-x c = omega (arith, bits_below _ _ _ c.args.value _ _ _ c.requires.1.1 c.word_at-d.ensures.1 c.power-end.ensures.0 c.power-scale.ensures.0 c.power-span.ensures.0)
 

@@ -2,16 +2,14 @@ use mathlib.Core.Path.{refl}
 use Rattle.command.specs.Course.{on_sent}
 use Rattle.command.proofs.Phases.{Begins, continued, went_on}
 use Rattle.course_steps.proofs.Laws.{ended}
-use Rattle.course_claim.specs.Claim.{claim_of, claim_publish, claim_switch}
-use Rattle.course_claim.proofs.Laws.{published_lem}
+use Rattle.course_claim.specs.Claim.{claim_publish, claim_switch}
 use Rattle.course_claim.proofs.switch.Goals as goal
 
 pub returns-in-Done : goal.returns-in-Done
 unfolding claim_switch claim_publish on_sent Begins continued
 returns-in-Done c =
     went_on _ _ _ _ _ refl c.send.ensures c.in-Done.is
-    (rw (published_lem (claim_of c.args.a c.args.old_words.now c.args.new_words.now)) at
-    (c.publish.ensures c.args.outcomes.now c.args.ctx.now c.send.new.log))
+    (c.publish.ensures c.args.outcomes.now c.args.ctx.now c.send.new.log)
 
 pub returns-in-Failed : goal.returns-in-Failed
 unfolding claim_switch on_sent Begins continued

@@ -1,6 +1,7 @@
-use mathlib.Core.Path.{refl}
+use mathlib.Core.Path.{refl, ap}
 use mathlib.Core.List.{[]}
 use native.Mathlib.Omega.{arith}
+use lib.ListN.{length}
 use Rattle.std.proofs.Math.ListN.{length-take}
 use Rattle.command.specs.Course.{on_sent, then}
 use Rattle.command.specs.Sweep.{stop_each}
@@ -14,7 +15,7 @@ use Rattle.course_disconnect.proofs.disconnect.Goals as goal
 pub disable-requires : goal.disable-requires
 disable-requires c =
     let few = stops_count _ _ _ _ 1 _ (rw c.in-Ok.is at (c.stop_each.ensures [])) in
-    omega (arith, few, length-take c.args.q.count c.args.q.dcis, c.args.q.fits, c.requires, c.stop_each.auto.log, c.send.auto.log)
+    omega (arith, few, ap length c.dcis.ensures, length-take c.args.q.count c.args.q.dcis, c.args.q.fits, c.requires, c.stop_each.auto.log, c.send.auto.log)
 
 pub returns-in-Cut : goal.returns-in-Cut
 unfolding disconnect_course stop_each then on_sent Begins continued
@@ -24,10 +25,11 @@ returns-in-Cut c =
 pub returns-in-Ok : goal.returns-in-Ok
 unfolding dcis_in
 returns-in-Ok c =
-    λ ctx. stopped _ _ _ ctx _ _ _ _ _ c.send.ensures c.in_default.not-Cut (rw c.in-Ok.is at (c.stop_each.ensures ctx)) (c.disable.ensures ctx)
+    λ ctx. rw (← c.dcis.ensures) (stopped _ _ _ ctx _ _ _ _ _ c.send.ensures c.in_default.not-Cut (rw c.in-Ok.is at (c.stop_each.ensures ctx))
+    (c.disable.ensures ctx))
 
 pub returns-in-Err : goal.returns-in-Err
 unfolding dcis_in
 returns-in-Err c =
-    λ ctx. stopped _ _ _ ctx _ _ _ _ _ c.send.ensures c.in_default.not-Cut (rw c.in-Err.is at (c.stop_each.ensures ctx))
-    (ended _ c.settings_kept-in-Err.ensures)
+    λ ctx. rw (← c.dcis.ensures) (stopped _ _ _ ctx _ _ _ _ _ c.send.ensures c.in_default.not-Cut (rw c.in-Err.is at (c.stop_each.ensures ctx))
+    (ended _ c.settings_kept-in-Err.ensures))

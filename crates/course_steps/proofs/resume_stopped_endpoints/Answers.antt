@@ -7,4 +7,4 @@ use Rattle.course_steps.proofs.resume_stopped_endpoints.Goals as goal
 
 pub returns : goal.returns
 unfolding resume_stopped_endpoints dcis_in
-returns c = λ ctx. rw (← each_resumed ctx _ 0) (c.send_each.ensures.as_sent resume_command ctx (λ d e h p. search rules))
+returns c = λ ctx. rw (← each_resumed ctx _ 0, ← c.dcis.ensures) (c.send_each.ensures.as_sent resume_command ctx (λ d e h p. search rules))

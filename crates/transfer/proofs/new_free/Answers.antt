@@ -1,36 +1,23 @@
 use Prim.Native.Nat.{ℕ}
-use mathlib.Core.Path.{sym, ap, ◌∙◌}
-use mathlib.Core.Logic.{inl, inr}
-use native.Mathlib.Omega.{arith}
-use borrow.Author.Tests.{eq-eqb, ne_eqb}
+use mathlib.Core.Path.{◌≡◌, ◌∙◌}
+use mathlib.Core.List.{[]}
+use borrow.Author.Rules.{rules}
+use mathlib.Core.Bool.{◌||◌}
+use lib.Dec.{eqb}
 use lib.ListN.{get_or}
-use Rattle.transfer.specs.Routes.{route_of}
-use Rattle.transfer.proofs.Steps.{free_go, free_stop, free_none, names_dcis}
-use Rattle.transfer.proofs.new_free.Goals.{else-word-ne0-via-then-word-ne0+then-word-ring+else-not-contains, else-word-ne0-via-then-word-ne0+else-word-ring, else-word-ne0-via-else-word-ne0}
+use Rattle.std.proofs.lemmas.Iterator.{YieldsList-from_slice}
+use Rattle.std.proofs.lemmas.Iterator.Consumers.{YieldsList-from_enumerate}
+use Rattle.std.proofs.lemmas.Iterator.Search.{all_from_yields_List}
+use Rattle.std.specs.List.{list_any}
+use Rattle.transfer.specs.Routes.{queues, route_of, is_free}
+use Rattle.transfer.proofs.Steps.{is_free_test, free_all}
 use Rattle.transfer.proofs.new_free.Goals as goal
 
-pub returns-then-not-contains : goal.returns-then-not-contains
-unfolding route_of
-returns-then-not-contains c =
-    let word = c.word_at-word.result in
-    let ring = c.word_at-ring.result in
-    let e = c.word_at-word.ensures ∙ ap (λ (k : ℕ). get_or c.args.routes.now k 0) c.route_index.ensures in
-    sym (c.loop-i.invariant
-    ∙ free_stop _ _ _ _ _ _ c.loop-i-test.true word ring e c.word_at-ring.ensures
-    (sym (names_dcis _ _ _) ∙ sym c.contains.ensures.value ∙ c.if-not-contains.true)
-    (ne_eqb word ring c.if-word-ring.true) (ne_eqb word 0 c.if-word-ne0.true))
-
-pub loop-i-preserved : goal.loop-i-preserved
-unfolding route_of
-loop-i-preserved c =
-    let word = c.word_at-word.result in
-    let ring = c.word_at-ring.result in
-    let e = c.word_at-word.ensures ∙ ap (λ (k : ℕ). get_or c.args.routes.now k 0) c.route_index.ensures in
-    c.loop-i.invariant ∙ free_go _ _ _ _ _ _ c.loop-i-test.true word ring e c.word_at-ring.ensures (elim c.else-word-ne0.branch [
-      | else-word-ne0-via-then-word-ne0+then-word-ring+else-not-contains w ↦ inl (sym (names_dcis _ _ _) ∙ sym w.contains.ensures.value ∙ w.if-not-contains.false)
-      | else-word-ne0-via-then-word-ne0+else-word-ring w ↦ inr (inl (eq-eqb word ring w.if-word-ring.false))
-      | else-word-ne0-via-else-word-ne0 w ↦ inr (inr (eq-eqb word 0 w.if-word-ne0.false))
-    ])
-
 pub returns : goal.returns
-returns c = sym (c.loop-i.invariant ∙ free_none _ _ _ _ _ _ (omega arith))
+unfolding route_of
+returns c = let a = c.args in
+    all_from_yields_List (λ (p : ℕ × ℕ). is_free a.routes.now a.slot.0 (queues a.old_dcis.now []) (record { dci = p.1; ring = get_or a.rings.now p.0 0 })) _ _ _ c.all.ensures.ran
+    (YieldsList-from_enumerate {s = c.enumerate.result} (YieldsList-from_slice a.dcis.now (search rules)) (search rules)) (λ x b q k.
+    let e : b ≡ ((eqb (route_of a.routes.now a.slot.0 x.1.now) 0 || eqb (route_of a.routes.now a.slot.0 x.1.now) (get_or a.rings.now x.0 0)) || list_any (λ y. eqb y x.1.now) a.old_dcis.now) = search rules in
+    (search rules, e ∙ is_free_test _ _ _ _ _))
+    ∙ free_all _ _ _ _ _

@@ -20,7 +20,7 @@ pub highest_staying-entries-requires : goal.highest_staying-entries-requires
 unfolding dcis_in
 highest_staying-entries-requires c =
     let room = c.requires in
-    (omega (arith, c.loop-i.invariant.0, c.begin_configure.auto.ctx, room.spaced.wide, room.spaced.room), room.dcis)
+    (omega (arith, c.loop-i.invariant.0, c.begin_configure.auto.ctx, room.spaced.wide, room.spaced.room), rw c.dcis.ensures room.dcis)
 
 pub finish_configure-requires : goal.finish_configure-requires
 finish_configure-requires c = rw (c.loop-i.invariant.0, c.begin_configure.auto.ctx) c.requires.spaced
@@ -31,4 +31,4 @@ returns c =
     dropped c.args.a c.args.list.now c.args.ctx.now _ _ _ _ _ c.loop-i-test.false
     c.requires.spaced (c.begin_configure.ensures c.args.a.spacing) c.finish_configure.ensures
     c.highest_staying-entries.ensures.0 (c.loop-i.invariant.1 c.args.a.spacing)
-    (λ ws f. c.highest_staying-entries.ensures.1 ws f)
+    (λ ws f. rw c.dcis.ensures at (c.highest_staying-entries.ensures.1 ws f))

@@ -1,6 +1,6 @@
 use borrow.Author.Rules.{rules}
 use native.Mathlib.Omega.{arith}
-use mathlib.Core.Path.{refl, ◌∙◌}
+use mathlib.Core.Path.{◌∙◌}
 use Rattle.course_steps.specs.Arrays.{dcis_in, rings_in}
 use Rattle.course_set_configuration.proofs.Steps.{add_start, add_next, compare_start, compare_next, added}
 use Rattle.course_set_configuration.proofs.held.prepare_restore.Goals as goal
@@ -9,7 +9,7 @@ pub highest_staying-entries-requires : goal.highest_staying-entries-requires
 unfolding dcis_in
 highest_staying-entries-requires c =
     let room = c.requires in
-    (omega (arith, c.begin_configure.auto.ctx, room.spaced.wide, room.spaced.room), room.dcis)
+    (omega (arith, c.begin_configure.auto.ctx, room.spaced.wide, room.spaced.room), rw c.dcis-dcis.ensures room.dcis)
 
 pub loop-i-init : goal.loop-i-init
 loop-i-init c = (search rules, c.highest_staying-entries.ensures.0, compare_start _ _ _ _ _, add_start _ _ _ _ _ _ _ _)
@@ -37,4 +37,4 @@ unfolding dcis_in rings_in
 returns c =
     added c.args.a c.args.list.now c.args.ctx.now _ _ _ _ _ c.loop-i-test.false
     c.requires.spaced (c.begin_configure.ensures c.args.a.spacing) c.finish_configure.ensures
-    c.loop-i.invariant.1 _ _ _ c.loop-i.invariant.3 c.highest_staying-entries.ensures.1 c.loop-i.invariant.2 refl refl
+    c.loop-i.invariant.1 _ _ _ c.loop-i.invariant.3 c.highest_staying-entries.ensures.1 c.loop-i.invariant.2 c.dcis-dcis.ensures c.rings-rings.ensures

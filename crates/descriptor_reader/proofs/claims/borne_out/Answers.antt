@@ -1,24 +1,8 @@
 use mathlib.Core.Path.{sym}
-use native.Mathlib.Omega.{arith}
 use borrow.Author.Tests.{eq-eqb, ne_eqb}
 use Rattle.descriptor_raw.specs.Read.{descriptors}
-use Rattle.descriptor_reader.proofs.Judged.{configuration_9, configuration_judged, interface_9, interface_judged, endpoint_7, endpoint_judged, other_judged}
+use Rattle.descriptor_reader.proofs.Judged.{configuration_judged, interface_judged, endpoint_judged, other_judged}
 use Rattle.descriptor_reader.proofs.claims.borne_out.Goals as goal
-
-pub two_bytes-requires : goal.two_bytes-requires
-two_bytes-requires c = omega (arith, configuration_9 _ _ c.kind.ensures c.in-Configuration.is c.args.d.whole)
-
-pub overflow_add-d : goal.overflow_add-d
-overflow_add-d c = omega (arith, c.ranges.d.1, c.ranges.after.1)
-
-pub bounds-d-4 : goal.bounds-d-4
-bounds-d-4 c = omega (arith, configuration_9 _ _ c.kind.ensures c.in-Configuration.is c.args.d.whole)
-
-pub bounds-d-4-in-Interface : goal.bounds-d-4-in-Interface
-bounds-d-4-in-Interface c = omega (arith, interface_9 _ _ c.kind.ensures c.in-Interface.is c.args.d.whole)
-
-pub two_bytes-requires-in-Endpoint : goal.two_bytes-requires-in-Endpoint
-two_bytes-requires-in-Endpoint c = omega (arith, endpoint_7 _ _ c.kind.ensures c.in-Endpoint.is c.args.d.whole)
 
 pub returns-then-two_bytes-d : goal.returns-then-two_bytes-d
 returns-then-two_bytes-d c =

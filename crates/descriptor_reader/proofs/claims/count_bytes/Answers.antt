@@ -1,22 +1,27 @@
-use mathlib.Core.Path.{◌≡◌, sym, ◌∙◌}
-use mathlib.Core.Bool.{true, false}
-use native.Mathlib.Omega.{arith}
-use Rattle.descriptor_reader.proofs.Step.{is_c, same_configuration}
-use Rattle.descriptor_reader.proofs.Rest.{bytes_end, bytes_stop, bytes_on}
+use Rattle.std.proofs.Common.{rules, tests, arith, ◌≡◌, ◌∙◌, length}
+use Rattle.std.proofs.lemmas.Iterator.{YieldsList-from_map}
+use Rattle.std.proofs.lemmas.Iterator.Search.{YieldsList-from_take_while}
+use Rattle.std.proofs.lemmas.Iterator.Consumers.{YieldsList-at, sum_by_from_yields_List, fits_by_from_yields_list}
+use Rattle.descriptor_raw.specs.Claims.{bytes_after}
+use Rattle.descriptor_raw.specs.Read.{descriptors}
+use Rattle.descriptor_reader.proofs.Chains.{walked, goes_on, bytes_taken, bytes_room}
 use Rattle.descriptor_reader.proofs.claims.count_bytes.Goals as goal
 
-pub returns-then-eq : goal.returns-then-eq
-returns-then-eq c =
-    let k : is_c c.kind.result ≡ true = sym (same_configuration c.kind.result) ∙ sym c.eq.ensures ∙ c.if-eq.true in
-    (omega (arith, bytes_stop _ _ _ c.in-Some.ensures.steps _ c.kind.ensures k), omega arith)
-
-pub overflow_add-count : goal.overflow_add-count
-overflow_add-count c = omega (arith, c.in-Some.ensures.steps.long, c.ranges.after.0)
-
-pub loop-d-preserved : goal.loop-d-preserved
-loop-d-preserved c =
-    let k : is_c c.kind.result ≡ false = sym (same_configuration c.kind.result) ∙ sym c.eq.ensures ∙ c.if-eq.false in
-    (omega (arith, c.in-Some.ensures.steps.long), omega (arith, bytes_on _ _ _ c.in-Some.ensures.steps _ c.kind.ensures k))
+pub sum-requires-clause-fits : goal.sum-requires-clause-fits
+sum-requires-clause-fits c =
+    fits_by_from_yields_list _ _ c.map.result _
+    (YieldsList-from_map _ length
+    (YieldsList-at c.map.ensures.source
+    (YieldsList-from_take_while _ goes_on (YieldsList-at c.take_while.ensures.source (walked c.args.after)) c.take_while.ensures.closure c.take_while.ensures.done (λ x b q k. search (rules, tests))))
+    c.map.ensures.closure (λ x r q k. search (rules, tests)))
+    (omega (arith, bytes_taken (descriptors c.args.after.bytes.now), bytes_room c.args.after.bytes.now))
 
 pub returns : goal.returns
-returns c = (omega (arith, bytes_end _ c.in-None.ensures.steps), omega arith)
+returns c =
+    let total = sum_by_from_yields_List _ _ c.map.result _ c.sum.ensures.ran
+    (YieldsList-from_map _ length
+    (YieldsList-at c.map.ensures.source
+    (YieldsList-from_take_while _ goes_on (YieldsList-at c.take_while.ensures.source (walked c.args.after)) c.take_while.ensures.closure c.take_while.ensures.done (λ x b q k. search (rules, tests))))
+    c.map.ensures.closure (λ x r q k. search (rules, tests))) in
+    let s : c.sum.result ≡ bytes_after (descriptors c.args.after.bytes.now) = total ∙ bytes_taken (descriptors c.args.after.bytes.now) in
+    (s, omega (arith, bytes_room c.args.after.bytes.now))

@@ -1,25 +1,16 @@
-use native.Mathlib.Omega.{arith}
-use Rattle.descriptor_reader.proofs.Step.{whole_is}
-use Rattle.descriptor_reader.proofs.Rest.{endpoints_end, endpoints_ended, endpoints_one, endpoints_none}
+use Rattle.std.proofs.Common.{rules, tests, ◌∙◌}
+use Rattle.std.proofs.lemmas.Iterator.Search.{YieldsList-from_take_while}
+use Rattle.std.proofs.lemmas.Iterator.Consumers.{YieldsList-at, YieldsList-from_filter, count_from_yields_List}
+use Rattle.descriptor_raw.specs.declared.DescriptorKind.TheVariants.{Endpoint}
+use Rattle.descriptor_raw.specs.Read.{descriptors}
+use Rattle.descriptor_reader.proofs.Chains.{walked, is_kind, stays, endpoints_taken}
 use Rattle.descriptor_reader.proofs.claims.count_endpoints.Goals as goal
 
-pub returns-in-Configuration : goal.returns-in-Configuration
-returns-in-Configuration c = omega (arith, endpoints_ended _ _ _ c.in-Some.ensures.steps _ c.kind.ensures c.in-Configuration.is)
-
-pub overflow_add-count : goal.overflow_add-count
-overflow_add-count c = omega (arith, c.in-Some.ensures.steps.long, c.ranges.after.0, (whole_is _ c.in-Some.d.whole).least)
-
-pub loop-d-preserved-in-Endpoint : goal.loop-d-preserved-in-Endpoint
-loop-d-preserved-in-Endpoint c = (
-  omega (arith, c.in-Some.ensures.steps.long, (whole_is _ c.in-Some.d.whole).least),
-  omega (arith, endpoints_one _ _ _ c.in-Some.ensures.steps _ c.kind.ensures (rw c.in-Endpoint.is) (rw c.in-Endpoint.is) (rw c.in-Endpoint.is)),
-)
-
-pub loop-d-preserved : goal.loop-d-preserved
-loop-d-preserved c = (
-  omega (arith, c.in-Some.ensures.steps.long),
-  omega (arith, endpoints_none _ _ _ c.in-Some.ensures.steps _ c.kind.ensures (rw c.in-Other.is) (rw c.in-Other.is) (rw c.in-Other.is)),
-)
-
 pub returns : goal.returns
-returns c = omega (arith, endpoints_end _ c.in-None.ensures.steps)
+returns c =
+    count_from_yields_List c.filter.result _ c.count.ensures.ran
+    (YieldsList-from_filter _ (is_kind Endpoint)
+    (YieldsList-at c.filter.ensures.source
+    (YieldsList-from_take_while _ stays (YieldsList-at c.take_while.ensures.source (walked c.args.after)) c.take_while.ensures.closure c.take_while.ensures.done (λ x b q k. search (rules, tests))))
+    c.filter.ensures.closure (λ x b q k. search (rules, tests)))
+    ∙ endpoints_taken (descriptors c.args.after.bytes.now)

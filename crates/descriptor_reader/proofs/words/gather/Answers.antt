@@ -8,9 +8,6 @@ pub loop-d-init : goal.loop-d-init
 unfolding read_words
 loop-d-init c = rw c.into_iter-d-iterator.ensures.into_iter_gives (record { room = omega arith; long = c.requires; words = refl })
 
-pub bounds-list-count : goal.bounds-list-count
-bounds-list-count c = omega (arith, c.loop-d.invariant.long, c.loop-d.invariant.room)
-
 pub returns-then-count-eq-READ_WORDS : goal.returns-then-count-eq-READ_WORDS
 returns-then-count-eq-READ_WORDS c =
     gathered_many _ _ _ _ c.loop-d.invariant _ _ c.in-Some.ensures.steps _ c.word_of.ensures _ c.in-Some-word_of.is c.if-count-eq-READ_WORDS.true

@@ -2,4 +2,4 @@ use Rattle.descriptor_writer.proofs.Claiming.{Claiming}
 use Rattle.descriptor_writer.proofs.claims.claims_after.Given as goal
 
 abbrev pub invariant-loop-w : goal.invariant-loop-w
-invariant-loop-w l = Claiming l.after l.marks l.bytes l.interfaces l.w-index
+invariant-loop-w l = Claiming l.after l.marks l.bytes l.w-index

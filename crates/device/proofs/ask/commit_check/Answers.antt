@@ -1,4 +1,4 @@
-use Rattle.device.specs.Ask.{asking}
+use Rattle.device.specs.Ask.{ask_in}
 use Rattle.device.proofs.Laws.{returned}
 use Rattle.device.proofs.AskLaws.{ready, ready_to_show, commit_refused, commit_outdated, commit_current}
 use Rattle.device.proofs.ask.commit_check.Goals as goal
@@ -6,7 +6,7 @@ use Rattle.device.proofs.ask.commit_check.Goals as goal
 pub returns-in_err-found : goal.returns-in_err-found
 returns-in_err-found c =
     rw (returned _ _ c.from_residual.ensures.1)
-    (commit_refused c.args.d c.args.ctx c.args.routes c.args.log (asking c.args.interface c.args.alternate c.args.drops c.args.adds c.args.rings.now) _ _
+    (commit_refused c.args.d c.args.l.ctx c.args.l.routes c.args.l.log (ask_in c.args.asked) _ _
     (rw c.in_err-found.was at c.claim_check.ensures))
 
 pub is_current-requires-clause-d_value : goal.is_current-requires-clause-d_value
@@ -15,10 +15,10 @@ is_current-requires-clause-d_value c =
 
 pub returns-then-not-is_current : goal.returns-then-not-is_current
 returns-then-not-is_current c =
-    commit_outdated c.args.d c.args.ctx c.args.routes c.args.log (asking c.args.interface c.args.alternate c.args.drops c.args.adds c.args.rings.now) _ _
+    commit_outdated c.args.d c.args.l.ctx c.args.l.routes c.args.l.log (ask_in c.args.asked) _ _
     (rw c.in_ok-found.was at c.claim_check.ensures) c.is_current.result c.is_current.ensures c.if-not-is_current.true
 
 pub returns : goal.returns
 returns c =
-    commit_current c.args.d c.args.ctx c.args.routes c.args.log (asking c.args.interface c.args.alternate c.args.drops c.args.adds c.args.rings.now) _ _
+    commit_current c.args.d c.args.l.ctx c.args.l.routes c.args.l.log (ask_in c.args.asked) _ _
     (rw c.in_ok-found.was at c.claim_check.ensures) c.is_current.result c.is_current.ensures c.if-not-is_current.false

@@ -1,7 +1,6 @@
 use mathlib.Core.Path.{◌≡◌}
 use native.Mathlib.Omega.{arith}
 use lib.ListN.{length}
-use Rattle.device.specs.Device.{list_of}
 use Rattle.device.specs.Ask.{ask_check}
 use Rattle.device.proofs.Laws.{record_passed, returned}
 use Rattle.device.proofs.ClaimLaws.{claim_refused, claim_checked, free_many}
@@ -31,18 +30,15 @@ overflow_sub-free-2 c =
     let given : length c.args.d.given ≡ 64 = search rules in
     omega (arith, free_many c.args.d p.usable p.is_sound eps given)
 
-pub shared_ref_as_front-draw_check : goal.shared_ref_as_front-draw_check
-shared_ref_as_front-draw_check c =
-    let f = (record_passed _ _ _ _ _ c.record_check.ensures c.in_ok-record_check.was).facts in
-    let room : length c.args.d.list ≡ 256 = search rules in
-    omega (arith, room, f.counts.list)
+pub list-requires : goal.list-requires
+list-requires c = (record_passed _ _ _ _ _ c.record_check.ensures c.in_ok-record_check.was).facts.counts.list
 
 pub returns : goal.returns
-unfolding list_of ask_check
+unfolding ask_check
 returns c =
     let p = record_passed _ _ _ _ _ c.record_check.ensures c.in_ok-record_check.was in
     let eps : length c.args.d.eps ≡ 30 = search rules in
     let given : length c.args.d.given ≡ 64 = search rules in
     claim_checked c.args.d c.args.interface c.args.alternate _ _ _ c.record_check.result
     c.record_check.ensures c.endpoint_map_in-c.result _ c.draw_check.result c.in_ok-record_check.was c.endpoint_map_in-c.ensures
-    (omega (arith, free_many c.args.d p.usable p.is_sound eps given)) c.draw_check.ensures
+    (omega (arith, free_many c.args.d p.usable p.is_sound eps given)) (rw c.list.ensures at c.draw_check.ensures)

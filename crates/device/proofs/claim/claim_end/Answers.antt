@@ -3,17 +3,13 @@ use lib.Seq.{length-take-le}
 use native.Mathlib.Omega.{arith}
 use mathlib.Core.Path.{◌≡◌, ◌∙◌}
 use mathlib.Core.Bool.{cond}
-use borrow.Author.Tests.{not-true, not-false}
 use lib.ListN.{take, length}
 use Rattle.record_settings.specs.Held.{with_setting}
 use Rattle.device.specs.Device.{held_of, with_quarantined}
 use Rattle.device.specs.Claim.{quarantines}
 use Rattle.device.proofs.ClaimLaws.{is_quarantined, not_quarantined, claim_made}
-use Rattle.device.proofs.claim.claim_end.Goals.{then-not-e+in-InterfaceBroken, then-not-e+in_default, else-not-e}
+use Rattle.device.proofs.claim.claim_end.Goals.{then-not-e+then-eq, else-not-e, else-not-e-via-then-not-e+else-eq, else-not-e-via-else-not-e}
 use Rattle.device.proofs.claim.claim_end.Goals as goal
-
-pub with_setting-held-requires : goal.with_setting-held-requires
-with_setting-held-requires c = rw c.settings.ensures c.requires.held_count_bound.1
 
 pub returns : goal.returns
 unfolding held_of with_quarantined
@@ -23,15 +19,18 @@ returns c =
     let room : length a.q.rings ≡ 30 = search rules in
     let counted : length rings ≡ a.q.count = length-take-le a.q.count a.q.rings (omega (arith, room, a.q.fits)) in
     let y : c.if-not-e.d ≡ cond a.e.moved a.d (quarantines a.e.answer rings a.d) = elim c.if-not-e.branch [
-      | then-not-e+in-InterfaceBroken w ↦ w.d-is ∙ rw (
-        not-true a.e.moved w.if-not-e.true,
-        is_quarantined a.e.answer rings a.d w.in-InterfaceBroken.is,
-        w.quarantined_rings-quarantined.ensures,
+      | then-not-e+then-eq w ↦ w.d-is ∙ rw (
+        w.if-not-e.true,
+        is_quarantined a.e.answer rings a.d _ w.eq.ensures w.if-eq.true,
+        w.padded-quarantined.ensures,
+        w.rings.ensures,
         c.requires.c_value.1,
         counted,
       )
-      | then-not-e+in_default w ↦ w.d-is ∙ rw (not-true a.e.moved w.if-not-e.true) (not_quarantined a.e.answer rings a.d w.in_default.not-InterfaceBroken)
-      | else-not-e w ↦ w.d-is ∙ rw (not-false a.e.moved w.if-not-e.false)
+      | else-not-e w ↦ w.d-is ∙ elim w.else-not-e.branch [
+        | else-not-e-via-then-not-e+else-eq w' ↦ rw w'.if-not-e.true (not_quarantined a.e.answer rings a.d _ w'.eq.ensures w'.if-eq.false)
+        | else-not-e-via-else-not-e w' ↦ rw w'.if-not-e.false
+      ]
     ] in
     λ ctx routes log drawn h. claim_made a.d a.interface a.alternate drawn
     c.if-not-e.d a.c c.claimed_endpoints-claimed.result a.q a.e a.pending

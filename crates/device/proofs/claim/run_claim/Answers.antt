@@ -1,63 +1,41 @@
-use mathlib.Core.Path.{◌≡◌, ap}
+use mathlib.Core.Path.{ap}
 use native.Mathlib.Omega.{arith}
-use lib.ListN.{length, length-take}
+use lib.ListN.{length-take}
 use Rattle.record_ring.proofs.Promises.{given_fits}
 use Rattle.record_settings.specs.Held.{is_found}
 use Rattle.record_settings.proofs.Laws.{with_fits}
 use Rattle.course_steps.proofs.Laws.{room_as}
 use Rattle.course_claim.specs.declared.ClaimArgs.{ClaimArgs}
+use Rattle.descriptor_list.proofs.Laws.{found_inside}
 use Rattle.device.specs.Device.{list_of, held_of, given_of}
 use Rattle.record_checks.specs.Draw.{check_of}
 use Rattle.device.specs.Left.{refused}
 use Rattle.device.specs.Calls.{on_check}
 use Rattle.device.specs.Ask.{ask_check}
 use Rattle.device.specs.Claim.{drawn, pending_of}
-use Rattle.device.proofs.Facts.{none_quarantined}
 use Rattle.device.proofs.Kept.{claim_passed}
 use Rattle.device.proofs.AskLaws.{asked}
-use Rattle.device.proofs.ClaimLaws.{old_words, new_words, queues_entered, pending_drawn, drawn_enough, claim_left, list_length, setting_inside}
-use borrow.Author.Rules.{rules}
+use Rattle.device.proofs.ClaimLaws.{old_words, new_words, queues_entered, free_placed_in, pending_drawn, drawn_enough, claim_left}
 use Rattle.device.proofs.claim.run_claim.Goals as goal
 
 pub claim_args-args-requires : goal.claim_args-args-requires
 claim_args-args-requires c = (asked c.args.d _ _ _ c.args.interface c.args.alternate (c.requires _ c.in-Ok.is).0).0.facts.counts.held
 
-pub shared_ref_as_front-words : goal.shared_ref_as_front-words
-shared_ref_as_front-words c =
-    let f = (asked c.args.d _ _ _ c.args.interface c.args.alternate (c.requires _ c.in-Ok.is).0).0.facts in
-    let room : length c.args.d.list ≡ 256 = search rules in
-    omega (arith, room, f.counts.list)
+pub list-words-requires : goal.list-words-requires
+list-words-requires c = (asked c.args.d _ _ _ c.args.interface c.args.alternate (c.requires _ c.in-Ok.is).0).0.facts.counts.list
 
-pub overflow_add-new_words : goal.overflow_add-new_words
-overflow_add-new_words c =
-    let f = (asked c.args.d _ _ _ c.args.interface c.args.alternate (c.requires _ c.in-Ok.is).0).0.facts in
-    let room : length c.args.d.list ≡ 256 = search rules in
-    omega (arith, f.counts.list, setting_inside c.args.d f room _ _ _ (c.requires _ c.in-Ok.is).1)
-
-pub offset_bounds-words-found : goal.offset_bounds-words-found
-offset_bounds-words-found c =
-    let f = (asked c.args.d _ _ _ c.args.interface c.args.alternate (c.requires _ c.in-Ok.is).0).0.facts in
-    let room : length c.args.d.list ≡ 256 = search rules in
-    omega (arith, f.counts.list, setting_inside c.args.d f room _ _ _ (c.requires _ c.in-Ok.is).1)
-
-pub slice_bounds-new_words-end : goal.slice_bounds-new_words-end
+pub in_list-new_words-requires : goal.in_list-new_words-requires
 unfolding list_of
-slice_bounds-new_words-end c =
-    let f = (asked c.args.d _ _ _ c.args.interface c.args.alternate (c.requires _ c.in-Ok.is).0).0.facts in
-    let room : length c.args.d.list ≡ 256 = search rules in
-    omega (arith, list_length c.args.d f room, setting_inside c.args.d f room _ _ _ (c.requires _ c.in-Ok.is).1)
+in_list-new_words-requires c = rw c.list-words.ensures (found_inside _ _ _ _ (c.requires _ c.in-Ok.is).1)
 
-pub shared_ref_as_front-drawn_rings : goal.shared_ref_as_front-drawn_rings
-shared_ref_as_front-drawn_rings c =
-    let f = (asked c.args.d _ _ _ c.args.interface c.args.alternate (c.requires _ c.in-Ok.is).0).0.facts in
-    let room : length c.args.d.given ≡ 64 = search rules in
-    omega (arith, room, f.counts.given)
+pub given-requires : goal.given-requires
+given-requires c = (asked c.args.d _ _ _ c.args.interface c.args.alternate (c.requires _ c.in-Ok.is).0).0.facts.counts.given
 
-pub shared_ref_as_front-drawn_rings-2 : goal.shared_ref_as_front-drawn_rings-2
-shared_ref_as_front-drawn_rings-2 c =
+pub invariant_of-given : goal.invariant_of-given
+unfolding given_of
+invariant_of-given c =
     let f = (asked c.args.d _ _ _ c.args.interface c.args.alternate (c.requires _ c.in-Ok.is).0).0.facts in
-    let room : length c.args.d.eps ≡ 30 = search rules in
-    omega (arith, room, f.counts.endpoints)
+    rw c.given.ensures (record { few = simp length-take (omega (arith, f.counts.given)); fit = given_fits (given_of c.args.d) f.store.fit })
 
 pub drawn_rings-pending-requires : goal.drawn_rings-pending-requires
 unfolding list_of given_of
@@ -66,13 +44,9 @@ drawn_rings-pending-requires c =
     let i = c.args.interface in
     let alt = c.args.alternate in
     let p = asked c.args.d _ _ _ c.args.interface c.args.alternate (c.requires _ c.in-Ok.is).0 in
-    let f = p.0.facts in
-    let new = new_words d i alt c.in-Ok.found (c.requires _ c.in-Ok.is).1 in
-    record {
-      g_bound = (simp length-take (omega (arith, f.counts.given)), (simp length-take (omega (arith, f.counts.endpoints)), given_fits (given_of d) f.store.fit));
-      words_in_bounds =
-          drawn_enough d i alt _ (none_quarantined d p.0.usable p.0.is_sound) new (claim_passed d i alt p.0.is_sound p.1).enough;
-    }
+    let new = new_words d i alt c.in-Ok.found (c.requires _ c.in-Ok.is).1 _ (rw c.list-words.ensures at c.in_list-new_words.ensures) in
+    let free = free_placed_in d _ p.0.usable p.0.is_sound c.endpoint_map_in-c.ensures in
+    rw c.given.ensures (drawn_enough d i alt _ _ free new (claim_passed d i alt p.0.is_sound p.1).enough)
 
 pub endpoint_map_in-c-requires : goal.endpoint_map_in-c-requires
 endpoint_map_in-c-requires c = (asked c.args.d _ _ _ c.args.interface c.args.alternate (c.requires _ c.in-Ok.is).0).0.facts.counts.endpoints
@@ -94,8 +68,8 @@ claim_end-requires c =
     let alt = c.args.alternate in
     let p = (asked c.args.d _ _ _ c.args.interface c.args.alternate (c.requires _ c.in-Ok.is).0).0 in
     let f = p.facts in
-    let new = new_words d i alt c.in-Ok.found (c.requires _ c.in-Ok.is).1 in
-    let by = pending_drawn d i alt _ _ (none_quarantined d p.usable p.is_sound) new c.drawn_rings-pending.ensures in
+    let new = new_words d i alt c.in-Ok.found (c.requires _ c.in-Ok.is).1 _ (rw c.list-words.ensures at c.in_list-new_words.ensures) in
+    let by = pending_drawn d i alt _ _ _ (free_placed_in d _ p.usable p.is_sound c.endpoint_map_in-c.ensures) new (rw c.given.ensures at c.drawn_rings-pending.ensures) in
     record {
       held_count_bound = (f.counts.held, with_fits (list_of d) (held_of d) i alt f.list f.settings (ap is_found (c.requires _ c.in-Ok.is).1));
       c_value = (
@@ -116,10 +90,10 @@ returns c =
     let i = c.args.interface in
     let alt = c.args.alternate in
     let p = (asked c.args.d _ _ _ c.args.interface c.args.alternate (c.requires _ c.in-Ok.is).0).0 in
-    let new = new_words d i alt c.in-Ok.found (c.requires _ c.in-Ok.is).1 in
-    let by = pending_drawn d i alt _ _ (none_quarantined d p.usable p.is_sound) new c.drawn_rings-pending.ensures in
+    let new = new_words d i alt c.in-Ok.found (c.requires _ c.in-Ok.is).1 _ (rw c.list-words.ensures at c.in_list-new_words.ensures) in
+    let by = pending_drawn d i alt _ _ _ (free_placed_in d _ p.usable p.is_sound c.endpoint_map_in-c.ensures) new (rw c.given.ensures at c.drawn_rings-pending.ensures) in
     rw c.in-Ok.is (claim_left d i alt (drawn d i alt) _ c.endpoint_map_in-c.result c.drawn_rings-pending.result _ _ c.args.outcomes.now
     c.args.ctx.now c.args.routes.now c.args.log.now _ _ _ c.claim_interface-e.result c.claim_end.result
-    c.endpoint_map_in-c.ensures by (old_words d i alt _ c.claim_args-args.ensures _ c.old_words-old_words.ensures)
+    c.endpoint_map_in-c.ensures by (old_words d i alt _ c.claim_args-args.ensures _ (rw c.list-words.ensures at c.old_words-old_words.ensures))
     new c.claim_args-args.ensures (rw (← c.owned_rings-own.ensures) c.queues_of.ensures)
     c.queues_of-2.ensures c.queues_of-3.ensures c.claim_interface-e.ensures (c.claim_end.ensures _ _ _ _ by))

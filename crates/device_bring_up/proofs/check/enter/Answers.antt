@@ -1,11 +1,12 @@
 use native.Mathlib.Omega.{arith}
 use mathlib.Core.Path.{sym, ap, ◌∙◌}
 use lib.Dec.{eqb}
+use borrow.Author.Rules.{rules}
 use Rattle.transfer.specs.Routes.{with_registered}
 use Rattle.course_init.specs.Reading.{bring_up_of, control_ring}
 use Rattle.device.proofs.Laws.{returned}
 use Rattle.device_bring_up.proofs.Checks.{taken_narrow, slot_refused, few_slots, lengths_refused, lengths_passed}
-use Rattle.device_bring_up.proofs.Steps.{queue_full, queue_free, not_entered, speed_refused, list_refused, chain_refused, ring_refused, entered}
+use Rattle.device_bring_up.proofs.Steps.{queue_answered, not_entered, speed_refused, list_refused, chain_refused, ring_refused, entered}
 use Rattle.device_bring_up.proofs.check.enter.Goals as goal
 
 pub returns-then-not-slot_fits : goal.returns-then-not-slot_fits
@@ -68,24 +69,13 @@ returns-then-not-given_fit c =
     c.requires.spacing_value c.lengths_check.ensures c.in_ok-lengths_check.was in
     ring_refused a c.args.ctx c.args.routes.now c.args.log base (sym c.speed_known.ensures ∙ c.if-not-speed_known.false) (sym c.valid_list.ensures ∙ c.if-not-valid_list.false) (sym c.chain_ok.ensures ∙ c.if-not-chain_ok.false) (sym c.given_fit.ensures ∙ c.if-not-given_fit.true)
 
-pub returns-in-Err : goal.returns-in-Err
+pub returns : goal.returns
 unfolding control_ring
-returns-in-Err c =
+returns c =
     let a = bring_up_of c.args.a c.args.rings.now c.args.hubs.now c.args.list.now in
     let fits = sym c.slot_fits.ensures ∙ c.if-not-slot_fits.false in
     let base = lengths_passed a c.args.ctx c.args.routes.now c.args.log c.args.spacing c.lengths_check.result fits
     c.requires.spacing_value c.lengths_check.ensures c.in_ok-lengths_check.was in
     let r = c.register_queue.ensures in
     entered a c.args.ctx c.args.routes.now c.args.log base (sym c.speed_known.ensures ∙ c.if-not-speed_known.false) (sym c.valid_list.ensures ∙ c.if-not-valid_list.false) (sym c.chain_ok.ensures ∙ c.if-not-chain_ok.false) (sym c.given_fit.ensures ∙ c.if-not-given_fit.false) _ _
-    (queue_full a c.args.routes.now _ (sym r.0 ∙ c.in-Err.is)) (r.1 ∙ ap (with_registered c.args.routes.now a.slot 1) c.requires.ring_value)
-
-pub returns-in-Ok : goal.returns-in-Ok
-unfolding control_ring
-returns-in-Ok c =
-    let a = bring_up_of c.args.a c.args.rings.now c.args.hubs.now c.args.list.now in
-    let fits = sym c.slot_fits.ensures ∙ c.if-not-slot_fits.false in
-    let base = lengths_passed a c.args.ctx c.args.routes.now c.args.log c.args.spacing c.lengths_check.result fits
-    c.requires.spacing_value c.lengths_check.ensures c.in_ok-lengths_check.was in
-    let r = c.register_queue.ensures in
-    entered a c.args.ctx c.args.routes.now c.args.log base (sym c.speed_known.ensures ∙ c.if-not-speed_known.false) (sym c.valid_list.ensures ∙ c.if-not-valid_list.false) (sym c.chain_ok.ensures ∙ c.if-not-chain_ok.false) (sym c.given_fit.ensures ∙ c.if-not-given_fit.false) _ _
-    (queue_free a c.args.routes.now (sym r.0 ∙ c.in-Ok.is)) (r.1 ∙ ap (with_registered c.args.routes.now a.slot 1) c.requires.ring_value)
+    (queue_answered a c.args.routes.now _ _ (λ e x p. search rules) r.0 c.map_err.ensures.cases) (r.1 ∙ ap (with_registered c.args.routes.now a.slot 1) c.requires.ring_value)

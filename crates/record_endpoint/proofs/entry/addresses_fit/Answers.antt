@@ -7,32 +7,26 @@ use borrow.Author.Rules.{rules}
 use Rattle.record_endpoint.proofs.Fit.{fit_all, fit_next, fit_none}
 use Rattle.record_endpoint.proofs.entry.addresses_fit.Goals as goal
 
-pub loop-i-init : goal.loop-i-init
-loop-i-init c = (search rules, search rules, fit_all _)
+pub loop-e-init : goal.loop-e-init
+loop-e-init c = (search rules, fit_all _)
 
 pub returns-in_default : goal.returns-in_default
-returns-in_default c = let l = c.loop-i in
-    sym
-    (l.invariant.2
-    ∙ fit_next _ _ _ _ (omega (arith, l.invariant.0)) c.loop-i-test.true
-    ∙ rw (← c.in_default.ensures.value))
+returns-in_default c = sym (c.loop-e.invariant.1 ∙ fit_next _ _ _ c.loop-e-test.true ∙ rw (← c.in_default.ensures.value))
 
 pub returns-then-taken-place : goal.returns-then-taken-place
-returns-then-taken-place c = let l = c.loop-i in
+returns-then-taken-place c =
     sym
-    (l.invariant.2
-    ∙ fit_next _ _ _ _ (omega (arith, l.invariant.0)) c.loop-i-test.true
+    (c.loop-e.invariant.1
+    ∙ fit_next _ _ _ c.loop-e-test.true
     ∙ rw (← c.in-Some.ensures.value, lt-ltb c.in-Some.place 30 c.in-Some.ensures.within, c.if-taken-place.true))
 
-pub loop-i-preserved : goal.loop-i-preserved
-loop-i-preserved c = let l = c.loop-i in (
-  search rules,
-  length-set l.taken c.in-Some.place true ∙ l.invariant.1,
-  l.invariant.2
-      ∙ fit_next _ _ _ _ (omega (arith, l.invariant.0)) c.loop-i-test.true
+pub loop-e-preserved : goal.loop-e-preserved
+loop-e-preserved c = let l = c.loop-e in (
+  length-set l.taken c.in-Some.place true ∙ l.invariant.0,
+  l.invariant.1
+      ∙ fit_next _ _ _ c.loop-e-test.true
       ∙ rw (← c.in-Some.ensures.value, lt-ltb c.in-Some.place 30 c.in-Some.ensures.within, c.if-taken-place.false),
 )
 
 pub returns : goal.returns
-returns c = let l = c.loop-i in
-    sym (l.invariant.2 ∙ fit_none _ _ _ _ (omega (arith, l.invariant.0)) (omega arith))
+returns c = sym (c.loop-e.invariant.1 ∙ fit_none _ c.args.eps.now c.loop-e.e-index (omega arith))

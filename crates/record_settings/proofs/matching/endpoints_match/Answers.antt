@@ -1,26 +1,30 @@
-use mathlib.Core.Path.{sym, ◌∙◌}
+use mathlib.Core.Path.{◌≡◌, refl, sym, ◌∙◌}
 use native.Mathlib.Nat.{sub-zero}
-use Rattle.record_settings.specs.Match.{all_own}
-use Rattle.record_settings.proofs.Steps.{passed_next, passed_none, match_not, match_owners}
+use borrow.Author.Rules.{rules}
+use lib.ListN.{get_or}
+use Rattle.std.proofs.lemmas.Iterator.{YieldsList-from_range}
+use Rattle.std.proofs.lemmas.Iterator.Search.{all_from_yields_List}
+use Rattle.record_settings.specs.Held.{held_by, setting_words}
+use Rattle.record_settings.specs.Match.{owns_places, all_own}
+use Rattle.record_settings.proofs.Steps.{each_index, match_not, match_owners}
 use Rattle.record_settings.proofs.matching.endpoints_match.Goals as goal
 
-pub loop-i-init : goal.loop-i-init
-loop-i-init c = rw sub-zero
-
-pub returns-then-not-owns_places : goal.returns-then-not-owns_places
+pub returns-then-all : goal.returns-then-all
 unfolding all_own
-returns-then-not-owns_places c = sym
-    (match_not _ _ _
-    (c.loop-i.invariant
-    ∙ passed_next _ _ _ _ _ c.loop-i-test.true
-    ∙ rw (← c.owns_places.ensures, c.if-not-owns_places.true)))
+returns-then-all c = let a = c.args in
+    let s = a.settings.now in
+    let all : c.all.result ≡ all_own a.list.now (held_by s) a.c =
+    all_from_yields_List (λ i. owns_places (setting_words a.list.now (get_or s.interfaces i 0) (get_or s.alternates i 0)) (get_or s.interfaces i 0) a.c) _ _ _ c.all.ensures.ran
+    (YieldsList-from_range 0 s.count s.count refl (sub-zero _)) (λ x b q k. search rules)
+    ∙ each_index (λ i alternate. owns_places (setting_words a.list.now i alternate) i a.c) s.interfaces s.alternates s.count 0 in
+    c.owners_held.ensures ∙ sym (match_owners _ _ _ (sym all ∙ c.if-all.true))
 
-pub loop-i-preserved : goal.loop-i-preserved
+pub returns-else-all : goal.returns-else-all
 unfolding all_own
-loop-i-preserved c = c.loop-i.invariant
-    ∙ passed_next _ _ _ _ _ c.loop-i-test.true
-    ∙ rw (← c.owns_places.ensures, c.if-not-owns_places.false)
-
-pub returns : goal.returns
-unfolding all_own
-returns c = c.owners_held.ensures ∙ sym (match_owners _ _ _ (c.loop-i.invariant ∙ passed_none _ _ _ _ _ c.loop-i-test.false))
+returns-else-all c = let a = c.args in
+    let s = a.settings.now in
+    let all : c.all.result ≡ all_own a.list.now (held_by s) a.c =
+    all_from_yields_List (λ i. owns_places (setting_words a.list.now (get_or s.interfaces i 0) (get_or s.alternates i 0)) (get_or s.interfaces i 0) a.c) _ _ _ c.all.ensures.ran
+    (YieldsList-from_range 0 s.count s.count refl (sub-zero _)) (λ x b q k. search rules)
+    ∙ each_index (λ i alternate. owns_places (setting_words a.list.now i alternate) i a.c) s.interfaces s.alternates s.count 0 in
+    c.if-all.false ∙ sym (match_not _ _ _ (sym all ∙ c.if-all.false))

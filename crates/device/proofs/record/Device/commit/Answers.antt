@@ -3,7 +3,7 @@ use Rattle.device.proofs.AskLaws.{ready}
 use Rattle.device.proofs.record.Device.commit.Goals as goal
 
 pub run_claim-requires : goal.run_claim-requires
-run_claim-requires c = ready c.args.self _ _ _ c.args.interface c.args.alternate _ _ c.commit_check-checked.ensures
+run_claim-requires c = ready c.args.self _ _ _ c.args.asked.interface c.args.asked.alternate _ _ c.commit_check-checked.ensures
 
 pub returns : goal.returns
 unfolding commit

@@ -1,6 +1,4 @@
-use mathlib.Core.Path.{◌≡◌, ◌∙◌}
-use native.Mathlib.Omega.{arith}
-use lib.ListN.{length}
+use mathlib.Core.Path.{◌∙◌}
 use Rattle.record_settings.specs.Held.{without_setting}
 use Rattle.course_steps.proofs.Laws.{room_as}
 use Rattle.device.specs.Device.{list_of, endpoint_map_in, held_of}
@@ -9,7 +7,6 @@ use Rattle.device.proofs.Laws.{call_passed}
 use Rattle.device.proofs.ClaimLaws.{undone_to}
 use Rattle.device.proofs.Exits.{refused_left}
 use Rattle.device.proofs.ReleaseLaws.{release_left}
-use borrow.Author.Rules.{rules}
 use Rattle.device.proofs.record.Device.release.Goals as goal
 
 pub returns-in-Err : goal.returns-in-Err
@@ -20,11 +17,8 @@ returns-in-Err c =
 pub settings-settings-requires : goal.settings-settings-requires
 settings-settings-requires c = (call_passed _ _ _ _ _ _ c.release_check.ensures c.in_default.is).facts.counts.held
 
-pub shared_ref_as_front-words : goal.shared_ref_as_front-words
-shared_ref_as_front-words c =
-    let f = (call_passed _ _ _ _ _ _ c.release_check.ensures c.in_default.is).facts in
-    let room : length c.args.self.list ≡ 256 = search rules in
-    omega (arith, room, f.counts.list)
+pub list-requires : goal.list-requires
+list-requires c = (call_passed _ _ _ _ _ _ c.release_check.ensures c.in_default.is).facts.counts.list
 
 pub endpoint_map_in-c-requires : goal.endpoint_map_in-c-requires
 endpoint_map_in-c-requires c = (call_passed _ _ _ _ _ _ c.release_check.ensures c.in_default.is).facts.counts.endpoints
@@ -43,5 +37,5 @@ returns c =
     c.release_interface-e.result c.at_end.result c.release_check.ensures c.in_default.is
     c.endpoint_map_in-c.ensures (c.unwrap_or.ensures ∙ rw (c.alternate_of.ensures, c.settings-settings.ensures, undone_to s.args.interface (held_of s.args.self)))
     c.owned_rings-own.ensures c.queues_of.ensures
-    c.queues_of-2.ensures c.setting_words-setting.ensures c.release_interface-e.ensures c.claimed_endpoints-others.ensures
+    c.queues_of-2.ensures (rw c.list.ensures at c.setting_words-setting.ensures) c.release_interface-e.ensures c.claimed_endpoints-others.ensures
     (c.at_end.ensures (without_setting s.args.interface (held_of s.args.self)) (rw c.settings-settings.ensures at c.without_setting-held.ensures))

@@ -1,16 +1,14 @@
 use native.Mathlib.Omega.{arith}
 use mathlib.Core.List.{[]}
-use mathlib.Core.Path.{◌≡◌, refl}
-use lib.ListN.{length}
+use mathlib.Core.Path.{refl}
 use Rattle.record_endpoint.specs.Endpoint.{padded}
 use Rattle.record_settings.specs.Held.{interfaces_of, alternates_of}
 use Rattle.course_steps.proofs.Laws.{room_as}
-use Rattle.device.specs.Device.{endpoint_map_in}
+use Rattle.device.specs.Device.{list_of, endpoint_map_in}
 use Rattle.device.specs.SetConfiguration.{set_configuration}
 use Rattle.device.proofs.Laws.{record_passed}
 use Rattle.device.proofs.Exits.{refused_left}
 use Rattle.device.proofs.SetConfigurationLaws.{set_left}
-use borrow.Author.Rules.{rules}
 use Rattle.device.proofs.record.Device.set_configuration.Goals as goal
 
 pub returns-in-Err : goal.returns-in-Err
@@ -25,11 +23,8 @@ settings-requires c = (record_passed _ _ _ _ _ c.record_check.ensures c.in_defau
 pub endpoint_map_in-c-requires : goal.endpoint_map_in-c-requires
 endpoint_map_in-c-requires c = (record_passed _ _ _ _ _ c.record_check.ensures c.in_default.is).facts.counts.endpoints
 
-pub shared_ref_as_front-run_set_configuration : goal.shared_ref_as_front-run_set_configuration
-shared_ref_as_front-run_set_configuration c =
-    let f = (record_passed _ _ _ _ _ c.record_check.ensures c.in_default.is).facts in
-    let room : length c.args.self.list ≡ 256 = search rules in
-    omega (arith, room, f.counts.list)
+pub list-requires : goal.list-requires
+list-requires c = (record_passed _ _ _ _ _ c.record_check.ensures c.in_default.is).facts.counts.list
 
 pub run_set_configuration-e-requires : goal.run_set_configuration-e-requires
 run_set_configuration-e-requires c =
@@ -41,13 +36,13 @@ run_set_configuration-e-requires c =
     }
 
 pub returns : goal.returns
-unfolding padded interfaces_of alternates_of endpoint_map_in
+unfolding padded interfaces_of alternates_of endpoint_map_in list_of
 returns c =
     let s = c in set_left s.args.self s.args.value c.record_check.result c.settings.result c.endpoint_map_in-c.result
     c.no_endpoints.result c.queues_of.result s.args.outcomes.now s.args.ctx.now
     s.args.routes.now s.args.log.now _ _ _ c.run_set_configuration-e.result
     c.configured-self.result c.at_end.result c.record_check.ensures c.in_default.is
-    c.settings.ensures c.endpoint_map_in-c.ensures c.queues_of.ensures c.run_set_configuration-e.ensures
+    c.settings.ensures c.endpoint_map_in-c.ensures c.queues_of.ensures (rw c.list.ensures at c.run_set_configuration-e.ensures)
     c.configured-self.ensures c.no_endpoints.ensures (c.at_end.ensures [] (record {
       interfaces =
           refl;

@@ -1,18 +1,33 @@
-use lib.ListN.{length-take}
-use native.Mathlib.Omega.{arith}
-use mathlib.Core.Path.{sym, ◌∙◌}
-use Rattle.device.specs.Sound.{counts_fit}
-use Rattle.device.proofs.Facts.{count_facts}
+use mathlib.Core.Path.{◌≡◌, sym, ◌∙◌}
+use lib.ListN.{length}
+use borrow.Author.Rules.{rules}
+use Rattle.device.specs.Device.{list_of, quarantined_of, given_of}
+use Rattle.device.specs.Sound.{slot_sound, counts_fit, rings_sound, store_sound, live_rings}
+use Rattle.device.proofs.Facts.{count_facts, sound_by_rings, unsound_lists}
 use Rattle.device.proofs.record.Device.sound.Goals as goal
 
-pub lists_sound-requires : goal.lists_sound-requires
+pub list-requires : goal.list-requires
 unfolding counts_fit
-lists_sound-requires c =
-    let f = count_facts c.args.self (sym c.counts_fit.ensures ∙ c.if-not-counts_fit.false) in
-    f.endpoints
+list-requires c = (count_facts c.args.self (sym c.counts_fit.ensures ∙ c.if-not-counts_fit.false)).list
 
-pub rings_sound-requires : goal.rings_sound-requires
+pub quarantined-requires : goal.quarantined-requires
 unfolding counts_fit
-rings_sound-requires c =
-    let f = count_facts c.args.self (sym c.counts_fit.ensures ∙ c.if-not-counts_fit.false) in
-    (simp length-take (omega (arith, f.endpoints)), (simp length-take (omega (arith, f.quarantined)), simp length-take (omega (arith, f.given))))
+quarantined-requires c = (count_facts c.args.self (sym c.counts_fit.ensures ∙ c.if-not-counts_fit.false)).quarantined
+
+pub given-requires : goal.given-requires
+unfolding counts_fit
+given-requires c = (count_facts c.args.self (sym c.counts_fit.ensures ∙ c.if-not-counts_fit.false)).given
+
+pub returns-then-lists_sound : goal.returns-then-lists_sound
+unfolding slot_sound counts_fit rings_sound store_sound live_rings list_of quarantined_of given_of
+returns-then-lists_sound c =
+    let room : length c.args.self.eps ≡ 30 = search rules in
+    sound_by_rings c.args.self room (sym c.slot_sound.ensures ∙ c.if-not-slot_sound.false) (sym c.counts_fit.ensures ∙ c.if-not-counts_fit.false) _ c.settings-settings.ensures
+    c.lists_sound.result (rw c.list.ensures at c.lists_sound.ensures) c.if-lists_sound.true c.rings_sound.result (rw (c.quarantined.ensures, c.given.ensures) at c.rings_sound.ensures)
+
+pub returns-else-lists_sound : goal.returns-else-lists_sound
+unfolding slot_sound counts_fit list_of
+returns-else-lists_sound c =
+    let room : length c.args.self.eps ≡ 30 = search rules in
+    unsound_lists c.args.self room (sym c.slot_sound.ensures ∙ c.if-not-slot_sound.false) (sym c.counts_fit.ensures ∙ c.if-not-counts_fit.false) _ c.settings-settings.ensures
+    c.lists_sound.result (rw c.list.ensures at c.lists_sound.ensures) c.if-lists_sound.false

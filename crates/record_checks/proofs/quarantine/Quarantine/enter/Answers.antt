@@ -1,5 +1,6 @@
 use mathlib.Core.Path.{refl, sym, ◌∙◌}
-use Rattle.record_checks.proofs.Steps.{any_elem, enter_room, enter_old, enter_new, enter_end}
+use Rattle.record_ring.proofs.Laws.{any_elem}
+use Rattle.record_checks.proofs.Steps.{enter_room, enter_old, enter_new, enter_end}
 use Rattle.record_checks.proofs.quarantine.Quarantine.enter.Goals as goal
 use Rattle.record_checks.proofs.quarantine.Quarantine.enter.Goals.{then-not-contains, else-not-contains}
 

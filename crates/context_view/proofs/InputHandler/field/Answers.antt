@@ -1,6 +1,6 @@
 use Rattle.std.proofs.Common.{sym, ◌∙◌}
 use Rattle.context_view.proofs.Laws.{in_context}
-use Rattle.context_view.proofs.field_in.Goals as goal
+use Rattle.context_view.proofs.InputHandler.field.Goals as goal
 
 pub field_at-requires : goal.field_at-requires
 field_at-requires c =

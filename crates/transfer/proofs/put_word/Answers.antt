@@ -1,6 +1,0 @@
-use mathlib.Core.Path.{sym}
-use lib.Seq.{set_out}
-use Rattle.transfer.proofs.put_word.Goals as goal
-
-pub returns-else-i-words : goal.returns-else-i-words
-returns-else-i-words c = sym (set_out _ _ _ c.if-i-words.false)
