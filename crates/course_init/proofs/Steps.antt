@@ -148,22 +148,19 @@ module _ (a : BringUp) (spacing : ℕ) (ctx routes o log : List ℕ) (k i : ℕ)
         (stopped_after o log (5 + i) (command.ReadConfig i) s left sent-as ctx routes _ r rest d a i
         (e ∙ ap (λ (x : ℕ). record { answer = answer_of s; count = x; value = Some a.value; configurations = i }) n))
 
+-- What is brought up with a value and a list where the setting of the first configuration has ended.
+abbrev as_set : ℕ → List ℕ → Played End → Played Brought
+as_set value list p = record {
+  end = brought p.end.answer (record { configured = true; value = value; list = list }) p.end.ctx p.end.routes;
+  count = p.count;
+  log = p.log;
+}
+
 module _ (a : BringUp) (spacing : ℕ) (ctx routes o : List ℕ) where
   -- the end of a bring-up whose first configuration is set or not
   set_end : (n : ℕ) (log : List ℕ) (p : Played End) → played o n (set_course (bring_up_settings a spacing) ctx routes) log ≡ p →
       played o n (bring_up_set a spacing ctx routes) log
-      ≡ record {
-        end =
-            brought p.end.answer
-            (record {
-              configured = true;
-              value = cond (is_accepted p.end.answer) (configuration_value (get_or a.list 0 0)) a.value;
-              list = a.list;
-            })
-            p.end.ctx p.end.routes;
-        count = p.count;
-        log = p.log;
-      }
+      ≡ as_set (cond (is_accepted p.end.answer) (configuration_value (get_or a.list 0 0)) a.value) a.list p
   unfolding bring_up_set bring_up_settings
   set_end n log p e = rw (played_then, e, played_ends)
 
@@ -179,43 +176,20 @@ module _ (a : BringUp) (spacing : ℕ) (ctx routes o : List ℕ) where
         (all : k ≡ configurations a.list) where
       first_end :
           played o n (bring_up_left a spacing 0 k ctx routes) log
-          ≡ record {
-            end =
-                brought p.end.answer
-                (record {
-                  configured = true;
-                  value = cond (is_accepted p.end.answer) (configuration_value (get_or a.list 0 0)) a.value;
-                  list = first_configurations k a.list;
-                })
-                p.end.ctx p.end.routes;
-            count = p.count;
-            log = p.log;
-          }
+          ≡ as_set (cond (is_accepted p.end.answer) (configuration_value (get_or a.list 0 0)) a.value) (first_configurations k a.list) p
       unfolding bring_up_left bring_up_configs
       first_end = rw (ne_eqb (length a.list) 0 (λ (z : length a.list ≡ 0). omega (arith, z)), all, first_all a.list) (set_end n log p e)
 
       -- it is set
       pub set_done : (value : ℕ) → p.end.answer ≡ answer.Accepted → value ≡ configuration_value (get_or a.list 0 0) →
-          record {
-            end =
-                brought p.end.answer (record { configured = true; value = value; list = first_configurations k a.list }) p.end.ctx
-                p.end.routes;
-            count = p.count;
-            log = p.log;
-          }
+          as_set value (first_configurations k a.list) p
           ≡ played o n (bring_up_left a spacing 0 k ctx routes) log
       unfolding number
       set_done value h v = sym (first_end ∙ rw (h, v))
 
       -- or not
       pub set_refused : Refused p.end.answer →
-          record {
-            end =
-                brought p.end.answer (record { configured = true; value = a.value; list = first_configurations k a.list })
-                p.end.ctx p.end.routes;
-            count = p.count;
-            log = p.log;
-          }
+          as_set a.value (first_configurations k a.list) p
           ≡ played o n (bring_up_left a spacing 0 k ctx routes) log
       set_refused h = sym (first_end ∙ rw (refused p.end.answer h))
 

@@ -11,7 +11,7 @@ unfoldable pub or_ended : {A : Type 0} → Result A InitEnd → List ℕ → Lis
 or_ended (Ok x) list ctx routes log next = next x
 or_ended (Err e) list ctx routes log next = leaves_read e list ctx routes log
 
--- What bringUpDevice goes on with, k configurations to be read from index i on; a device without configurations is brought up.
+-- What `bring_up_device` goes on with, k configurations to be read from index i on; a device without configurations is brought up.
 unfoldable pub bring_up_left : BringUp → ℕ → ℕ → ℕ → List ℕ → List ℕ → Course Brought
 bring_up_left a spacing k i ctx routes =
     cond (eqb (length a.list) 0)

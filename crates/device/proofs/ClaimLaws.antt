@@ -4,15 +4,14 @@ use Rattle.std.proofs.Common.{Some, None, Result, Err}
 use Rattle.std.specs.Option.{option_map_or, unwrap_or}
 use Prim.Native.Nat.{ℕ, ◌+◌, ◌≤◌}
 use mathlib.Core.Path.{◌≡◌, refl, sym, ◌∙◌}
-use mathlib.Core.Bool.{true, cond, not, Bool, false}
+use mathlib.Core.Bool.{true, cond, Bool, false}
 use mathlib.Core.List.{List, [], ◌∷◌, ◌++◌}
 use native.Mathlib.Omega.{arith}
 use lib.ListN.{length, take, drop}
 use lib.Seq.{length-take-le}
 use Rattle.answer.specs.declared.Answer.{Answer}
 use Rattle.answer.specs.declared.Answer.TheVariants as answer
-use Rattle.answer.specs.Answer.{number, is_broken}
-use Rattle.answer.specs.contracts.Answer.{enum}
+use Rattle.answer.specs.Answer.{is_broken}
 use Rattle.answer.specs.contracts.AnswerPartialEq.TheImpl as answers
 use Rattle.answer.specs.Check.{Check, Pass, Refuse}
 use Rattle.descriptor_list.specs.declared.EndpointWords.{EndpointWords}
@@ -23,7 +22,6 @@ use Rattle.record_ring.specs.Store.{lowest, free_rings}
 use Rattle.record_endpoint.specs.Endpoint.{rings_of}
 use Rattle.record_ring.proofs.Promises.{given_fits}
 use Rattle.laws.proofs.Tests.{and_left}
-use Rattle.laws.proofs.Variants.{each_value}
 use Rattle.record_checks.proofs.Laws.{free_placed}
 use Rattle.record_checks.proofs.Stored.{SoundStore, free_count, live_count}
 use Rattle.record_endpoint.specs.declared.endpoint_map.EndpointMap.{EndpointMap}
@@ -46,21 +44,11 @@ use Rattle.device.specs.Sound.{live_rings, sound}
 use Rattle.device.specs.Left.{leaves, ended}
 use Rattle.device.specs.Check.{record_check}
 use Rattle.device.specs.Claim.{claim_check, drawn, pending_of, args_in, claim_in, quarantines, claim_record, claim_run}
+use Rattle.device.proofs.Compared.{broken_test}
 use Rattle.device.proofs.Ends.{handed, else_quarantined}
 use Rattle.device.proofs.Facts.{sound_facts, none_quarantined}
 use Rattle.device.proofs.Kept.{claim_entered}
 use Rattle.device.proofs.Laws.{refused_first, own_check}
-
-same_test : (a b : Bool) → cond a b (not b) ≡ true → a ≡ b
-same_test true b e = sym e
-same_test false true e = e
-same_test false false e = refl
-
--- An answer that was compared with InterfaceBroken is 14 or is not.
-broken_test : (a : Answer) → answers.eq-value.it a answer.InterfaceBroken ≡ is_broken a
-unfolding number
-broken_test a =
-    same_test _ _ (each_value enum (λ x. cond (answers.eq-value.it x answer.InterfaceBroken) (is_broken x) (not (is_broken x))) refl (λ v. refl, tt) a)
 
 -- Rings go in quarantine after 14, and after no other answer.
 module _ (a : Answer) (rings : List ℕ) (d : Device) (b : Bool) (e : b ≡ answers.eq-value.it a answer.InterfaceBroken) where

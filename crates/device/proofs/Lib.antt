@@ -1,5 +1,6 @@
 pub mod AskLaws
 pub mod ClaimLaws
+pub mod Compared
 pub mod Contexts
 pub mod Counts
 pub mod DisconnectLaws

@@ -6,6 +6,7 @@ ghost use Rattle.course_init.specs.Reading.{bring_up_of, leaves_read};
 ghost use Rattle.device.specs.Left.{leaves};
 ghost use Rattle.device_bring_up.specs.BringUp.{brought_left};
 
+use answer::Answer;
 use course_init::{BringUpArgs, InitEnd};
 use device::Called;
 
@@ -26,8 +27,7 @@ pub fn brought(
     let kept = record_endpoint::padded(&list[..words], 0);
     let given = record_endpoint::padded(rings, 0);
     let mut d = device::no_device();
-    // By its number, which `is_accepted` is about: of `==` it says nothing without a law of every answer.
-    let accepted = answer::answer_number(e.answer) == 0;
+    let accepted = e.answer == Answer::Accepted;
     d.usable = accepted;
     d.up = accepted;
     d.slot = a.slot;

@@ -1,19 +1,12 @@
 use Rattle.std.proofs.Common.{rules}
 use mathlib.Core.Path.{refl}
-use native.Mathlib.Omega.{arith}
 use Rattle.command.specs.Course.{on_sent}
 use Rattle.command.specs.Sweep.{or_code}
 use Rattle.command.proofs.Phases.{Begins, continued, went_on}
 use Rattle.course_steps.specs.End.{answer_of, resumed}
-use Rattle.course_steps.proofs.Laws.{dcis_in_lem, room_same, ended}
+use Rattle.course_steps.proofs.Laws.{dcis_in_lem, ended}
 use Rattle.course_claim.specs.Claim.{claim_context, claim_resume, claim_configure}
 use Rattle.course_claim.proofs.configure.Goals as goal
-
-pub switch-requires : goal.switch-requires
-switch-requires c = record {
-  room = room_same _ _ _ _ _ c.requires.room c.prepare_configure.auto.ctx;
-  n_in_bounds = omega (arith, c.send.auto.log, c.requires.count_in_bounds);
-}
 
 pub returns-in-Done : goal.returns-in-Done
 unfolding claim_configure claim_context on_sent Begins continued

@@ -8,9 +8,6 @@ use Rattle.transfer.specs.Routes.{queues}
 use Rattle.course_release.specs.Release.{release_context, release_publish, release_resume, release_configure}
 use Rattle.course_release.proofs.configure.Goals as goal
 
-pub prepare_configure-requires : goal.prepare_configure-requires
-prepare_configure-requires c = record { spaced = c.requires.room.spaced; endpoint_dcis = c.requires.room.dcis }
-
 pub returns-in-Done : goal.returns-in-Done
 unfolding release_configure release_publish on_sent Begins continued release_context queues_in dcis_in rings_in queues
 returns-in-Done c =

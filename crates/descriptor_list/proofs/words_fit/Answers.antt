@@ -3,8 +3,7 @@ use mathlib.Core.Path.{sym, ◌∙◌}
 use Rattle.laws.proofs.Tests.{not_both}
 use Rattle.descriptor.proofs.Kind.{kind_in, none_refused}
 use Rattle.descriptor_list.proofs.Behind.{behind_end, behind_configuration, behind_endpoint, behind_marked, behind_new}
-use Rattle.descriptor_list.proofs.Marks.{counted_all}
-use Rattle.descriptor_list.proofs.Steps.{walked_all, word_refused, configuration_refused, alternate_refused, unfit, fitting}
+use Rattle.descriptor_list.proofs.Steps.{word_refused, configuration_refused, alternate_refused, unfit}
 use Rattle.descriptor_list.proofs.words_fit.Goals as goal
 
 pub loop-i-init : goal.loop-i-init
@@ -48,6 +47,3 @@ loop-i-preserved c =
 
 pub returns-in-None : goal.returns-in-None
 returns-in-None c = not_both _ (sym c.word_ok.ensures ∙ c.if-not-word_ok.false) (none_refused _ _ c.word_kind.ensures c.in-None.is)
-
-pub returns : goal.returns
-returns c = sym (fitting _ _ (walked_all _ _ _ c.loop-i-test.false c.loop-i.invariant.walked) (counted_all _ _ _ _ c.loop-i-test.false c.loop-i.invariant.counted))

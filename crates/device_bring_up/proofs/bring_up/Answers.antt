@@ -2,9 +2,6 @@ use Rattle.course_init.specs.Reading.{bring_up_of, control_ring}
 use Rattle.device_bring_up.proofs.Steps.{refused_left, passed_left, course_room, spacing_taken, record_room}
 use Rattle.device_bring_up.proofs.bring_up.Goals as goal
 
-pub enter-check-requires : goal.enter-check-requires
-enter-check-requires c = record { spacing_value = c.spacing_of-spacing.ensures; ring_value = c.least-ring.ensures }
-
 pub returns-in-Err : goal.returns-in-Err
 unfolding control_ring
 returns-in-Err c =

@@ -12,16 +12,6 @@ returns-in-Err c = λ rings low.
     c.address_context.ensures c.route_string-path.ensures c.transaction_translator-translator.ensures low
     (c.read_header.ensures.log_value rings _ _ _ _ _ c.requires.list_value) c.in-Err.is
 
-pub setup_max_packet-requires : goal.setup_max_packet-requires
-setup_max_packet-requires c = record {
-  spaced = spaced_same c.requires.spaced c.address_context.auto.ctx;
-  byte_value = c.read_header.ensures.packet_value c.in_default.is;
-}
-
-pub read_descriptors-requires : goal.read_descriptors-requires
-read_descriptors-requires c =
-    record { in_bounds = omega (arith, c.read_header.auto.log, c.requires.in_bounds); list_value = c.requires.list_value }
-
 pub set_first-requires : goal.set_first-requires
 set_first-requires c =
     let all = c.read_descriptors.ensures.all_read _ c.in-Ok.is in

@@ -1,13 +1,9 @@
 use borrow.Author.Rules.{rules}
 use native.Mathlib.Omega.{arith}
-use native.Mathlib.Nat.{sub-zero}
 use mathlib.Core.Path.{◌∙◌}
 use Rattle.course_steps.specs.Arrays.{dcis_in}
 use Rattle.course_set_configuration.proofs.Steps.{drop_next, dropped}
 use Rattle.course_set_configuration.proofs.held.prepare_drop.Goals as goal
-
-pub loop-i-init : goal.loop-i-init
-loop-i-init c = (search rules, λ s. rw sub-zero)
 
 pub loop-i-preserved : goal.loop-i-preserved
 loop-i-preserved c = (
@@ -21,9 +17,6 @@ unfolding dcis_in
 highest_staying-entries-requires c =
     let room = c.requires in
     (omega (arith, c.loop-i.invariant.0, c.begin_configure.auto.ctx, room.spaced.wide, room.spaced.room), rw c.dcis.ensures room.dcis)
-
-pub finish_configure-requires : goal.finish_configure-requires
-finish_configure-requires c = rw (c.loop-i.invariant.0, c.begin_configure.auto.ctx) c.requires.spaced
 
 pub returns : goal.returns
 unfolding dcis_in

@@ -2,7 +2,7 @@ use borrow.Author.Rules.{rules}
 use native.Mathlib.Omega.{arith}
 use mathlib.Core.Path.{◌∙◌}
 use Rattle.course_steps.specs.Arrays.{dcis_in, rings_in}
-use Rattle.course_set_configuration.proofs.Steps.{add_start, add_next, compare_start, compare_next, added}
+use Rattle.course_set_configuration.proofs.Steps.{add_next, compare_next, added}
 use Rattle.course_set_configuration.proofs.held.prepare_restore.Goals as goal
 
 pub highest_staying-entries-requires : goal.highest_staying-entries-requires
@@ -11,16 +11,6 @@ highest_staying-entries-requires c =
     let room = c.requires in
     (omega (arith, c.begin_configure.auto.ctx, room.spaced.wide, room.spaced.room), rw c.dcis-dcis.ensures room.dcis)
 
-pub loop-i-init : goal.loop-i-init
-loop-i-init c = (search rules, c.highest_staying-entries.ensures.0, compare_start _ _ _ _ _, add_start _ _ _ _ _ _ _ _)
-
-pub add_endpoints-requires : goal.add_endpoints-requires
-add_endpoints-requires c =
-    rw (c.loop-i.invariant.0, c.begin_configure.auto.ctx) c.requires.spaced
-
-pub highest_added-entries-requires : goal.highest_added-entries-requires
-highest_added-entries-requires c = c.loop-i.invariant.1
-
 pub loop-i-preserved : goal.loop-i-preserved
 loop-i-preserved c = (
   search rules,
@@ -28,9 +18,6 @@ loop-i-preserved c = (
   c.loop-i.invariant.2 ∙ compare_next _ _ _ _ _ _ c.loop-i-test.true c.setting_words-words.ensures _ _ c.highest_added-entries.ensures,
   c.loop-i.invariant.3 ∙ add_next _ _ _ _ _ _ c.loop-i-test.true c.setting_words-words.ensures _ _ _ _ _ c.add_endpoints.ensures,
 )
-
-pub finish_configure-requires : goal.finish_configure-requires
-finish_configure-requires c = rw (c.loop-i.invariant.0, c.begin_configure.auto.ctx) c.requires.spaced
 
 pub returns : goal.returns
 unfolding dcis_in rings_in

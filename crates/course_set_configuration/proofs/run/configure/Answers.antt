@@ -1,16 +1,10 @@
-use Rattle.std.proofs.Common.{rules, refl, arith}
+use Rattle.std.proofs.Common.{rules, refl}
 use Rattle.command.specs.Course.{on_sent}
 use Rattle.command.proofs.Phases.{Begins, continued, went_on}
 use Rattle.course_steps.specs.End.{configure_failed, resumed}
-use Rattle.course_steps.proofs.Laws.{dcis_in_lem, room_same, ended}
+use Rattle.course_steps.proofs.Laws.{dcis_in_lem, ended}
 use Rattle.course_set_configuration.specs.SetConfiguration.{set_resume, set_configure}
 use Rattle.course_set_configuration.proofs.run.configure.Goals as goal
-
-pub switch-requires : goal.switch-requires
-switch-requires c = record {
-  room = room_same _ _ _ _ _ c.requires.room c.prepare_drop.auto.ctx;
-  count_in_bounds = omega (arith, c.send.auto.log, c.requires.count_in_bounds);
-}
 
 pub returns-in-Done : goal.returns-in-Done
 unfolding set_configure on_sent Begins continued

@@ -1,12 +1,9 @@
 use native.Mathlib.Omega.{arith}
-use Rattle.descriptor_writer.proofs.Placed.{putting_start, put_all_done, put_room, put_small, putting_next}
+use Rattle.descriptor_writer.proofs.Placed.{putting_start, put_all_done, put_small, putting_next}
 use Rattle.descriptor_writer.proofs.put.put_all.Goals as goal
 
 pub loop-w-init : goal.loop-w-init
 loop-w-init c = putting_start _ _ c.requires.0
-
-pub put_descriptor-at-requires : goal.put_descriptor-at-requires
-put_descriptor-at-requires c = put_room _ _ _ _ _ c.loop-w.invariant _ _ c.in-Some.ensures.cases.0 c.requires.1
 
 pub overflow_add-at : goal.overflow_add-at
 overflow_add-at c = omega (arith, put_small _ _ _ _ _ c.loop-w.invariant _ _ c.in-Some.ensures.cases.0 c.requires.1 _ c.put_descriptor-at.ensures.0)

@@ -1,11 +1,9 @@
-use native.Mathlib.Omega.{arith}
 use mathlib.Core.Path.{sym, ap, ◌∙◌}
-use lib.Dec.{eqb}
 use borrow.Author.Rules.{rules}
 use Rattle.transfer.specs.Routes.{with_registered}
 use Rattle.course_init.specs.Reading.{bring_up_of, control_ring}
 use Rattle.device.proofs.Laws.{returned}
-use Rattle.device_bring_up.proofs.Checks.{taken_narrow, slot_refused, few_slots, lengths_refused, lengths_passed}
+use Rattle.device_bring_up.proofs.Checks.{slot_refused, lengths_refused, lengths_passed}
 use Rattle.device_bring_up.proofs.Steps.{queue_answered, not_entered, speed_refused, list_refused, chain_refused, ring_refused, entered}
 use Rattle.device_bring_up.proofs.check.enter.Goals as goal
 
@@ -14,15 +12,6 @@ unfolding control_ring
 returns-then-not-slot_fits c =
     let a = bring_up_of c.args.a c.args.rings.now c.args.hubs.now c.args.list.now in
     not_entered a c.args.ctx c.args.routes.now c.args.log _ (slot_refused a c.args.ctx c.args.routes.now c.args.log (sym c.slot_fits.ensures ∙ c.if-not-slot_fits.true))
-
-pub overflow_cast-a-2 : goal.overflow_cast-a-2
-overflow_cast-a-2 c =
-    let a = bring_up_of c.args.a c.args.rings.now c.args.hubs.now c.args.list.now in
-    omega (arith, few_slots a c.args.ctx c.args.routes.now c.args.log (sym c.slot_fits.ensures ∙ c.if-not-slot_fits.false))
-
-pub lengths_check-requires : goal.lengths_check-requires
-lengths_check-requires c =
-    taken_narrow (eqb c.args.ctx 1056) c.args.spacing c.requires.spacing_value
 
 pub returns-in_err-lengths_check : goal.returns-in_err-lengths_check
 unfolding control_ring

@@ -29,9 +29,6 @@ returns-then-not-is_image c =
     c.no_device.ensures
     ∙ none _ (sym c.is_image.ensures ∙ c.if-not-is_image.true)
 
-pub endpoints_in-count-requires : goal.endpoints_in-count-requires
-endpoints_in-count-requires c = sym c.is_image.ensures ∙ c.if-not-is_image.false
-
 pub overflow_cast-result : goal.overflow_cast-result
 overflow_cast-result c = omega (arith, image_byte _ (sym c.is_image.ensures ∙ c.if-not-is_image.false) SLOT (omega arith) (omega arith))
 

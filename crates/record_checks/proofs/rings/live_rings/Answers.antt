@@ -1,8 +1,7 @@
 use mathlib.Core.Path.{refl}
-use native.Mathlib.Omega.{arith}
 use borrow.Author.Rules.{rules}
 use Rattle.record_endpoint.specs.Endpoint.{rings_of}
-use Rattle.record_checks.proofs.Steps.{gather_next, gather_all}
+use Rattle.record_checks.proofs.Steps.{gather_next}
 use Rattle.record_checks.proofs.rings.live_rings.Goals as goal
 
 pub loop-i-init : goal.loop-i-init
@@ -11,6 +10,3 @@ loop-i-init c = record { room = search rules; written = refl }
 
 pub loop-i-preserved : goal.loop-i-preserved
 loop-i-preserved c = gather_next c.loop-i.invariant c.requires c.loop-i-test.true
-
-pub returns : goal.returns
-returns c = gather_all c.loop-i.invariant (omega arith) (omega arith)

@@ -1,15 +1,11 @@
 use mathlib.Core.Path.{◌≡◌, sym, ap, ◌∙◌}
-use native.Mathlib.Nat.{sub-zero}
 use native.Mathlib.Omega.{arith}
 use borrow.Author.Rules.{rules}
 use lib.ListN.{get_or}
 use Rattle.record_endpoint.specs.EndpointMap.{with_endpoint, endpoint_map_from, endpoint_map_of}
-use Rattle.record_endpoint.proofs.Steps.{map_next, map_done, whole_none, whole_entry, entry_out}
+use Rattle.record_endpoint.proofs.Steps.{map_next, map_done, whole_entry, entry_out}
 use Rattle.record_endpoint.proofs.endpoint_map.endpoint_map_of.Goals.{in-Some, in_default}
 use Rattle.record_endpoint.proofs.endpoint_map.endpoint_map_of.Goals as goal
-
-pub loop-i-init : goal.loop-i-init
-loop-i-init c = (rw c.no_endpoints-c.ensures whole_none, rw (c.no_endpoints-c.ensures, sub-zero))
 
 pub loop-i-preserved : goal.loop-i-preserved
 unfolding with_endpoint

@@ -1,12 +1,8 @@
 use mathlib.Core.Path.{sym, ◌∙◌}
 use native.Mathlib.Omega.{arith}
-use borrow.Author.Rules.{rules}
-use Rattle.record_endpoint.proofs.Steps.{activated_none, activated_next, activated_keep, activated_done}
+use Rattle.record_endpoint.proofs.Steps.{activated_next, activated_keep, activated_done}
 use Rattle.record_endpoint.proofs.endpoint_map.with_active.Goals.{then-is_owned, else-is_owned}
 use Rattle.record_endpoint.proofs.endpoint_map.with_active.Goals as goal
-
-pub loop-p-init : goal.loop-p-init
-loop-p-init c = (search rules, activated_none _ _ _ (search rules))
 
 pub loop-p-preserved : goal.loop-p-preserved
 loop-p-preserved c = let a = c.loop-p.invariant.1 in elim c.if-is_owned.branch [

@@ -3,20 +3,8 @@ use lib.ListN.{length}
 use borrow.Author.Rules.{rules}
 use Rattle.device.specs.Device.{list_of, quarantined_of, given_of}
 use Rattle.device.specs.Sound.{slot_sound, counts_fit, rings_sound, store_sound, live_rings}
-use Rattle.device.proofs.Facts.{count_facts, sound_by_rings, unsound_lists}
+use Rattle.device.proofs.Facts.{sound_by_rings, unsound_lists}
 use Rattle.device.proofs.record.Device.sound.Goals as goal
-
-pub list-requires : goal.list-requires
-unfolding counts_fit
-list-requires c = (count_facts c.args.self (sym c.counts_fit.ensures ∙ c.if-not-counts_fit.false)).list
-
-pub quarantined-requires : goal.quarantined-requires
-unfolding counts_fit
-quarantined-requires c = (count_facts c.args.self (sym c.counts_fit.ensures ∙ c.if-not-counts_fit.false)).quarantined
-
-pub given-requires : goal.given-requires
-unfolding counts_fit
-given-requires c = (count_facts c.args.self (sym c.counts_fit.ensures ∙ c.if-not-counts_fit.false)).given
 
 pub returns-then-lists_sound : goal.returns-then-lists_sound
 unfolding slot_sound counts_fit rings_sound store_sound live_rings list_of quarantined_of given_of

@@ -1,11 +1,8 @@
-use mathlib.Core.Path.{refl, sym, ◌∙◌}
+use mathlib.Core.Path.{sym, ◌∙◌}
 use Rattle.record_ring.proofs.Laws.{any_elem}
 use Rattle.record_checks.proofs.Steps.{enter_room, enter_old, enter_new, enter_end}
 use Rattle.record_checks.proofs.quarantine.Quarantine.enter.Goals as goal
 use Rattle.record_checks.proofs.quarantine.Quarantine.enter.Goals.{then-not-contains, else-not-contains}
-
-pub loop-ring-init : goal.loop-ring-init
-loop-ring-init c = refl
 
 pub push-requires : goal.push-requires
 push-requires c = let l = c.loop-ring in

@@ -22,7 +22,3 @@ loop-i-preserved c = let s = c.args.self.now in
     let i = c.loop-i.i in
     let e : is_some c.find_interface_endpoints-found.result ≡ true = c.if-is_none.ensures in
     sound_next _ _ _ i c.loop-i.invariant (sym (c.contains.ensures.value ∙ held_any i s.interfaces s.alternates _ (omega arith)) ∙ c.if-contains.false) (rw (← c.find_interface_endpoints-found.ensures) e)
-
-pub returns : goal.returns
-returns c = let s = c.args.self.now in
-    let e : c.loop-i.i ≡ s.count = omega arith in sym (rw (← e) c.loop-i.invariant)
