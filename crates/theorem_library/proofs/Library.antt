@@ -9,6 +9,8 @@ use lib.ListN.{length}
 use Rattle.answer.specs.Answer.{number, is_accepted}
 use Rattle.device.specs.declared.record.Device.{Device}
 use Rattle.device.specs.Left.{Left}
+use Rattle.course_init.specs.Reading.{BringUp}
+use Rattle.device.specs.Ask.{Ask}
 use Rattle.device_bring_up.specs.BringUp.{bring_up}
 use Rattle.device_image.specs.Image.{decode, is_image}
 use Rattle.device_image.specs.Layout.{WORDS}
@@ -80,26 +82,57 @@ module _ (image routes : List ℕ) (s : State) (h : Has image routes s) where
       go true e = record { there = h.there; device = h.device ∙ sym e; table = v.routes ∙ sym r }
       go false e = record { there = v.image; device = v.device ∙ sym e; table = v.routes ∙ sym r }
 
-  one :
-      (asked : Asked) (buffers : Buffers) (given table : List ℕ) (x : Crossed) (keeps : Bool) → GivenImage asked image given →
+  -- what a call leaves, by call
+  abbrev One : Asked → Type 0
+  One asked =
+      (buffers : Buffers) (given table : List ℕ) (x : Crossed) (keeps : Bool) → GivenImage asked image given →
       CrossedAs x (reads asked given) (left asked buffers (decode given) table) given buffers.ctx table buffers.log →
       Has (image_after asked keeps x.answered.answer image x.image) x.routes
       (called s (record { call = record { asked = asked; buffers = buffers }; table = table; keeps = keeps }))
+
+  bring_up_left : (a : BringUp) → One (brings_up a)
   unfolding GivenImage reads image_after called record_after left
-  one (brings_up a) buffers given table x keeps n c =
+  bring_up_left a buffers given table x keeps n c =
       kept_or_new (left (brings_up a) buffers s.device table) x keeps (leaves x _ _ given _ table _ (eq-eqb (length given) WORDS n) c) _ refl refl
-  one (claims i a) buffers given table x keeps n c =
+
+  claim_left : (i a : ℕ) → One (claims i a)
+  unfolding GivenImage reads image_after called record_after left
+  claim_left i a buffers given table x keeps n c =
       on_record (claims i a) buffers given table x _ n (λ t. leaves x _ _ given _ table _ t c) refl refl
-  one (commits p) buffers given table x keeps n c =
+
+  commit_left : (p : Ask) → One (commits p)
+  unfolding GivenImage reads image_after called record_after left
+  commit_left p buffers given table x keeps n c =
       on_record (commits p) buffers given table x _ n (λ t. leaves x _ _ given _ table _ t c) refl refl
-  one (releases i) buffers given table x keeps n c =
+
+  release_left : (i : ℕ) → One (releases i)
+  unfolding GivenImage reads image_after called record_after left
+  release_left i buffers given table x keeps n c =
       on_record (releases i) buffers given table x _ n (λ t. leaves x _ _ given _ table _ t c) refl refl
-  one (configures value) buffers given table x keeps n c =
+
+  set_left : (value : ℕ) → One (configures value)
+  unfolding GivenImage reads image_after called record_after left
+  set_left value buffers given table x keeps n c =
       on_record (configures value) buffers given table x _ n (λ t. leaves x _ _ given _ table _ t c) refl refl
-  one (updates_hub ports multi ns) buffers given table x keeps n c =
+
+  hub_left : (ports : ℕ) (multi : Bool) (ns : ℕ) → One (updates_hub ports multi ns)
+  unfolding GivenImage reads image_after called record_after left
+  hub_left ports multi ns buffers given table x keeps n c =
       on_record (updates_hub ports multi ns) buffers given table x _ n (λ t. leaves x _ _ given _ table _ t c) refl refl
-  one disconnects buffers given table x keeps n c =
+
+  disconnect_left : One disconnects
+  unfolding GivenImage reads image_after called record_after left
+  disconnect_left buffers given table x keeps n c =
       on_record disconnects buffers given table x _ n (λ t. leaves x _ _ given _ table _ t c) refl refl
+
+  one : (asked : Asked) → One asked
+  one (brings_up a) = bring_up_left a
+  one (claims i a) = claim_left i a
+  one (commits p) = commit_left p
+  one (releases i) = release_left i
+  one (configures value) = set_left value
+  one (updates_hub ports multi ns) = hub_left ports multi ns
+  one disconnects = disconnect_left
 
 -- A list of calls: its turns are those of the theorem, and the caller has the record and the table that they leave.
 record Went (slot : ℕ) (still : ℕ → Bool) (image routes : List ℕ) (s : State) (es : List Exchange) : Type 0 where
