@@ -40,7 +40,8 @@ use Rattle.device.proofs.Updates.{same_then}
 use Rattle.device.proofs.Made.{made_usable, sound_clean}
 use Rattle.device.proofs.Kept.{claim_passed, set_value}
 use Rattle.device.proofs.Laws.{passed}
-use Rattle.theorem_accepting.specs.Accepting.{Ready, Enough, Accepted, ClaimAccepted, ReleaseAccepted, ReleaseBack, SetAccepted, SetAgain, HubAccepted}
+use Rattle.theorem_accepting.specs.Accepting.{Claimed, Released, Configured, Enough, Accepted, ClaimAccepted, ReleaseAccepted, ReleaseBack, SetAccepted, SetAgain, HubAccepted}
+use Rattle.theorem_accepting.proofs.Checked.{Checked, claim_checked, release_checked, set_checked, hub_passes}
 use Rattle.theorem_accepting.proofs.Back.{same_words_lem, setting_back, map_back}
 use Rattle.theorem_accepting.proofs.Runs.{Ran, done_at, offer_nonzero, offer_places, claim_ran, release_ran, set_end, set_ends, set_ran}
 
@@ -59,7 +60,7 @@ accepted d routes hs c x y l r t =
     }
 
 table_length :
-    (d : Device) (ctx routes log o : List ℕ) (check : Check) → Ready d ctx routes log o check → length routes ≡ 32 * (d.max_slots + 1)
+    (d : Device) (ctx routes log o : List ℕ) (check : Check) → Checked d ctx routes log o check → length routes ≡ 32 * (d.max_slots + 1)
 table_length d ctx routes log o check g = (passed d (length ctx) (length routes) (length log) check g.passes).0.table
 
 -- Two accepted calls, one after the other.
@@ -82,7 +83,7 @@ slot_route d e routes s k = rw s
 -- The next call may run.
 pub ready_next :
     (d : Device) (l : Left) (ctx log o : List ℕ) (check : Check) → Accepted d l → Enough d ctx log o → check ≡ Pass →
-    Ready l.device ctx l.routes log o check
+    Checked l.device ctx l.routes log o check
 unfolding record_check
 ready_next d l ctx log o check a b e =
     let s : length ctx ≡ 33 * l.device.spacing = rw a.same.spacing b.context in
@@ -116,7 +117,7 @@ unfolding word_dci
 word_dci_lem w h = place_dci (endpoint_descriptor w).address h
 
 module _ (d : Device) (ctx routes log o : List ℕ) (i a : ℕ)
-    (g : Ready d ctx routes log o (claim_check d i a Pass)) where
+    (g : Checked d ctx routes log o (claim_check d i a Pass)) where
   abbrev rings : List ℕ
   rings = drawn d i a
 
@@ -148,8 +149,8 @@ module _ (d : Device) (ctx routes log o : List ℕ) (i a : ℕ)
       sym (words_ring claimed_words rings p h) ∙ rw (word_dci_lem w h, e) (last_ring xs ys w rings 0 s) in
       (rw (← word_dci_lem w h) (place_route p h has ∙ ring), offer_nonzero d ctx routes log o i a g (length xs) k)
 
-pub claim_accepts : ClaimAccepted
-claim_accepts d ctx routes log o i a g =
+claim_checked_accepts : (d : Device) (ctx routes log o : List ℕ) (i a : ℕ) → Checked d ctx routes log o (claim_check d i a Pass) → Claimed d i a (claim d ctx routes log o i a)
+claim_checked_accepts d ctx routes log o i a g =
     let r = claim_ran d ctx routes log o i a g in
     record {
       accepted = accepted d routes _ _ _ _ _ r (table_length d ctx routes log o _ g);
@@ -158,9 +159,9 @@ claim_accepts d ctx routes log o i a g =
       routes = word_route d ctx routes log o i a g;
     }
 
-pub release_accepts : ReleaseAccepted
+release_checked_accepts : (d : Device) (ctx routes log o : List ℕ) (i : ℕ) → Checked d ctx routes log o (release_check d i) → Released d i (release d ctx routes log o i)
 unfolding claimed_ring
-release_accepts d ctx routes log o i g =
+release_checked_accepts d ctx routes log o i g =
     let r = release_ran d ctx routes log o i g in
     record {
       accepted = accepted d routes _ _ _ _ _ r (table_length d ctx routes log o _ g);
@@ -172,14 +173,14 @@ release_accepts d ctx routes log o i g =
 
 -- What the set configuration returns.
 set_device :
-    (d : Device) (ctx routes log o : List ℕ) (value : ℕ) (g : Ready d ctx routes log o Pass) →
+    (d : Device) (ctx routes log o : List ℕ) (value : ℕ) (g : Checked d ctx routes log o Pass) →
     (set_configuration d ctx routes log o value).device ≡ set_record d value (set_end d ctx routes log o value g)
 unfolding set_configuration on_check ended played
 set_device d ctx routes log o value g = rw (g.passes, set_ends d ctx routes log o value g)
 
-pub set_accepts : SetAccepted
+set_checked_accepts : (d : Device) (ctx routes log o : List ℕ) (value : ℕ) → Checked d ctx routes log o Pass → Configured d value (set_configuration d ctx routes log o value)
 unfolding no_endpoints set_end
-set_accepts d ctx routes log o value g =
+set_checked_accepts d ctx routes log o value g =
     let r = set_ran d ctx routes log o value g in
     let v = set_value d value (set_end d ctx routes log o value g) refl refl in
     record {
@@ -193,7 +194,7 @@ set_accepts d ctx routes log o value g =
 
 pub set_again : SetAgain
 set_again d l a ctx log o value b =
-    let c = set_accepts l.device ctx l.routes log o value (ready_next d l ctx log o Pass a b refl) in
+    let c = set_checked_accepts l.device ctx l.routes log o value (ready_next d l ctx log o Pass a b refl) in
     record {
       accepted = accepted_then d l _ a c.accepted;
       configured = c.configured;
@@ -206,7 +207,7 @@ pub hub_accepts : HubAccepted
 unfolding hub_update on_check hub_left hub_course answer_of marked number played result words
 hub_accepts d ctx routes log o ports multi ns p h =
     let e = done_at o 1 0 h (omega arith) in
-    rw (p, e) (refl, refl, refl, refl)
+    rw (hub_passes d (length ctx) (length routes) (length log) ns p, e) (refl, refl, refl, refl)
 
 -- What a call that ran keeps of the table.
 module _ (d : Device) (routes : List ℕ) (hs : List Held) (c : EndpointMap) (x y : List ℕ) (l : Left) (r : Ran d routes hs c x y l) where
@@ -218,7 +219,7 @@ module _ (d : Device) (routes : List ℕ) (hs : List Held) (c : EndpointMap) (x 
 
 -- A claim of an interface that holds nothing, and then its release.
 module _ (d : Device) (ctx routes log o : List ℕ) (i a : ℕ)
-    (g : Ready d ctx routes log o (claim_check d i a Pass))
+    (g : Checked d ctx routes log o (claim_check d i a Pass))
     (unheld : is_held i (held_of d) ≡ false)
     (ctx₂ log₂ o₂ : List ℕ) (enough : Enough d ctx₂ log₂ o₂) where
   abbrev pending : List ℕ
@@ -231,19 +232,19 @@ module _ (d : Device) (ctx routes log o : List ℕ) (i a : ℕ)
   last = release first.device ctx₂ first.routes log₂ o₂ i
 
   first_accepted : Accepted d first
-  first_accepted = (claim_accepts d ctx routes log o i a g).accepted
+  first_accepted = (claim_checked_accepts d ctx routes log o i a g).accepted
 
   last_check : release_check first.device i ≡ Pass
   unfolding release_check
-  last_check = rw (claim_accepts d ctx routes log o i a g).held
+  last_check = rw (claim_checked_accepts d ctx routes log o i a g).held
 
-  last_ready : Ready first.device ctx₂ first.routes log₂ o₂ (release_check first.device i)
+  last_ready : Checked first.device ctx₂ first.routes log₂ o₂ (release_check first.device i)
   last_ready = ready_next d first ctx₂ log₂ o₂ (release_check first.device i) first_accepted enough last_check
 
   last_accepted : Accepted d last
   last_accepted =
       accepted_then d first last first_accepted
-      (release_accepts first.device ctx₂ first.routes log₂ o₂ i last_ready).accepted
+      (release_checked_accepts first.device ctx₂ first.routes log₂ o₂ i last_ready).accepted
 
   last_held : held_of last.device ≡ held_of d
   last_held =
@@ -301,10 +302,20 @@ module _ (d : Device) (ctx routes log o : List ℕ) (i a : ℕ)
       (λ k h. same_words_lem d.slot.0 last.routes routes outside_back own_back k)
 
 pub release_back : ReleaseBack
-release_back d ctx routes log o i a g unheld ctx₂ log₂ o₂ enough =
+release_back d ctx routes log o i a r unheld ctx₂ log₂ o₂ enough =
+    let g = claim_checked d ctx routes log o i a r in
     record {
       accepted = last_accepted d ctx routes log o i a g unheld ctx₂ log₂ o₂ enough;
       table = last_table d ctx routes log o i a g unheld ctx₂ log₂ o₂ enough;
       held = last_held d ctx routes log o i a g unheld ctx₂ log₂ o₂ enough;
       endpoints = last_map d ctx routes log o i a g unheld ctx₂ log₂ o₂ enough;
     }
+
+pub claim_accepts : ClaimAccepted
+claim_accepts d ctx routes log o i a r = claim_checked_accepts d ctx routes log o i a (claim_checked d ctx routes log o i a r)
+
+pub release_accepts : ReleaseAccepted
+release_accepts d ctx routes log o i r = release_checked_accepts d ctx routes log o i (release_checked d ctx routes log o i r)
+
+pub set_accepts : SetAccepted
+set_accepts d ctx routes log o value r = set_checked_accepts d ctx routes log o value (set_checked d ctx routes log o r)

@@ -16,6 +16,7 @@ use Rattle.course_init.specs.Reading.{BringUp, control_ring}
 use Rattle.device_bring_up.specs.BringUp.{queue_check, bring_up_check}
 use Rattle.device_bring_up.proofs.Checks.{passed}
 use Rattle.device_bring_up.proofs.Laws.{BroughtUp as Brought, bring_up_done, bring_up_accepted, brought_control, brought_others}
+use Rattle.theorem_checks.proofs.Checks.{bring_up_judged}
 use Rattle.theorem_accepting.specs.Accepting.{Accepted, BroughtUp, BringUpAccepted}
 use Rattle.theorem_accepting.proofs.Runs.{done_at}
 use Rattle.theorem_accepting.proofs.Value.{Values, bring_up_values}
@@ -60,7 +61,8 @@ module _ (a : BringUp) (ctx routes log : List ℕ) (l : Left) (b : Brought a ctx
 
 pub bring_up_accepts : BringUpAccepted
 unfolding bring_up_check
-bring_up_accepts a ctx routes log outcomes p header nine none done =
+bring_up_accepts a ctx routes log outcomes h header nine none done =
+    let p = (bring_up_judged a (length ctx) routes (length log)).passed h in
     let valid = (passed a (length ctx) (length routes) (length log) (queue_check a routes) p).0.list in
     let e =
     bring_up_done a ctx routes log outcomes p header (exponent_fits a.speed a.packet nine)

@@ -18,6 +18,7 @@ use Rattle.course_init.specs.Reading.{BringUp, control_ring, nothing_read, Broug
 use Rattle.course_init.specs.Init.{step, bring_up_header, bring_up_address}
 use Rattle.device.specs.Calls.{on_check}
 use Rattle.device_bring_up.specs.BringUp.{slot_check, device_check, queue_check, bring_up_check, bring_up_course, brought_record, brought_left, bring_up}
+use Rattle.theorem_checks.proofs.Checks.{bring_up_judged}
 use Rattle.theorem_accepting.specs.Exponent.{with_header, LeavesAs, ExponentLeaves}
 
 -- How two bring-ups end that differ only in 16 and 19.
@@ -68,7 +69,8 @@ left_as a short spacing log o x y b =
 
 pub exponent_leaves : ExponentLeaves
 unfolding bring_up on_check bring_up_course control_ring bring_up_address bring_up_header with_header bring_up_check slot_check device_check queue_check
-exponent_leaves a short ctx routes log o pass eight bad other =
+exponent_leaves a short ctx routes log o holds eight bad other =
+    let pass = (bring_up_judged a (length ctx) routes (length log)).passed holds in
     rw (pass, eq-eqb a.header 8 eight, bad, ne_eqb short 8 other)
     (left_as a short (spacing_of (length ctx)) log o _ _
     (both_step o 0 _ _ _ _ _ (both_step o 1 _ _ _ _ _ (both_end o _ _ 2))))

@@ -48,7 +48,8 @@ use Rattle.device.specs.SetConfiguration.{settings_in, set_record, set_configura
 use Rattle.device.proofs.Laws.{Passed, passed}
 use Rattle.device.proofs.Made.{Made}
 use Rattle.device.proofs.Kept.{ClaimPassed, claim_passed, claim_moves, release_moves, set_moves}
-use Rattle.theorem_accepting.specs.Accepting.{AllDone, Ready}
+use Rattle.theorem_accepting.specs.Accepting.{AllDone}
+use Rattle.theorem_accepting.proofs.Checked.{Checked}
 
 -- A call that moved its settings: the record made of d, and the table with the queues of x replaced by those of y.
 pub record Ran (d : Device) (routes : List ℕ) (hs : List Held) (c : EndpointMap) (x y : List ℕ) (l : Left) : Type 0 where
@@ -78,7 +79,7 @@ in_table : (d : Device) (ctx routes log : ℕ) (l : List ℕ) → Passed d ctx r
 in_table d ctx routes log l p e = omega (arith, p.facts.place.slot_high, p.table)
 
 module _ (d : Device) (ctx routes log o : List ℕ) (i a : ℕ)
-    (g : Ready d ctx routes log o (claim_check d i a Pass)) where
+    (g : Checked d ctx routes log o (claim_check d i a Pass)) where
   abbrev rings : List ℕ
   rings = drawn d i a
 
@@ -153,7 +154,7 @@ module _ (a : Release) (routes o : List ℕ) where
       let n : length (words o 0 (stop_endpoints ctx dcis)) ≡ length a.old = stop_done o ctx dcis 0 e ∙ m in
       rw (result_then, e, n, zero-add) (configure_done ctx (length a.old) (done_at o _ _ h (omega arith)) r)
 
-module _ (d : Device) (ctx routes log o : List ℕ) (i : ℕ) (g : Ready d ctx routes log o (release_check d i)) where
+module _ (d : Device) (ctx routes log o : List ℕ) (i : ℕ) (g : Checked d ctx routes log o (release_check d i)) where
   pub release_ran :
       Ran d routes (without_setting i (held_of d)) (claimed_endpoints i (replicate 30 0) (endpoint_map_in d)) (owned_rings (Interface i) (endpoint_map_in d)) (replicate 30 0)
       (release d ctx routes log o i)
@@ -169,7 +170,7 @@ module _ (d : Device) (ctx routes log o : List ℕ) (i : ℕ) (g : Ready d ctx r
       (release_moves d _ _ _ i g.passes _ refl)
       (rw no_queues t.routed)
 
-module _ (d : Device) (ctx routes log o : List ℕ) (value : ℕ) (g : Ready d ctx routes log o Pass) where
+module _ (d : Device) (ctx routes log o : List ℕ) (value : ℕ) (g : Checked d ctx routes log o Pass) where
   -- What the course of a set configuration ends with.
   unfoldable pub set_end : End
   set_end =

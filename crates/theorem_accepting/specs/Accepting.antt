@@ -3,7 +3,6 @@ use Rattle.std.specs.Prelude.{ℕ, ◌+◌, ◌*◌, ◌<◌, ◌≤◌, ◌≡�
 use Rattle.def.specs.Speed.{SUPER, SUPER-PLUS}
 use Rattle.descriptor.specs.Word.{configuration_value}
 use Rattle.answer.specs.declared.Answer.TheVariants as answer
-use Rattle.answer.specs.Check.{Check, Pass}
 use Rattle.command.specs.Command.{LOG-ROOM}
 use Rattle.context_block.specs.Blocks.{word_dci, some_dci}
 use Rattle.transfer.specs.Routes.{route_of}
@@ -16,13 +15,13 @@ use Rattle.device.specs.declared.record.Device.{Device}
 use Rattle.device.specs.Device.{list_of, endpoint_map_in, held_of, quarantined_of, given_of, Same}
 use Rattle.device.specs.Sound.{sound}
 use Rattle.device.specs.Left.{Left}
-use Rattle.device.specs.Check.{record_check, hub_check}
 use Rattle.device.specs.Calls.{hub_update}
-use Rattle.device.specs.Claim.{claim_check, drawn, claim}
-use Rattle.device.specs.Release.{release_check, release}
+use Rattle.device.specs.Claim.{drawn, claim}
+use Rattle.device.specs.Release.{release}
 use Rattle.device.specs.SetConfiguration.{set_configuration}
 use Rattle.course_init.specs.Reading.{BringUp, control_ring}
-use Rattle.device_bring_up.specs.BringUp.{bring_up_check, bring_up}
+use Rattle.device_bring_up.specs.BringUp.{bring_up}
+use Rattle.theorem_checks.specs.Checks.{Condition, AllHold, fit_conditions, claim_conditions, release_conditions, hub_conditions, bring_up_conditions}
 
 -- A record and a table agree: the slot's routes are those of the record's endpoints.
 abbrev pub Routed : Device → List ℕ → Type 0
@@ -32,9 +31,9 @@ Routed d routes = RoutedBy routes d.slot.0 (endpoint_map_in d)
 abbrev pub AllDone : List ℕ → ℕ → Type 0
 AllDone outcomes n = (k : ℕ) → k < n → (k < length outcomes) × (get_or outcomes k 0 ≡ 0)
 
--- A call whose checks pass, on a record and a table that agree; as many outcomes as a log has words are enough for each.
-pub record Ready (d : Device) (ctx routes log outcomes : List ℕ) (check : Check) : Type 0 where
-  pub passes : record_check d (length ctx) (length routes) (length log) check ≡ Pass
+-- A call of which all that its checks ask holds, on a record and a table that agree; as many outcomes as a log has words are enough for each.
+pub record Ready (d : Device) (ctx routes log outcomes : List ℕ) (own : List Condition) : Type 0 where
+  pub holds : AllHold (fit_conditions d.usable d (length ctx) (length routes) (length log) own)
   pub routed : Routed d routes
   pub done : AllDone outcomes LOG-ROOM
 
@@ -76,11 +75,11 @@ pub record BroughtUp (a : BringUp) (ctx : List ℕ) (l : Left) : Type 0 where
   pub given : given_of l.device ≡ a.rings
   pub route : route_of l.routes a.slot 1 ≡ control_ring a
 
--- Its checks pass, the header has its eight bytes with, at SuperSpeed, the exponent 9, and the slot has no routes yet.
+-- All that its checks ask holds, the header has its eight bytes with, at SuperSpeed, the exponent 9, and the slot has no routes yet.
 abbrev pub BringUpAccepted : Type 0
 BringUpAccepted =
     (a : BringUp) (ctx routes log outcomes : List ℕ) →
-    bring_up_check a (length ctx) routes (length log) ≡ Pass →
+    AllHold (bring_up_conditions a (length ctx) routes (length log)) →
     a.header ≡ 8 →
     ((a.speed ≡ SUPER) ⊎ (a.speed ≡ SUPER-PLUS) → a.packet ≡ 9) →
     ((d : ℕ) → 2 ≤ d → d < 32 → route_of routes a.slot d ≡ 0) →
@@ -102,7 +101,7 @@ pub record Claimed (d : Device) (interface alternate : ℕ) (l : Left) : Type 0 
 abbrev pub ClaimAccepted : Type 0
 ClaimAccepted =
     (d : Device) (ctx routes log outcomes : List ℕ) (interface alternate : ℕ) →
-    Ready d ctx routes log outcomes (claim_check d interface alternate Pass) →
+    Ready d ctx routes log outcomes (claim_conditions d interface alternate []) →
     Claimed d interface alternate (claim d ctx routes log outcomes interface alternate)
 
 -- A release: the interface holds nothing, and the routes of its endpoints are out.
@@ -115,7 +114,7 @@ pub record Released (d : Device) (interface : ℕ) (l : Left) : Type 0 where
 abbrev pub ReleaseAccepted : Type 0
 ReleaseAccepted =
     (d : Device) (ctx routes log outcomes : List ℕ) (interface : ℕ) →
-    Ready d ctx routes log outcomes (release_check d interface) →
+    Ready d ctx routes log outcomes (release_conditions d interface) →
     Released d interface (release d ctx routes log outcomes interface)
 
 -- Back to what was before: the whole table, the held settings in their order, and by place each endpoint's ring, owner and handle.
@@ -129,7 +128,7 @@ pub record Back (d : Device) (routes : List ℕ) (l : Left) : Type 0 where
 abbrev pub ReleaseBack : Type 0
 ReleaseBack =
     (d : Device) (ctx routes log outcomes : List ℕ) (interface alternate : ℕ) →
-    Ready d ctx routes log outcomes (claim_check d interface alternate Pass) →
+    Ready d ctx routes log outcomes (claim_conditions d interface alternate []) →
     is_held interface (held_of d) ≡ false →
     (ctx₂ log₂ outcomes₂ : List ℕ) →
     Enough d ctx₂ log₂ outcomes₂ →
@@ -147,7 +146,7 @@ pub record Configured (d : Device) (value : ℕ) (l : Left) : Type 0 where
 abbrev pub SetAccepted : Type 0
 SetAccepted =
     (d : Device) (ctx routes log outcomes : List ℕ) (value : ℕ) →
-    Ready d ctx routes log outcomes Pass →
+    Ready d ctx routes log outcomes [] →
     Configured d value (set_configuration d ctx routes log outcomes value)
 
 -- And another one after any accepted call: not only the first works.
@@ -163,7 +162,7 @@ SetAgain =
 abbrev pub HubAccepted : Type 0
 HubAccepted =
     (d : Device) (ctx routes log outcomes : List ℕ) (ports : ℕ) (multi : Bool) (ns : ℕ) →
-    record_check d (length ctx) (length routes) (length log) (hub_check d ns) ≡ Pass →
+    AllHold (fit_conditions d.usable d (length ctx) (length routes) (length log) (hub_conditions d ns)) →
     AllDone outcomes 1 →
     let l = hub_update d ctx routes log outcomes ports multi ns in
     (l.answer ≡ answer.Accepted) × (l.device ≡ d) × (l.routes ≡ routes) × (l.count ≡ 1)

@@ -1,11 +1,11 @@
 -- What 19 leaves: exactly what 16 leaves, a header of another length in its place.
 use Rattle.std.specs.Prelude.{ℕ, ◌≡◌, cond, false, List, eqb, length}
 use Rattle.def.specs.Speed.{exponent_ok}
-use Rattle.answer.specs.Check.{Pass}
 use Rattle.answer.specs.Answer.{number}
 use Rattle.course_init.specs.Reading.{BringUp}
 use Rattle.device.specs.Left.{Left}
-use Rattle.device_bring_up.specs.BringUp.{bring_up_check, bring_up}
+use Rattle.device_bring_up.specs.BringUp.{bring_up}
+use Rattle.theorem_checks.specs.Checks.{AllHold, bring_up_conditions}
 
 -- The same bring-up of a device whose header has another number of bytes.
 unfoldable pub with_header : ℕ → BringUp → BringUp
@@ -34,12 +34,12 @@ pub record LeavesAs (l short : Left) : Type 0 where
   pub log : l.log ≡ short.log
   pub answer : number l.answer ≡ cond (eqb (number short.answer) 16) 19 (number short.answer)
 
--- Of a bring-up whose checks pass, whatever the outcomes: with a header of eight bytes that says a size of no such device, and with a header of
+-- Of a bring-up of which all that its checks ask holds, whatever the outcomes: with a header of eight bytes that says a size of no such device, and with a header of
 -- another length.
 abbrev pub ExponentLeaves : Type 0
 ExponentLeaves =
     (a : BringUp) (short : ℕ) (ctx routes log outcomes : List ℕ) →
-    bring_up_check a (length ctx) routes (length log) ≡ Pass →
+    AllHold (bring_up_conditions a (length ctx) routes (length log)) →
     a.header ≡ 8 →
     exponent_ok a.speed a.packet ≡ false →
     (short ≡ 8 → ⊥) →

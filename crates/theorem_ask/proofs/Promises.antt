@@ -64,11 +64,11 @@ same_self [] = refl
 same_self (r ∷ rs) = rw (eq-eqb r r refl) (same_self rs)
 
 -- The comparison of asks.
-same_ask_self : (p : Ask) → same_ask p p ≡ true
+pub same_ask_self : (p : Ask) → same_ask p p ≡ true
 unfolding same_ask
 same_ask_self p = rw (eq-eqb p.drops p.drops refl, eq-eqb p.adds p.adds refl) (same_self p.rings)
 
-same_ask_told : (p q : Ask) → p.interface ≡ q.interface → p.alternate ≡ q.alternate → same_ask p q ≡ true → q ≡ p
+pub same_ask_told : (p q : Ask) → p.interface ≡ q.interface → p.alternate ≡ q.alternate → same_ask p q ≡ true → q ≡ p
 unfolding same_ask
 same_ask_told p q i a e =
     let rest = and_right (eqb p.drops q.drops) (eqb p.adds q.adds && same_rings p.rings q.rings) e in

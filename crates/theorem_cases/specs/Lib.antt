@@ -1,4 +1,10 @@
 pub mod Added
 pub mod Cases
+pub mod DevicePaths
 pub mod Example
+pub mod Faults
+pub mod Holds
+pub mod InterfacePaths
 pub mod Lists
+pub mod Path
+pub mod Slot

@@ -1,4 +1,5 @@
--- Lists of calls on one slot, what each call answers, and what is left after them: docs/THEOREM.md works through them.
+-- Lists of calls on one slot, what each call answers, what is left after them and what they have told the USB device: docs/THEOREM.md
+-- works through them.
 use Rattle.std.specs.Prelude.{ℕ, zero, suc, ◌+◌, Bool, true, false, not, cond, ◌&&◌, List, [], ◌∷◌, ◌++◌, eqb, length, replicate, None}
 use Rattle.def.specs.Speed.{HIGH}
 use Rattle.answer.specs.declared.Answer.{Answer}
@@ -11,7 +12,9 @@ use Rattle.device_bring_up.specs.BringUp.{bring_up}
 use Rattle.theorem_slot.specs.Call.{Asked, Call, brings_up, claims, commits, releases, configures, updates_hub, disconnects, left}
 use Rattle.theorem_slot.specs.Groups.{Groups}
 use Rattle.theorem_slot.specs.Plain.{HeldSetting, Phase, up, unplugged, not_up, is_up, is_unplugged}
-use Rattle.theorem_slot.specs.Theorem.{State, called, start}
+use Rattle.theorem_slot.specs.Theorem.{State, Turn, called, start}
+use Rattle.theorem_device_state.specs.DeviceState.{Known, unknown, known, DeviceState, nothing_known}
+use Rattle.theorem_device_state.specs.Theorem.{device_heard, device_called}
 use Rattle.theorem_cases.specs.Added.{word_of}
 use Rattle.theorem_cases.specs.Example.{ctx, log, done}
 
@@ -89,7 +92,8 @@ abbrev pub holding : ℕ → ℕ → Holding
 holding interface alternate = record { interface = interface; alternate = alternate }
 
 -- Calls after the bring-up with their answers; where the slot stands after them, what is held, the endpoints with a route, those
--- enabled, the two marks, and the free and the quarantined rings. Live are the routed ones that are not quarantined.
+-- enabled, the two marks, and the free and the quarantined rings. Live are the routed ones that are not quarantined. Last the USB
+-- device: its configuration value, and the alternates of interfaces 0, 1 and 2.
 pub record ListOfCalls : Type 0 where
   pub calls : List Heard
   pub phase : Phase
@@ -100,13 +104,15 @@ pub record ListOfCalls : Type 0 where
   pub unheld_release : Bool
   pub free : List ℕ
   pub quarantined : List ℕ
+  pub device_value : Known
+  pub device_alternates : List Known
 
 abbrev pub route : ℕ → ℕ → Queue
 route dci ring = record { dci = dci; ring = ring }
 
 -- With the device up: control's ring is 16, and it is enabled.
-abbrev pub while_up : List Heard → List Holding → List Queue → List ℕ → Bool → Bool → List ℕ → List ℕ → ListOfCalls
-while_up calls held routed enabled broken unheld_release free quarantined =
+abbrev pub while_up : List Heard → List Holding → List Queue → List ℕ → Bool → Bool → List ℕ → List ℕ → Known → List Known → ListOfCalls
+while_up calls held routed enabled broken unheld_release free quarantined device_value device_alternates =
     record {
       calls = calls;
       phase = up;
@@ -117,11 +123,13 @@ while_up calls held routed enabled broken unheld_release free quarantined =
       unheld_release = unheld_release;
       free = free;
       quarantined = quarantined;
+      device_value = device_value;
+      device_alternates = device_alternates;
     }
 
 -- Where they leave the slot without any endpoint: unplugged, or with control's word of a bring-up that failed.
-abbrev pub none : List Heard → Phase → List Queue → Bool → List ℕ → ListOfCalls
-none calls phase routed broken free =
+abbrev pub none : List Heard → Phase → List Queue → Bool → List ℕ → Known → List Known → ListOfCalls
+none calls phase routed broken free device_value device_alternates =
     record {
       calls = calls;
       phase = phase;
@@ -132,7 +140,13 @@ none calls phase routed broken free =
       unheld_release = false;
       free = free;
       quarantined = [];
+      device_value = device_value;
+      device_alternates = device_alternates;
     }
+
+-- The alternates of the three interfaces.
+abbrev pub alternates : (a0 a1 a2 : Known) → List Known
+alternates a0 a1 a2 = a0 ∷ a1 ∷ a2 ∷ []
 
 abbrev pub lists : List ListOfCalls
 lists =
@@ -140,39 +154,49 @@ lists =
     while_up (first_claim ∷ hears (claims 0 1) done answer.Accepted ∷ [])
     (holding 0 1 ∷ []) (route 3 48 ∷ route 4 64 ∷ []) (3 ∷ 4 ∷ []) false false
     (32 ∷ 80 ∷ 96 ∷ []) []
+    (known 1) (alternates (known 1) (known 0) (known 0))
     -- 2: a claim undone: its SetInterface fails
     ∷ while_up (first_claim ∷ hears (claims 0 1) (0 ∷ 0 ∷ 7 ∷ 0 ∷ 0 ∷ []) (answer.Failed 7) ∷ [])
     (holding 0 0 ∷ []) (route 3 32 ∷ []) (3 ∷ []) false false
     (48 ∷ 64 ∷ 80 ∷ 96 ∷ []) []
+    (known 1) (alternates (known 0) (known 0) (known 0))
     -- 3: the undoing fails too: broken, with the new endpoints in the controller
     ∷ while_up (first_claim ∷ hears (claims 0 1) (0 ∷ 0 ∷ 7 ∷ 5 ∷ []) answer.InterfaceBroken ∷ [])
     (holding 0 0 ∷ []) (route 3 32 ∷ []) (3 ∷ 4 ∷ []) true false
     (80 ∷ 96 ∷ []) (48 ∷ 64 ∷ [])
+    (known 1) (alternates unknown (known 0) (known 0))
     -- 4: a claim and its release
     ∷ while_up (first_claim ∷ hears (releases 0) done answer.Accepted ∷ []) [] [] [] false false
     (32 ∷ 48 ∷ 64 ∷ 80 ∷ 96 ∷ []) []
+    (known 1) (alternates (known 0) (known 0) (known 0))
     -- 5: a repeated address: the last word's ring
     ∷ while_up (hears (claims 2 0) done answer.Accepted ∷ []) (holding 2 0 ∷ []) (route 7 48 ∷ []) (7 ∷ []) false false
     (32 ∷ 64 ∷ 80 ∷ 96 ∷ []) []
+    (known 1) (alternates (known 0) (known 0) (known 0))
     -- 6: a set configuration cut at its last Evaluate
     ∷ while_up (first_claim ∷ hears (configures 1) (0 ∷ 0 ∷ 0 ∷ []) answer.Cut ∷ []) [] [] [] true false
     (32 ∷ 48 ∷ 64 ∷ 80 ∷ 96 ∷ []) []
+    (known 1) (alternates (known 0) (known 0) (known 0))
     -- 7: a set configuration that fails and is undone
     ∷ while_up (first_claim ∷ hears (configures 1) (0 ∷ 0 ∷ 9 ∷ 0 ∷ 0 ∷ []) (answer.Failed 9) ∷ [])
     (holding 0 0 ∷ []) (route 3 32 ∷ []) (3 ∷ []) false false
     (48 ∷ 64 ∷ 80 ∷ 96 ∷ []) []
+    (known 1) (alternates (known 0) (known 0) (known 0))
     -- 8: a second bring-up is refused (17), and every call with its record after it (12)
     ∷ while_up (first_claim ∷ hears (brings_up device) done answer.QueueFull ∷ hears (releases 0) done answer.Unusable ∷ [])
     (holding 0 0 ∷ []) (route 3 32 ∷ []) (3 ∷ []) false false
     (48 ∷ 64 ∷ 80 ∷ 96 ∷ []) []
+    (known 1) (alternates (known 0) (known 0) (known 0))
     -- 9: a claim of an address that another interface has is refused (9)
     ∷ while_up
     (first_claim ∷ hears (claims 1 0) done answer.InvalidParameter ∷ hears (claims 2 0) done answer.Accepted ∷ [])
     (holding 0 0 ∷ holding 2 0 ∷ []) (route 3 32 ∷ route 7 64 ∷ []) (3 ∷ 7 ∷ []) false false
     (48 ∷ 80 ∷ 96 ∷ []) []
+    (known 1) (alternates (known 0) (known 0) (known 0))
     -- 10: a release of an interface that holds nothing but lists the same address: the controller drops a held endpoint
     ∷ while_up (first_claim ∷ hears (releases 1) done answer.Accepted ∷ []) (holding 0 0 ∷ []) (route 3 32 ∷ []) [] false true
     (48 ∷ 64 ∷ 80 ∷ 96 ∷ []) []
+    (known 1) (alternates (known 0) (known 0) (known 0))
     -- 11: a dozen calls and one
     ∷ while_up
     (first_claim
@@ -184,15 +208,17 @@ lists =
     ∷ hears (releases 0) done answer.Accepted
     ∷ hears (releases 5) done answer.NotFound
     ∷ hears (claims 1 0) done answer.Accepted
-    ∷ hears (configures 1) done answer.Accepted
+    ∷ hears (configures 9) done answer.Accepted
     ∷ first_claim
     ∷ hears_keeping (brings_up device) done answer.QueueFull
     ∷ hears (claims 2 0) done answer.Accepted
     ∷ [])
     (holding 0 0 ∷ holding 2 0 ∷ []) (route 3 32 ∷ route 7 64 ∷ []) (3 ∷ 7 ∷ []) false false
     (48 ∷ 80 ∷ 96 ∷ []) []
+    (known 9) (alternates (known 0) (known 0) (known 0))
     -- 12: unplugged with a setting held; every call on the record is refused (12)
     ∷ none (first_claim ∷ hears disconnects done answer.Accepted ∷ hears (configures 1) done answer.Unusable ∷ []) unplugged [] false (16 ∷ 32 ∷ 48 ∷ 64 ∷ 80 ∷ 96 ∷ [])
+    (known 1) (alternates (known 0) (known 0) (known 0))
     -- 13: a claim breaks, Disable fails, a Stop is cut, and then it is done; a new bring-up begins all anew, with every given ring
     ∷ while_up
     (first_claim
@@ -206,9 +232,11 @@ lists =
     ∷ [])
     (holding 0 1 ∷ []) (route 3 32 ∷ route 4 48 ∷ []) (3 ∷ 4 ∷ []) false false
     (64 ∷ 80 ∷ 96 ∷ []) []
+    (known 1) (alternates (known 1) (known 0) (known 0))
     -- 14: Disable fails: routes and settings stay
     ∷ while_up (first_claim ∷ hears disconnects (0 ∷ 0 ∷ 9 ∷ []) answer.InterfaceBroken ∷ []) (holding 0 0 ∷ []) (route 3 32 ∷ []) (3 ∷ []) true false
     (48 ∷ 64 ∷ 80 ∷ 96 ∷ []) (16 ∷ 32 ∷ [])
+    (known 1) (alternates (known 0) (known 0) (known 0))
     -- 15: after it is unplugged a bring-up fails at its first command; it leaves control's word, and every later one is refused (17)
     ∷ none
     (hears disconnects done answer.Accepted
@@ -216,6 +244,7 @@ lists =
     ∷ hears (brings_up device) done answer.QueueFull
     ∷ [])
     not_up (route 1 16 ∷ []) false (32 ∷ 48 ∷ 64 ∷ 80 ∷ 96 ∷ [])
+    unknown (alternates unknown unknown unknown)
     -- 16: the other alternate asked for: a commit with its rings in another order is outdated, and changes nothing; the right one is the claim
     ∷ while_up
     (first_claim
@@ -223,6 +252,7 @@ lists =
     ∷ hears (commits (asking 0 1 0x08 0x18 (48 ∷ 64 ∷ []))) done answer.Accepted ∷ [])
     (holding 0 1 ∷ []) (route 3 48 ∷ route 4 64 ∷ []) (3 ∷ 4 ∷ []) false false
     (32 ∷ 80 ∷ 96 ∷ []) []
+    (known 1) (alternates (known 1) (known 0) (known 0))
     ∷ []
 
 -- The interfaces and alternates of settings, in order.
@@ -271,6 +301,20 @@ slot_as_before (suc k) slot d s = eqb (route_of s.routes slot d) (route_of table
 abbrev pub same_phase : Phase → Phase → Bool
 same_phase a b = same_flag (is_up a) (is_up b) && same_flag (is_unplugged a) (is_unplugged b)
 
+abbrev pub same_known : Known → Known → Bool
+same_known unknown unknown = true
+same_known unknown (known b) = false
+same_known (known a) unknown = false
+same_known (known a) (known b) = eqb a b
+
+-- What the device has been told: its value, and the alternates of interfaces from j on.
+abbrev pub same_alternates : ℕ → DeviceState → List Known → Bool
+same_alternates j u [] = true
+same_alternates j u (k ∷ ks) = same_known (u.alternates j) k && same_alternates (j + 1) u ks
+
+abbrev pub same_told : DeviceState → (value : Known) → (alternates : List Known) → Bool
+same_told u value alternates = same_known u.configuration value && same_alternates 0 u alternates
+
 abbrev pub left_holds : State → ListOfCalls → Bool
 left_holds s l =
     (same_phase s.plain.phase l.phase && same_held s.plain.held l.held)
@@ -283,14 +327,21 @@ abbrev pub same_answer : Answer → Answer → Bool
 same_answer a b = eqb (number a) (number b) && eqb (code_of a) (code_of b)
 
 -- Each call answers what is listed, and after the last the rest holds.
-abbrev pub heard_from : State → List Heard → ListOfCalls → Bool
-heard_from s [] l = left_holds s l
-heard_from s (h ∷ hs) l =
+abbrev pub heard_from : State → DeviceState → List Heard → ListOfCalls → Bool
+heard_from s u [] l = left_holds s l && same_told u l.device_value l.device_alternates
+heard_from s u (h ∷ hs) l =
+    let t : Turn = record { call = h.call; table = s.routes; keeps = h.keeps } in
     same_answer (left h.call.asked h.call.buffers s.device s.routes).answer h.answer
-    && heard_from (called s (record { call = h.call; table = s.routes; keeps = h.keeps })) hs l
+    && heard_from (called s t) (device_called s t u) hs l
+
+-- The bring-up before each list.
+abbrev pub first_call : Call
+first_call = call (brings_up device) done
 
 abbrev pub listed_holds : ListOfCalls → Bool
-listed_holds l = heard_from (start device (bring_up device ctx table log done)) l.calls l
+listed_holds l =
+    let b = bring_up device ctx table log done in
+    heard_from (start device b) (device_heard first_call.asked first_call.buffers b nothing_known) l.calls l
 
 abbrev pub all_listed : List ListOfCalls → Bool
 all_listed [] = true

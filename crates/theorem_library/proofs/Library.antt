@@ -46,6 +46,15 @@ leaves x l ok image ctx routes log t c =
       count = ap (λ (y : Crossed). y.answered.count) e;
     }
 
+-- A call that sends no command and leaves the table does so across the boundary, whatever it is lent as its image.
+untouched :
+    (x : Crossed) (l : Left) (ok : Bool) (image ctx routes log : List ℕ) → CrossedAs x ok l image ctx routes log →
+    (l.count ≡ 0) × (l.routes ≡ routes) → (x.answered.count ≡ 0) × (x.routes ≡ routes)
+unfolding crossed answered_of
+untouched x l true image ctx routes log c h =
+    (ap (λ (y : Crossed). y.answered.count) c.equal ∙ h.0, ap (λ (y : Crossed). y.routes) c.equal ∙ h.1)
+untouched x l false image ctx routes log c h = (ap (λ (y : Crossed). y.answered.count) c.equal, ap (λ (y : Crossed). y.routes) c.equal)
+
 -- The caller's image, and the record and table of a state.
 record Has (image routes : List ℕ) (s : State) : Type 0 where
   pub there : is_image image ≡ true
@@ -155,11 +164,14 @@ library_demand_three b l image routes x still es empty size meets zero o =
     let up : Left = bring_up b l.ctx routes l.log l.outcomes in
     let v : Leaves x up = leaves x up _ image l.ctx routes l.log (eq-eqb (length image) WORDS size) meets in
     let w = went b.slot still x.image x.routes (start b up) es (record { there = v.image; device = v.device; table = v.routes }) o in
+    let kept = kept_by_number b l routes still (turns_of es) empty (sym v.answer ∙ zero) w.turns in
     record {
-      kept = kept_by_number b l routes still (turns_of es) empty (sym v.answer ∙ zero) w.turns;
+      kept = kept;
       table = w.has.table;
       record_there = w.has.there;
       device = w.has.device;
+      no_other = λ n c m given table y slot same meets.
+          untouched y _ (reads (brings_up c) given) given m.ctx table m.log meets (kept.no_other n c m table slot (rw w.has.table at same));
     }
 
 pub library_groups : LibraryGroups

@@ -1,1 +1,3 @@
+pub mod Ask
+pub mod Checks
 pub mod Library

@@ -9,6 +9,7 @@ use Rattle.device_image.specs.Layout.{WORDS}
 use Rattle.xhci_device.specs.Crossed.{Crossed, CrossedAs}
 use Rattle.theorem_slot.specs.Call.{Buffers, Asked, brings_up, claims, commits, releases, configures, updates_hub, disconnects, Call, left, OfSlot}
 use Rattle.theorem_slot.specs.Groups.{Parted}
+use Rattle.theorem_slot.specs.Plain.{is_unplugged}
 use Rattle.theorem_slot.specs.Rings.{first, OfRecord}
 use Rattle.theorem_slot.specs.Theorem.{State, Turn, called, after, Between, start, Kept}
 
@@ -87,16 +88,23 @@ unfoldable pub turns_of : List Exchange → List Turn
 turns_of [] = []
 turns_of (e ∷ es) = record { call = e.call; table = e.table; keeps = e.keeps } ∷ turns_of es
 
+abbrev pub brings : BringUp → Buffers → List ℕ → List ℕ → Crossed → Exchange
+brings b l image routes x =
+    record { call = record { asked = brings_up b; buffers = l }; image = image; table = routes; crossed = x; keeps = false }
+
 -- What holds of the slot holds of its record and table, and these are what the caller has.
 pub record KeptAcross (slot : ℕ) (still : ℕ → Bool) (before image routes : List ℕ) (s : State) : Type 0 where
   pub kept : Kept slot still before s
   pub table : routes ≡ s.routes
   pub record_there : is_image image ≡ true
   pub device : decode image ≡ s.device
-
-abbrev pub brings : BringUp → Buffers → List ℕ → List ℕ → Crossed → Exchange
-brings b l image routes x =
-    record { call = record { asked = brings_up b; buffers = l }; image = image; table = routes; crossed = x; keeps = false }
+  -- until the device is unplugged another bring-up of the slot, whatever it is lent as its image, sends no command and leaves the table
+  pub no_other :
+      is_unplugged s.plain.phase ≡ false → (b : BringUp) (l : Buffers) (given table : List ℕ) (x : Crossed) →
+      b.slot ≡ slot →
+      route_of table slot 1 ≡ route_of routes slot 1 →
+      Meets (brings b l given table x) →
+      (x.answered.count ≡ 0) × (x.routes ≡ table)
 
 -- A bring-up that answers 0, of a slot whose routes were all 0, and whatever calls follow.
 abbrev pub LibraryDemand3 : Type 0

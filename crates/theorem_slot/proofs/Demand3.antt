@@ -30,15 +30,15 @@ use Rattle.device.specs.Claim.{claim_check}
 use Rattle.device.proofs.Laws.{passed}
 use Rattle.course_init.specs.Reading.{BringUp}
 use Rattle.device_bring_up.specs.BringUp.{slot_check, device_check, queue_check, bring_up_check, bring_up}
-use Rattle.device_bring_up.proofs.Laws.{accepted_by_number, bring_up_done}
+use Rattle.device_bring_up.proofs.Laws.{accepted_by_number, bring_up_full, bring_up_done}
 use Rattle.device_bring_up.proofs.Checks as brought-checks
 use Rattle.theorem_slot.specs.Call.{Buffers, Asked, brings_up, claims, commits, releases, configures, updates_hub, disconnects, Call, OfSlot}
 use Rattle.theorem_slot.specs.Answers.{is_bring_up}
 use Rattle.theorem_slot.specs.Call as call
 use Rattle.theorem_slot.specs.Groups.{drawn_from}
 use Rattle.theorem_slot.specs.Plain.{Phase, up, unplugged, not_up, is_up, is_unplugged, is_not_up, plain_route, effect_of, anew, observed}
-use Rattle.theorem_slot.specs.Theorem.{State, Turn, called, after, Between, Turns, start, Kept, Demand3, SoundWhileUsable, ClaimRouted, ClaimsAccepted, BroughtUpAgain, BegunAnew, Untouched}
-use Rattle.theorem_slot.proofs.Good.{Down, Unrouted, Good, Empty, Stands, stands_table, stands_room, live_here, usable_sound}
+use Rattle.theorem_slot.specs.Theorem.{State, Turn, called, after, Between, Turns, start, NoOtherBringUp, Kept, Demand3, SoundWhileUsable, ClaimRouted, ClaimsAccepted, BroughtUpAgain, BegunAnew, Untouched}
+use Rattle.theorem_slot.proofs.Good.{Down, Unrouted, Good, Empty, Stands, stands_table, stands_room, live_here, not_down, usable_live}
 use Rattle.theorem_slot.proofs.Step.{called_here}
 use Rattle.theorem_slot.proofs.Refusing.{called_here_lem, down_same}
 use Rattle.theorem_slot.proofs.BringUp.{start_good, bring_up_stands}
@@ -49,7 +49,7 @@ use Rattle.theorem_slot.proofs.SetConfiguration.{set_good}
 use Rattle.theorem_slot.proofs.Hub.{hub_good}
 
 -- One call, with the table that the last one left.
-abbrev turn : State → Call → Bool → Turn
+abbrev pub turn : State → Call → Bool → Turn
 turn s c keeps = record { call = c; table = s.routes; keeps = keeps }
 
 -- A call on the record: while the slot is not up it is refused and changes nothing.
@@ -87,7 +87,7 @@ called_stands slot before s disconnects buffers keeps o g =
     on_record slot before s disconnects buffers keeps refl g (λ x. disconnect_stands slot before s buffers x)
 
 -- A table with the words that a slot has in another.
-with_own : List ℕ → ℕ → List ℕ → List ℕ
+pub with_own : List ℕ → ℕ → List ℕ → List ℕ
 with_own table slot base = sets table (32 * slot) (take 32 (drop (32 * slot) base))
 
 module _ (table : List ℕ) (slot : ℕ) (base : List ℕ) (room : 32 * slot + 32 ≤ length table) (same : length base ≡ length table) where
@@ -117,48 +117,39 @@ pub record Sofar (slot : ℕ) (still : ℕ → Bool) (before : List ℕ) (s : St
   pub long : length base ≡ length before
   pub others : (k : ℕ) → OutsideSlot slot k → still k ≡ true → get_or base k 0 ≡ get_or before k 0
 
--- One call, whatever else was written.
-module _ (slot : ℕ) (still : ℕ → Bool) (before : List ℕ) (s : State) (t : Turn) (o : OfSlot slot t.call.asked)
-    (w : Between slot still s.routes t.table) (f : Sofar slot still before s) where
-  base : List ℕ
-  base = with_own t.table slot f.base
+-- The state whose next call gets this table.
+abbrev pub at_table : State → List ℕ → State
+at_table s table = record { device = s.device; routes = table; plain = s.plain }
 
-  here : State
-  here = record { device = s.device; routes = t.table; plain = s.plain }
+-- Whatever else was written in the table, the slot stands, from one that has its words.
+module _ (slot : ℕ) (still : ℕ → Bool) (base : List ℕ) (s : State) (table : List ℕ) (w : Between slot still s.routes table) (g : Stands slot base s) where
+  was : Untouched slot base s.routes
+  was = stands_table slot base s g
 
-  was : Untouched slot f.base s.routes
-  was = stands_table slot f.base s f.stands
-
-  base_long : length base ≡ length t.table
-  unfolding base with_own
-  base_long = length-sets t.table (32 * slot) (take 32 (drop (32 * slot) f.base))
-
-  same_long : length f.base ≡ length t.table
+  same_long : length base ≡ length table
   same_long = sym (w.long ∙ was.long)
 
-  long : length base ≡ length before
-  long = base_long ∙ w.long ∙ was.long ∙ f.long
+  long_enough : 32 * slot + 32 ≤ length table
+  long_enough = omega (arith, stands_room slot base s g, same_long)
 
-  long_enough : 32 * slot + 32 ≤ length t.table
-  long_enough = omega (arith, stands_room slot f.base s f.stands, was.long, w.long)
+  own_long : length (with_own table slot base) ≡ length table
+  unfolding with_own
+  own_long = length-sets table (32 * slot) (take 32 (drop (32 * slot) base))
 
-  base_others : (k : ℕ) → OutsideSlot slot k → get_or base k 0 ≡ get_or t.table k 0
-  unfolding base
-  base_others = own_others t.table slot f.base long_enough same_long
+  base_others : (k : ℕ) → OutsideSlot slot k → get_or (with_own table slot base) k 0 ≡ get_or table k 0
+  base_others = own_others table slot base long_enough same_long
 
-  base_own : (d : ℕ) → d < 32 → route_of base slot d ≡ route_of f.base slot d
-  unfolding base
-  base_own = own_there t.table slot f.base long_enough same_long
+  base_own : (d : ℕ) → d < 32 → route_of (with_own table slot base) slot d ≡ route_of base slot d
+  base_own = own_there table slot base long_enough same_long
 
-  base_table : Untouched slot base t.table
-  base_table = record { long = sym base_long; words = λ k x. sym (base_others k x) }
+  base_table : Untouched slot (with_own table slot base) table
+  base_table = record { long = sym own_long; words = λ k x. sym (base_others k x) }
 
-  base_room : 32 * slot + 32 ≤ length base
-  base_room = rw base_long long_enough
+  base_room : 32 * slot + 32 ≤ length (with_own table slot base)
+  base_room = rw own_long long_enough
 
-  here_stands : Stands slot f.base s → Stands slot base here
-  unfolding here
-  here_stands (inl g) =
+  stands_there : Stands slot base s → Stands slot (with_own table slot base) (at_table s table)
+  stands_there (inl g) =
       inl
       (record {
         phase = g.phase;
@@ -174,7 +165,7 @@ module _ (slot : ℕ) (still : ℕ → Bool) (before : List ℕ) (s : State) (t 
         named = λ q h e. w.own (dci_at q) (dci_high q h) ∙ g.named q h e;
         own = λ u d h. w.own d h ∙ g.own (λ x y. sym (base_own x y) ∙ u x y) d h;
       })
-  here_stands (inr (inl g)) =
+  stands_there (inr (inl g)) =
       inr
       (inl
       (record {
@@ -187,7 +178,7 @@ module _ (slot : ℕ) (still : ℕ → Bool) (before : List ℕ) (s : State) (t 
         parted = g.parted;
         off = g.off;
       }))
-  here_stands (inr (inr g)) =
+  stands_there (inr (inr g)) =
       inr
       (inr
       (record {
@@ -199,15 +190,32 @@ module _ (slot : ℕ) (still : ℕ → Bool) (before : List ℕ) (s : State) (t 
         parted = g.parted;
       }))
 
-  called_so_far : Sofar slot still before (called s t)
-  unfolding base here called
-  called_so_far =
+  pub stands_between : Stands slot (with_own table slot base) (at_table s table)
+  stands_between = stands_there g
+
+module _ (slot : ℕ) (still : ℕ → Bool) (before : List ℕ) (s : State) where
+  pub so_far_between : (table : List ℕ) → Between slot still s.routes table → Sofar slot still before s → Sofar slot still before (at_table s table)
+  so_far_between table w f =
+      let t = was slot still f.base s table w f.stands in
       record {
-        base = base;
-        stands = called_stands slot base here t.call.asked t.call.buffers t.keeps o (here_stands f.stands);
-        empty = λ u x y. base_own x y ∙ f.empty u x y;
-        long = long;
-        others = λ k x y. base_others k x ∙ w.others k y ∙ was.words k x ∙ f.others k x y;
+        base = with_own table slot f.base;
+        stands = stands_between slot still f.base s table w f.stands;
+        empty = λ u x y. base_own slot still f.base s table w f.stands x y ∙ f.empty u x y;
+        long = own_long slot still f.base s table w f.stands ∙ w.long ∙ t.long ∙ f.long;
+        others = λ k x y. base_others slot still f.base s table w f.stands k x ∙ w.others k y ∙ t.words k x ∙ f.others k x y;
+      }
+
+  -- One call.
+  called_so_far : (t : Turn) → OfSlot slot t.call.asked → Between slot still s.routes t.table → Sofar slot still before s → Sofar slot still before (called s t)
+  unfolding called
+  called_so_far t o w f =
+      let g = so_far_between t.table w f in
+      record {
+        base = g.base;
+        stands = called_stands slot g.base (at_table s t.table) t.call.asked t.call.buffers t.keeps o g.stands;
+        empty = g.empty;
+        long = g.long;
+        others = g.others;
       }
 
 -- Any list of calls.
@@ -219,7 +227,7 @@ after_so_far slot still before s [] o f = f
 after_so_far slot still before s (t ∷ ts) o f =
     after_so_far slot still before (called s t) ts o.1.1 (called_so_far slot still before s t o.0 o.1.0 f)
 
-all_so_far :
+pub all_so_far :
     (b : BringUp) (l : Buffers) (routes : List ℕ) (still : ℕ → Bool) (turns : List Turn) → Unrouted routes b.slot →
     number (bring_up b l.ctx routes l.log l.outcomes).answer ≡ 0 →
     Turns b.slot still (start b (bring_up b l.ctx routes l.log l.outcomes)) turns →
@@ -247,6 +255,16 @@ unplugged_only up a b = not_both false a refl
 unplugged_only unplugged a b = not_both false b refl
 unplugged_only not_up a b = not_both false a refl
 
+-- While the slot is not unplugged control's word is set, so that every other bring-up is refused.
+pub stands_alone : (slot : ℕ) (before : List ℕ) (s : State) → Stands slot before s → NoOtherBringUp slot s
+stands_alone slot before s g n b l table e r =
+    let refused = bring_up_full b l.ctx table l.log l.outcomes (λ z. full g (sym r ∙ (rw e at z))) in (refused.count, refused.table)
+  where
+    full : Stands slot before s → route_of s.routes slot 1 ≡ 0 → ⊥
+    full (inl g) z = g.control (sym g.first ∙ z)
+    full (inr (inl g)) z = not_both (is_unplugged s.plain.phase) g.phase n
+    full (inr (inr g)) z = g.first z
+
 -- The theorem, where it is known by its number that the bring-up was accepted.
 module _ (slot : ℕ) (still : ℕ → Bool) (before : List ℕ) (s : State) (clear : Unrouted before slot) (f : Sofar slot still before s) where
   abbrev x : Phase
@@ -267,11 +285,6 @@ module _ (slot : ℕ) (still : ℕ → Bool) (before : List ℕ) (s : State) (cl
   empty_unplugged (inr (inl g)) u = g
   empty_unplugged (inr (inr g)) u = unplugged_only x u g.phase
 
-  good_usable : Stands slot f.base s → s.device.usable ≡ true → Good slot f.base s
-  good_usable (inl g) u = g
-  good_usable (inr (inl g)) u = not_both s.device.usable u g.down.0
-  good_usable (inr (inr g)) u = not_both s.device.usable u g.down.0
-
   kept : Kept slot still before s
   kept =
       record {
@@ -281,6 +294,7 @@ module _ (slot : ℕ) (still : ℕ → Bool) (before : List ℕ) (s : State) (cl
         control = λ u. (good_up f.stands u).on;
         enabled = λ u. (good_up f.stands u).enabled;
         empty = λ u d h. let g = empty_unplugged f.stands u in (g.none d h, g.off d);
+        no_other = stands_alone slot f.base s f.stands;
       }
 
 pub kept_by_number :
@@ -298,7 +312,7 @@ demand_three b l routes still turns empty accepted all = kept_by_number b l rout
 pub sound_while_usable : SoundWhileUsable
 unfolding number
 sound_while_usable b l routes still turns empty accepted all u =
-    let f = all_so_far b l routes still turns empty (ap number accepted) all in usable_sound b.slot f.base _ f.stands u
+    let f = all_so_far b l routes still turns empty (ap number accepted) all in (usable_live b.slot f.base _ f.stands u).is_sound
 
 -- A claim of a usable record.
 claimed_good :
@@ -319,10 +333,10 @@ claimed_good slot before s u g i a l x y k done =
 
 pub claims_accepted : ClaimsAccepted
 unfolding number
-claims_accepted b l routes still turns empty accepted all i a m x y k done =
-    let f = all_so_far b l routes still turns empty (ap number accepted) all in
-    let g = good_usable b.slot still routes _ empty f f.stands (passed _ _ _ _ _ k).0.usable in
-    claimed_good b.slot f.base _ (f.empty empty) g i a m x y k done
+claims_accepted b l routes still turns empty accepted all i a m table x y w k done =
+    let f = so_far_between b.slot still routes _ table w (all_so_far b l routes still turns empty (ap number accepted) all) in
+    let u = (passed _ _ _ _ _ k).0.usable in
+    claimed_good b.slot f.base _ (f.empty empty) (not_down b.slot f.base _ (λ d. not_both _ u d.0) f.stands) i a m x y k done
 
 -- A bring-up of a slot without routes, whose other checks pass.
 free_accepted :
@@ -346,8 +360,8 @@ free_accepted b l routes free k h e done =
 
 pub brought_up_again : BroughtUpAgain
 unfolding number call.left
-brought_up_again b l routes still turns empty accepted all u next m same k h e done =
-    let f = all_so_far b l routes still turns empty (ap number accepted) all in
+brought_up_again b l routes still turns empty accepted all u next m table same w k h e done =
+    let f = so_far_between b.slot still routes _ table w (all_so_far b l routes still turns empty (ap number accepted) all) in
     let g = empty_unplugged b.slot still routes _ empty f f.stands u in
     free_accepted next m _ (rw same (g.none 1 (omega arith))) k h e done
 

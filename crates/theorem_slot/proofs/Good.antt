@@ -345,8 +345,16 @@ live_up slot before s g t = go g.live
     go (inl n) = not_both s.device.up t n.1
     go (inr l) = l
 
--- A usable record is sound.
-pub usable_sound : (slot : ℕ) (before : List ℕ) (s : State) → Stands slot before s → s.device.usable ≡ true → sound s.device ≡ true
-usable_sound slot before s (inl g) u = (live_here slot before s g u).is_sound
-usable_sound slot before s (inr (inl g)) u = not_both s.device.usable u g.down.0
-usable_sound slot before s (inr (inr g)) u = not_both s.device.usable u g.down.0
+-- A record that is not down is that of a slot that is up.
+pub not_down : (slot : ℕ) (before : List ℕ) (s : State) → (Down s.device → ⊥) → Stands slot before s → Good slot before s
+not_down slot before s n (inl g) = g
+not_down slot before s n (inr (inl g)) = absurd (n g.down)
+not_down slot before s n (inr (inr g)) = absurd (n g.down)
+
+-- So a usable one says what the plain slot says,
+pub usable_live : (slot : ℕ) (before : List ℕ) (s : State) → Stands slot before s → s.device.usable ≡ true → Live slot s.device s.plain
+usable_live slot before s g u = live_here slot before s (not_down slot before s (λ d. not_both s.device.usable u d.0) g) u
+
+-- and so is one that is up.
+pub up_live : (slot : ℕ) (before : List ℕ) (s : State) → Stands slot before s → s.device.up ≡ true → Live slot s.device s.plain
+up_live slot before s g u = live_up slot before s (not_down slot before s (λ d. not_both s.device.up u d.1) g) u

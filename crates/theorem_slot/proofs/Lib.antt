@@ -12,13 +12,13 @@ pub mod Few
 pub mod Good
 mod Hub
 mod Kept
-mod Made
+pub mod Made
 mod Matched
 mod Moved
 pub mod Outside
 mod Owned
-mod Parted
-mod Record
+pub mod Parted
+pub mod Record
 pub mod Refusing
 mod Release
 pub mod Returned

@@ -7,18 +7,14 @@ use mathlib.Core.Logic.{inl, inr}
 use borrow.Author.Tests.{eq-eqb, eqb-true}
 use lib.ListN.{length}
 use Rattle.laws.specs.Distinct.{elem}
-use Rattle.laws.proofs.Tests.{not_both}
 use Rattle.laws.proofs.Cases.{or_right}
 use Rattle.answer.specs.declared.Answer.{Answer}
 use Rattle.answer.specs.Answer.{number, is_accepted}
-use Rattle.transfer.specs.Routes.{route_of}
 use Rattle.record_ring.specs.Store.{given_ok, least}
 use Rattle.record_ring.proofs.Promises.{least_promise}
 use Rattle.record_settings.specs.Held.{setting_words}
 use Rattle.theorem_controller.specs.Controller.{DISABLE, controlled, enabled_after, done_word}
 use Rattle.course_init.specs.Reading.{BringUp, control_ring}
-use Rattle.device_bring_up.specs.BringUp.{bring_up}
-use Rattle.device_bring_up.proofs.Laws.{bring_up_full}
 use Rattle.device.specs.declared.record.Device.{Device}
 use Rattle.device.specs.Device.{list_of}
 use Rattle.device.specs.Claim.{drawn}
@@ -26,19 +22,19 @@ use Rattle.device.proofs.Laws.{passed}
 use Rattle.theorem_slot.specs.Call.{Buffers, Asked, left}
 use Rattle.theorem_slot.specs.Answers.{is_bring_up}
 use Rattle.theorem_slot.specs.Groups.{Groups, given_groups, freed_groups, only_one, Parted}
-use Rattle.theorem_slot.specs.Plain.{Plain, is_unplugged, unplugs, effect_of, groups_after, emptied, anew, observed, seen}
-use Rattle.theorem_slot.specs.Theorem.{State, called, after}
+use Rattle.theorem_slot.specs.Plain.{Plain, unplugs, effect_of, groups_after, emptied, anew, observed, seen}
+use Rattle.theorem_slot.specs.Theorem.{State, called, after, Between, NoOtherBringUp}
 use Rattle.theorem_slot.specs.Rings.{first, AfterAddress, GivenParted, OfRecord, RecordsGroups, FreeDrawn, NoOtherGiven, NoneMismatched, BegunBy, BegunGroups, FreedFrom, FreedByUnplugging}
 use Rattle.theorem_slot.proofs.Bools.{law}
 use Rattle.theorem_slot.proofs.Parted.{given_least, drawn_free}
 use Rattle.theorem_slot.proofs.Record.{draws_same, of_record}
-use Rattle.theorem_slot.proofs.Good.{Live, Stands, live_here, live_up}
+use Rattle.theorem_slot.proofs.Good.{Live, Stands, usable_live, up_live}
 use Rattle.theorem_slot.proofs.BringUp.{first_stands, first_groups, first_agrees}
 use Rattle.theorem_slot.proofs.Matched.{Other, good_other, down_other}
-use Rattle.theorem_slot.proofs.Demand3.{Sofar, after_so_far}
+use Rattle.theorem_slot.proofs.Demand3.{at_table, Sofar, stands_between, after_so_far, stands_alone}
 
 -- Of any such list the invariant holds.
-so_far :
+pub so_far :
     (P : ℕ → State → Type 0) → ((slot : ℕ) (before : List ℕ) (s : State) → Stands slot before s → P slot s) → AfterAddress P
 so_far P h s b l routes still turns sent all =
     let f : Sofar b.slot still routes (after (called s (first b l routes)) turns) =
@@ -58,10 +54,7 @@ pub records_groups : RecordsGroups
 records_groups = so_far (λ slot s. s.device.up ≡ true → OfRecord s.device s.plain.groups) go
   where
     go : (slot : ℕ) (before : List ℕ) (s : State) → Stands slot before s → s.device.up ≡ true → OfRecord s.device s.plain.groups
-    go slot before s (inl g) u =
-        let l = live_up slot before s g u in of_record s.device l.is_sound s.plain.groups l.groups
-    go slot before s (inr (inl g)) u = not_both s.device.up u g.down.1
-    go slot before s (inr (inr g)) u = not_both s.device.up u g.down.1
+    go slot before s g u = let l = up_live slot before s g u in of_record s.device l.is_sound s.plain.groups l.groups
 
 -- What a claim of the record draws is free.
 live_drawn :
@@ -76,7 +69,7 @@ live_drawn slot s l p i a x e =
     (ap (λ b. only_one b (g.live x) (g.quarantined x)) (sym t.0) ∙ p.one x t.1)
 
 pub free_drawn : FreeDrawn
-free_drawn s b l routes still turns sent all i a m x k e =
+free_drawn s b l routes still turns sent all i a m x others table w k e =
     so_far
     (λ slot s. s.device.usable ≡ true → elem x (drawn s.device i a) ≡ true → (s.plain.groups.live x || s.plain.groups.quarantined x) ≡ false)
     (go i a x) s b l routes still turns sent all (passed _ _ _ _ _ k).0.usable e
@@ -84,33 +77,18 @@ free_drawn s b l routes still turns sent all i a m x k e =
     go :
         (i a x slot : ℕ) (before : List ℕ) (s : State) → Stands slot before s → s.device.usable ≡ true →
         elem x (drawn s.device i a) ≡ true → (s.plain.groups.live x || s.plain.groups.quarantined x) ≡ false
-    go i a x slot before s (inl g) u d = live_drawn slot s (live_here slot before s g u) g.parted i a x d
-    go i a x slot before s (inr (inl g)) u d = not_both s.device.usable u g.down.0
-    go i a x slot before s (inr (inr g)) u d = not_both s.device.usable u g.down.0
+    go i a x slot before s g u d = live_drawn slot s (usable_live slot before s g u) (parted slot before s g) i a x d
 
 pub no_other_given : NoOtherGiven
-no_other_given =
-    so_far
-    (λ slot s.
-    is_unplugged s.plain.phase ≡ false → (b : BringUp) (l : Buffers) (table : List ℕ) → b.slot ≡ slot →
-    route_of table slot 1 ≡ route_of s.routes slot 1 → (bring_up b l.ctx table l.log l.outcomes).count ≡ 0)
-    go
-  where
-    full :
-        (slot : ℕ) (s : State) → (route_of s.routes slot 1 ≡ 0 → ⊥) → (b : BringUp) (l : Buffers) (table : List ℕ) → b.slot ≡ slot →
-        route_of table slot 1 ≡ route_of s.routes slot 1 → (bring_up b l.ctx table l.log l.outcomes).count ≡ 0
-    full slot s h b l table e r = (bring_up_full b l.ctx table l.log l.outcomes (λ z. h (sym r ∙ (rw e at z)))).count
-
-    go :
-        (slot : ℕ) (before : List ℕ) (s : State) → Stands slot before s → is_unplugged s.plain.phase ≡ false →
-        (b : BringUp) (l : Buffers) (table : List ℕ) → b.slot ≡ slot → route_of table slot 1 ≡ route_of s.routes slot 1 →
-        (bring_up b l.ctx table l.log l.outcomes).count ≡ 0
-    go slot before s (inl g) n = full slot s (λ e. g.control (sym g.first ∙ e))
-    go slot before s (inr (inl g)) n = not_both (is_unplugged s.plain.phase) g.phase n
-    go slot before s (inr (inr g)) n = full slot s g.first
+no_other_given = so_far NoOtherBringUp stands_alone
 
 pub none_mismatched : NoneMismatched
-none_mismatched = so_far (λ slot s. (asked : Asked) (l : Buffers) → is_bring_up asked ≡ false → Other (left asked l s.device s.routes).answer) go
+none_mismatched =
+    so_far
+    (λ slot s.
+    (asked : Asked) (l : Buffers) (still : ℕ → Bool) (table : List ℕ) → is_bring_up asked ≡ false → Between slot still s.routes table →
+    Other (left asked l s.device table).answer)
+    (λ slot before s g asked l still table e w. go slot _ (at_table s table) (stands_between slot still before s table w g) asked l e)
   where
     go :
         (slot : ℕ) (before : List ℕ) (s : State) → Stands slot before s → (asked : Asked) (l : Buffers) → is_bring_up asked ≡ false →

@@ -3,7 +3,6 @@ use Rattle.std.specs.Prelude.{ℕ, ◌≤◌, ◌≡◌, Bool, true, false, not,
 use Rattle.laws.specs.Distinct.{elem}
 use Rattle.answer.specs.declared.Answer.TheVariants as answer
 use Rattle.answer.specs.Check.{Pass}
-use Rattle.transfer.specs.Routes.{route_of}
 use Rattle.course_init.specs.Reading.{BringUp, control_ring}
 use Rattle.device_bring_up.specs.BringUp.{bring_up}
 use Rattle.device.specs.declared.record.Device.{Device}
@@ -14,8 +13,7 @@ use Rattle.device.specs.Claim.{claim_check, drawn}
 use Rattle.theorem_slot.specs.Call.{Buffers, Asked, brings_up, disconnects, left}
 use Rattle.theorem_slot.specs.Answers.{is_bring_up}
 use Rattle.theorem_slot.specs.Groups.{Groups, Parted}
-use Rattle.theorem_slot.specs.Plain.{is_unplugged}
-use Rattle.theorem_slot.specs.Theorem.{State, Turn, called, after, Turns}
+use Rattle.theorem_slot.specs.Theorem.{State, Turn, called, after, Between, Turns, NoOtherBringUp}
 
 -- A bring-up whose record its caller takes.
 abbrev pub first : BringUp → Buffers → List ℕ → Turn
@@ -44,31 +42,28 @@ pub record OfRecord (d : Device) (g : Groups) : Type 0 where
 abbrev pub RecordsGroups : Type 0
 RecordsGroups = AfterAddress (λ slot s. s.device.up ≡ true → OfRecord s.device s.plain.groups)
 
--- No claim draws a ring that is live or quarantined when it begins.
+-- No claim draws a ring that is live or quarantined when it begins, whatever calls of other slots have made of the table.
 abbrev pub FreeDrawn : Type 0
 FreeDrawn =
     AfterAddress
     (λ slot s.
-    (i a : ℕ) (l : Buffers) (x : ℕ) →
-    record_check s.device (length l.ctx) (length s.routes) (length l.log) (claim_check s.device i a Pass) ≡ Pass →
+    (i a : ℕ) (l : Buffers) (x : ℕ) (still : ℕ → Bool) (table : List ℕ) →
+    Between slot still s.routes table →
+    record_check s.device (length l.ctx) (length table) (length l.log) (claim_check s.device i a Pass) ≡ Pass →
     elem x (drawn s.device i a) ≡ true → (s.plain.groups.live x || s.plain.groups.quarantined x) ≡ false)
 
 -- Until the next accepted unplugging no other bring-up passes its checks, so that no other is given rings.
 abbrev pub NoOtherGiven : Type 0
-NoOtherGiven =
-    AfterAddress
-    (λ slot s.
-    is_unplugged s.plain.phase ≡ false → (b : BringUp) (l : Buffers) (table : List ℕ) →
-    b.slot ≡ slot → route_of table slot 1 ≡ route_of s.routes slot 1 →
-    (bring_up b l.ctx table l.log l.outcomes).count ≡ 0)
+NoOtherGiven = AfterAddress NoOtherBringUp
 
--- The routes are the record's, so that no call on it is answered with 18.
+-- The routes are the record's, so that no call on it is answered with 18, whatever calls of other slots have made of the table.
 abbrev pub NoneMismatched : Type 0
 NoneMismatched =
     AfterAddress
     (λ slot s.
-    (asked : Asked) (l : Buffers) → is_bring_up asked ≡ false →
-    (left asked l s.device s.routes).answer ≡ answer.InvalidEndpoint → ⊥)
+    (asked : Asked) (l : Buffers) (still : ℕ → Bool) (table : List ℕ) → is_bring_up asked ≡ false →
+    Between slot still s.routes table →
+    (left asked l s.device table).answer ≡ answer.InvalidEndpoint → ⊥)
 
 -- A bring-up that passes its checks, whatever it answers and whatever was before, begins the groups anew: the lowest given ring is live
 -- and none is quarantined. They are the groups of the record that it returns, though it may not be up.

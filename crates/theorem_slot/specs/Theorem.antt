@@ -83,6 +83,16 @@ Turns slot still s (t ∷ ts) =
 unfoldable pub start : BringUp → Left → State
 start b l = record { device = l.device; routes = l.routes; plain = begun b }
 
+-- Until the device is unplugged no other bring-up of the slot passes its checks, while nobody else writes its word 1: it sends no
+-- command and leaves the table.
+abbrev pub NoOtherBringUp : ℕ → State → Type 0
+NoOtherBringUp slot s =
+    is_unplugged s.plain.phase ≡ false → (b : BringUp) (l : Buffers) (table : List ℕ) →
+    b.slot ≡ slot →
+    route_of table slot 1 ≡ route_of s.routes slot 1 →
+    let brought = bring_up b l.ctx table l.log l.outcomes in
+    (brought.count ≡ 0) × (brought.routes ≡ table)
+
 -- What holds of a slot, where `before` is the table before its first bring-up.
 pub record Kept (slot : ℕ) (still : ℕ → Bool) (before : List ℕ) (s : State) : Type 0 where
   pub long : length s.routes ≡ length before
@@ -100,6 +110,8 @@ pub record Kept (slot : ℕ) (still : ℕ → Bool) (before : List ℕ) (s : Sta
   -- while it is unplugged, no word of the slot is a route and no endpoint is enabled
   pub empty :
       is_unplugged s.plain.phase ≡ true → (d : ℕ) → d < 32 → (route_of s.routes slot d ≡ 0) × (s.plain.enabled d ≡ false)
+  -- while it is not, another bring-up is refused, so that it spoils nothing of this
+  pub no_other : NoOtherBringUp slot s
 
 -- For every slot whose routes were all 0, every accepted bring-up of it and whatever calls follow: P of the slot, the words that
 -- nobody else writes, the table before its bring-up and the state after the calls.
@@ -118,7 +130,8 @@ Demand3 = AfterBringUp Kept
 abbrev pub SoundWhileUsable : Type 0
 SoundWhileUsable = AfterBringUp (λ slot still before s. s.device.usable ≡ true → sound s.device ≡ true)
 
--- and a claim that passes its checks, with every outcome done, is accepted, and the rings that it draws are routed.
+-- and a claim that passes its checks, with every outcome done, is accepted, and the rings that it draws are routed, whatever calls of
+-- other slots have made of the table.
 pub record ClaimRouted (slot : ℕ) (words rings : List ℕ) (l : Left) : Type 0 where
   pub accepted : l.answer ≡ answer.Accepted
   pub routed :
@@ -128,11 +141,12 @@ abbrev pub ClaimsAccepted : Type 0
 ClaimsAccepted =
     AfterBringUp
     (λ slot still before s.
-    (i a : ℕ) (l : Buffers) → i < 256 → a < 256 →
-    record_check s.device (length l.ctx) (length s.routes) (length l.log) (claim_check s.device i a Pass) ≡ Pass →
+    (i a : ℕ) (l : Buffers) (table : List ℕ) → i < 256 → a < 256 →
+    Between slot still s.routes table →
+    record_check s.device (length l.ctx) (length table) (length l.log) (claim_check s.device i a Pass) ≡ Pass →
     ((k : ℕ) → k < 32 → outcome_at l.outcomes k ≡ Done) →
     let words = setting_words s.plain.list i a in
-    ClaimRouted slot words (drawn_from s.plain.groups (length words)) (left (claims i a) l s.device s.routes))
+    ClaimRouted slot words (drawn_from s.plain.groups (length words)) (left (claims i a) l s.device table))
 
 -- Not only the first bring-up works: on an unplugged slot, one whose other checks pass, with 8 header bytes and, at SuperSpeed, the
 -- exponent 9, every outcome done, is accepted; what follows goes on from there.
@@ -140,13 +154,14 @@ abbrev pub BroughtUpAgain : Type 0
 BroughtUpAgain =
     AfterBringUp
     (λ slot still before s.
-    is_unplugged s.plain.phase ≡ true → (b : BringUp) (l : Buffers) →
+    is_unplugged s.plain.phase ≡ true → (b : BringUp) (l : Buffers) (table : List ℕ) →
     b.slot ≡ slot →
-    slot_check b (length l.ctx) (length s.routes) (length l.log) (device_check b Pass) ≡ Pass →
+    Between slot still s.routes table →
+    slot_check b (length l.ctx) (length table) (length l.log) (device_check b Pass) ≡ Pass →
     b.header ≡ 8 →
     exponent_ok b.speed b.packet ≡ true →
     ((k : ℕ) → k < 64 → outcome_at l.outcomes k ≡ Done) →
-    (left (brings_up b) l s.device s.routes).answer ≡ answer.Accepted)
+    (left (brings_up b) l s.device table).answer ≡ answer.Accepted)
 
 -- An accepted bring-up begins the plain slot anew, whatever was before: its phase, its settings and its marks too.
 abbrev pub BegunAnew : Type 0

@@ -118,10 +118,10 @@ impl Pair {
         let (subject, verdict) = self.judge(case);
         let number = subject.as_ref().map_or(0, |done| done.answer.number);
         tally.count(case, number, &verdict);
-        if matches!(verdict, Verdict::Same)
+        if let (Ok(done), Verdict::Same) = (&subject, verdict)
             && let Some(mut store) = tally.store.take()
         {
-            store.offer(self, case, number);
+            store.offer(self, case, done);
             tally.store = Some(store);
         }
         subject.ok()

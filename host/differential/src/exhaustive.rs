@@ -323,6 +323,44 @@ fn asked(pair: &mut Pair, tally: &mut Tally, case: &Case) {
     }
 }
 
+/// Interface 0 with alternates 0 (0x83, 0x02) and 1 (0x81, 0x02), interface 1 with alternate 0 (0x84), and in a second
+/// configuration interface 2 with alternate 0 (0x81).
+fn path_list() -> Vec<u32> {
+    let bulk = |address| endpoint(address, BULK, 512, 0, 0);
+    vec![
+        configuration(1),
+        alternate(0, 0),
+        bulk(0x83),
+        bulk(0x02),
+        alternate(0, 1),
+        bulk(0x81),
+        bulk(0x02),
+        alternate(1, 0),
+        bulk(0x84),
+        configuration(2),
+        alternate(2, 0),
+        bulk(0x81),
+    ]
+}
+
+/// Every way through each call on one small device, of a slot of four.
+pub fn paths(pair: &mut Pair, tally: &mut Tally) {
+    let mut rng = Rng::new(12);
+    let list = path_list();
+    let args = BringUp { n: 4, ..plain(3, &list) };
+    let fresh = buffers(context(32, &mut rng), vec![0; 32 * 5], Vec::new());
+    let bring_up = |args: BringUp| Case::new(Call::BringUp(args), &Record::default(), fresh.clone());
+    for args in [args.clone(), BringUp { header: 7, ..args.clone() }, BringUp { list: Vec::new(), ..args.clone() }] {
+        patterns(pair, tally, &mut bring_up(args));
+    }
+    let Some(up) = all_done(pair, tally, &bring_up(args)) else {
+        return;
+    };
+    for held in [&[][..], &[(0, 1)], &[(0, 1), (1, 0)]] {
+        in_state(pair, tally, &up, held, &mut rng);
+    }
+}
+
 fn spoiled(pair: &mut Pair, tally: &mut Tally, case: &Case) {
     for dci in 0..32 {
         for word in [0, 0x1000, 0x2000, 0x3000, 0xFFF0] {

@@ -43,7 +43,8 @@ original.
                       packets, think, slots, random or raw (which the original has not)
   --sample            print a small scenario for each call and answer, or case for each function and answer, instead
                       of the counts
-  --store FOLDER      write a sample of the reference's answers to original_CALL/stdin and stdout in FOLDER
+  --store FOLDER      draw a sample of the reference's answers by path, from calls of its own, and write it to
+                      replay_CALL/stdin and stdout in FOLDER
   --help              print this
   --version           print the version
 
@@ -60,7 +61,7 @@ struct Options {
     part: Option<String>,
     /// Print a small scenario for each call and answer, or case for each function and answer, instead of the counts.
     sample: bool,
-    /// Write a sample of the reference's answers to replay_CALL/stdin and stdout in this folder.
+    /// Draw a sample of the reference's answers, and write it to replay_CALL/stdin and stdout in this folder.
     store: Option<PathBuf>,
 }
 
@@ -132,13 +133,10 @@ fn calls(options: &Options) -> Result<bool, String> {
     let mut tally = Tally::default();
     tally.store = options.store.is_some().then(Store::default);
     let start = Instant::now();
-    for (name, part) in exhaustive::PARTS {
-        if options.part.as_deref().is_none_or(|p| p == name) {
-            tally.part(name, |tally| part(&mut pair, tally));
-        }
-    }
-    if options.part.as_deref().is_none_or(|p| p == "random") {
-        tally.part("random", |tally| random::run(&mut pair, tally, options.seed, options.calls));
+    if tally.store.is_some() {
+        tally.part("the sample's", |tally| store::calls(&mut pair, tally));
+    } else {
+        parts(options, &mut pair, &mut tally);
     }
     if tally.calls() == 0 {
         return Err("there was nothing to compare".to_string());
@@ -157,6 +155,17 @@ fn calls(options: &Options) -> Result<bool, String> {
         print(&format!("{text}\n"));
     }
     Ok(difference.is_none())
+}
+
+fn parts(options: &Options, pair: &mut Pair, tally: &mut Tally) {
+    for (name, part) in exhaustive::PARTS {
+        if options.part.as_deref().is_none_or(|p| p == name) {
+            tally.part(name, |tally| part(pair, tally));
+        }
+    }
+    if options.part.as_deref().is_none_or(|p| p == "random") {
+        tally.part("random", |tally| random::run(pair, tally, options.seed, options.calls));
+    }
 }
 
 /// The functions on raw descriptors. False: a difference, or an answer that was not met.
@@ -235,7 +244,7 @@ mod tests {
         let mut pair = Pair { reference, subject, listed: true };
         let mut tally = Tally::default();
         tally.store = Some(Store::default());
-        random::run(&mut pair, &mut tally, 8, 40_000);
+        store::calls(&mut pair, &mut tally);
         let store = tally.store.take().expect("what was kept");
         let crates = Path::new(env!("CARGO_MANIFEST_DIR")).join("../../crates");
         assert_eq!(store.names().len(), 6);

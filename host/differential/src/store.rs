@@ -1,8 +1,10 @@
-//! A sample of the reference's answers, for crates/replay_bring_up and its like to replay, one for each call.
+//! A sample of the reference's answers, for crates/replay_bring_up and its like to replay, one for each call. It is drawn
+//! by path: of each call, one with each answer and each way through its commands.
 //!
 //! Their `stdin` has the calls as numbers, in the order in which the program there reads them; their `stdout` has what
 //! the reference left after each.
 
+use std::collections::btree_map::Entry;
 use std::collections::{BTreeMap, BTreeSet};
 use std::fmt::Write;
 
@@ -10,6 +12,8 @@ use scenario::{Buffers, Call, Record};
 
 use crate::case::Case;
 use crate::compare::{Done, Pair, Verdict};
+use crate::tally::Tally;
+use crate::{exhaustive, random};
 
 /// Calls with these are taken: so many slots, and no more hubs and rings than the program has room for.
 const SLOTS: usize = 4;
@@ -18,40 +22,79 @@ const RINGS: usize = 65;
 const CONTENT: u8 = 0x5A;
 const LOG_WORD: u32 = 0xA500_0000;
 
-#[derive(Default)]
-pub struct Store {
-    kept: BTreeMap<(&'static str, u8), Vec<Case>>,
+/// The random calls among which the sample is drawn.
+const SEED: u64 = 8;
+const CALLS: u64 = 40_000;
+
+/// How the commands of a phase ended, of which a call sends one after the other: all Stops, all Resumes, one Configure.
+#[derive(Clone, Copy, PartialEq, Eq, PartialOrd, Ord)]
+enum End {
+    Done,
+    Failed,
+    Cut,
 }
 
-/// Accepted calls twice, each other answer once.
-fn wanted(number: u8) -> usize {
-    if number == 0 { 2 } else { 1 }
+#[derive(Clone, Copy, PartialEq, Eq, PartialOrd, Ord)]
+struct Phase {
+    operation: u32,
+    end: End,
+}
+
+/// The phases of a call, one after the other.
+fn phases(case: &Case, done: &Done) -> Vec<Phase> {
+    let mut phases: Vec<Phase> = Vec::new();
+    for (index, word) in done.buffers.log.iter().take(done.answer.count).enumerate() {
+        let operation = word >> 28;
+        let end = match case.buffers.outcomes.get(index) {
+            None => End::Cut,
+            Some(0) => End::Done,
+            Some(_) => End::Failed,
+        };
+        match phases.last_mut() {
+            Some(last) if last.operation == operation => last.end = last.end.max(end),
+            _ => phases.push(Phase { operation, end }),
+        }
+    }
+    phases
+}
+
+/// A call's name, the number of its answer, and its phases.
+type Path = (&'static str, u8, Vec<Phase>);
+
+/// The calls from which the sample is drawn: random ones, and then every way through each call of one device.
+pub fn calls(pair: &mut Pair, tally: &mut Tally) {
+    random::run(pair, tally, SEED, CALLS);
+    exhaustive::paths(pair, tally);
+}
+
+#[derive(Default)]
+pub struct Store {
+    kept: BTreeMap<Path, Case>,
 }
 
 impl Store {
-    /// Keeps a case that fits, over contents of its own. The program prints arrays as they stand, so both layers
-    /// must leave them in rising order.
-    pub fn offer(&mut self, pair: &mut Pair, case: &Case, number: u8) {
-        if matches!(case.call, Call::Ask(_) | Call::Commit(_)) {
+    /// Keeps a case that fits, the first of its path, over contents of its own. The program prints arrays as they stand, so
+    /// both layers must leave them in rising order.
+    pub fn offer(&mut self, pair: &mut Pair, case: &Case, left: &Done) {
+        if matches!(case.call, Call::Ask(_) | Call::Commit(_)) || !fits(case) {
             return;
         }
-        let kept = self.kept.entry((case.name(), number)).or_default();
-        if kept.len() >= wanted(number) || !fits(case) {
+        let Entry::Vacant(entry) = self.kept.entry((case.name(), left.answer.number, phases(case, left))) else {
             return;
-        }
+        };
         let mut case = case.clone();
         case.buffers.ctx.fill(CONTENT);
         case.buffers.log.fill(LOG_WORD);
         if let (Ok(done), Verdict::Same) = pair.judge(&case)
             && done.returned == done.record
         {
-            kept.push(case);
+            entry.insert(case);
         }
     }
 
     /// The calls by their names.
     pub fn names(&self) -> BTreeSet<&'static str> {
-        self.kept.keys().map(|(name, _)| *name).collect()
+        self.kept.keys().map(|path| path.0).collect()
     }
 
     /// The crate that replays the calls of this name.
@@ -68,7 +111,7 @@ impl Store {
     }
 
     fn cases(&self, name: &str) -> impl Iterator<Item = &Case> {
-        self.kept.iter().filter(move |((of, _), _)| *of == name).flat_map(|(_, kept)| kept)
+        self.kept.iter().filter(move |(path, _)| path.0 == name).map(|(_, case)| case)
     }
 
     pub fn stdin(&self, name: &str) -> String {

@@ -1,4 +1,4 @@
-//! docs/THEOREM.md, "Sixteen lists, worked through": calls through the library, read by a plain slot.
+//! docs/THEOREM.md, "Sixteen lists, worked through": calls through the library, read by a plain slot and by a plain USB device.
 
 use std::collections::{BTreeMap, BTreeSet};
 
@@ -111,8 +111,37 @@ struct Plain {
     quarantined: BTreeSet<u64>,
 }
 
+const ADDRESS: u32 = 1;
 const CONFIGURE: u32 = 3;
+const SET_INTERFACE: u32 = 6;
 const SET_CONFIGURATION: u32 = 7;
+const READ_CONFIGURATION: u32 = 9;
+
+/// What a reader of the log knows of the USB device: its value, and the alternates of the three interfaces.
+#[derive(Default)]
+struct Told {
+    value: Option<u8>,
+    alternates: [Option<u8>; 3],
+}
+
+impl Told {
+    /// `said` is the value that a bring-up reads.
+    fn hear(&mut self, step: &Step, left: &Left, said: Option<u8>) {
+        for (index, word) in left.log[..left.answer.count].iter().enumerate() {
+            let (first, second) = ((word >> 20) as u8, (word >> 12) as u8);
+            match (word >> 28, step.outcomes.get(index)) {
+                (ADDRESS, _) => *self = Told::default(),
+                (SET_INTERFACE, outcome) => {
+                    self.alternates[usize::from(first)] = (outcome == Some(&0)).then_some(second);
+                }
+                (SET_CONFIGURATION, Some(0)) => *self = Told { value: Some(first), alternates: [Some(0); 3] },
+                (SET_CONFIGURATION, None) => *self = Told::default(),
+                (READ_CONFIGURATION, Some(0)) => self.value = said,
+                _ => {}
+            }
+        }
+    }
+}
 
 fn moved(rings: impl IntoIterator<Item = u64>, from: &mut BTreeSet<u64>, to: &mut BTreeSet<u64>) {
     for ring in rings {
@@ -221,8 +250,12 @@ fn joined<T>(values: impl IntoIterator<Item = T>, text: impl Fn(T) -> String) ->
     values.into_iter().map(text).collect::<Vec<_>>().join(", ")
 }
 
-/// The columns from the phase to the quarantined rings.
-fn told(plain: &Plain) -> [String; 7] {
+fn known(number: Option<u8>) -> String {
+    number.map_or("?".to_string(), |number| number.to_string())
+}
+
+/// The columns from the phase to the device's value.
+fn told(plain: &Plain, device: &Told) -> [String; 9] {
     let phase = match plain.phase {
         Phase::Up => "up",
         Phase::Unplugged => "unplugged",
@@ -237,7 +270,17 @@ fn told(plain: &Plain) -> [String; 7] {
         joined(marks.iter().filter(|mark| mark.0), |mark| mark.1.to_string()),
         joined(&plain.free, u64::to_string),
         joined(&plain.quarantined, u64::to_string),
+        device.alternates.map(known).join(" "),
+        known(device.value),
     ]
+}
+
+/// The value that ReadConfiguration reads.
+fn said(call: &Call) -> Option<u8> {
+    match call {
+        Call::BringUp(args) => Some(args.config),
+        _ => None,
+    }
 }
 
 #[test]
@@ -248,10 +291,14 @@ fn sixteen_lists() {
         let mut left = session.run(&mut Library, &begin).expect("an answer");
         assert_eq!(left.answer.number, 0);
         agrees(&left, &plain);
+        let mut device = Told::default();
+        device.hear(&begin, &left, said(&begin.call));
         for (text, told) in row[1].split("; ").zip(row[2].split(", ")) {
             let (step, keeps) = call(text);
             let own = left.record;
-            left = observed(&mut session, &mut plain, &Step { record: Some(own.clone()), ..step });
+            let step = Step { record: Some(own.clone()), ..step };
+            left = observed(&mut session, &mut plain, &step);
+            device.hear(&step, &left, said(&step.call));
             assert_eq!((left.answer.number, left.answer.code), answer(told), "{row:?}, {text}");
             if keeps {
                 left.record = own;
@@ -259,7 +306,7 @@ fn sixteen_lists() {
             agrees(&left, &plain);
         }
         assert_eq!(row[1].split("; ").count(), row[2].split(", ").count(), "{row:?}");
-        assert_eq!(row[3..10], told(&plain), "{row:?}");
+        assert_eq!(row[3..12], told(&plain, &device), "{row:?}");
     }
     assert_eq!(table("sixteen lists").len(), 16);
 }

@@ -1,0 +1,7 @@
+pub mod Accepted
+pub mod Changes
+pub mod Commands
+pub mod Handles
+pub mod Possible
+pub mod Reached
+pub mod Undone

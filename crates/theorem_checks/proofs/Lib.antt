@@ -1,0 +1,8 @@
+pub mod Checks
+pub mod Descriptors
+mod Endpoints
+pub mod Hubs
+mod Numbers
+pub mod Record
+mod Settings
+pub mod Values

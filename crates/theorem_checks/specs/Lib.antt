@@ -1,0 +1,5 @@
+pub mod Checks
+pub mod Descriptors
+pub mod Hubs
+pub mod Record
+pub mod Values

@@ -1,0 +1,9 @@
+pub mod BringUp
+pub mod Calls
+pub mod Claim
+pub mod Heard
+pub mod Init
+pub mod Kept
+pub mod Quiet
+pub mod SetConfiguration
+pub mod Told
