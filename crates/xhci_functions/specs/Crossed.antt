@@ -1,8 +1,8 @@
--- The reader and the writer across the C boundary.
+-- The functions outside a slot across the C boundary.
 use Rattle.std.specs.Prelude.{ℕ, List, Result}
 use Rattle.answer.specs.declared.Answered.{Answered}
-use Rattle.descriptor_raw.specs.declared.RawRefusal.{RawRefusal}
-use Rattle.descriptor_raw.specs.Answer.{Left, number, count_of}
+use Rattle.function_answer.specs.declared.Refusal.{Refusal}
+use Rattle.function_answer.specs.Answer.{Left, number, count_of}
 
 -- What a function returns, and leaves in the memory that it is lent.
 pub record Crossed : Type 0 where
@@ -12,7 +12,7 @@ pub record Crossed : Type 0 where
 abbrev pub crosses : Answered → List ℕ → Crossed
 crosses answered memory = record { answered = answered; memory = memory }
 
-unfoldable pub answered_of : Result ℕ RawRefusal → Answered
+unfoldable pub answered_of : Result ℕ Refusal → Answered
 answered_of a = record { answer = number a; code = 0; count = count_of a }
 
 unfoldable pub crossed : Left → Crossed
