@@ -1,57 +1,62 @@
-//! What the comparison of raw descriptors met.
+//! What the comparison of functions outside a slot met.
 
 use std::collections::BTreeMap;
 use std::fmt::Write;
 use std::time::Duration;
 
-use model::Ground;
-use scenario::{RawRead, RawWrite};
+use crate::outside::{Judged, Pair, Question, least};
 
-use crate::raw::judge::{Judged, Pair, Question};
-use crate::raw::shrink;
-
-const KINDS: [&str; 2] = [RawRead::NAME, RawWrite::NAME];
-const ANSWERS: [u8; 4] = [0, 3, 4, 20];
-
-#[derive(Default)]
-pub struct Tally {
+pub struct Tally<Q: Question> {
     cases: u64,
     answers: BTreeMap<(&'static str, u8), u64>,
-    /// Bytes that are malformed for this, and those that are for nothing else.
-    grounds: BTreeMap<Ground, (u64, u64)>,
+    /// What is malformed for this, and what is for as little else as there can be.
+    grounds: BTreeMap<Q::Ground, (u64, u64)>,
     /// Outputs that the other function brought back.
     returned: BTreeMap<&'static str, u64>,
     different: u64,
     /// The smallest that is different.
-    kept: Option<Question>,
+    kept: Option<Q>,
     /// The first met for each answer, and for each ground that stands alone.
-    sample: BTreeMap<(&'static str, u8, Option<Ground>), Question>,
+    sample: BTreeMap<(&'static str, u8, Option<Q::Ground>), Q>,
 }
 
-impl Tally {
-    pub fn count(&mut self, question: Question, judged: Judged) {
+impl<Q: Question> Default for Tally<Q> {
+    fn default() -> Tally<Q> {
+        Tally {
+            cases: 0,
+            answers: BTreeMap::new(),
+            grounds: BTreeMap::new(),
+            returned: BTreeMap::new(),
+            different: 0,
+            kept: None,
+            sample: BTreeMap::new(),
+        }
+    }
+}
+
+impl<Q: Question> Tally<Q> {
+    pub fn count(&mut self, question: Q, judged: Judged<Q::Ground>) {
         let Judged { number, grounds, returned, fault } = judged;
         let name = question.name();
         self.cases += 1;
         *self.answers.entry((name, number)).or_default() += 1;
         *self.returned.entry(name).or_default() += u64::from(returned);
-        let alone = grounds.first().copied().filter(|_| grounds.len() == 1);
         for ground in &grounds {
             let (met, met_alone) = self.grounds.entry(*ground).or_default();
             *met += 1;
-            *met_alone += u64::from(alone.is_some());
+            *met_alone += u64::from(grounds.len() == Q::fewest(*ground));
         }
         if fault.is_some() {
             self.different += 1;
             self.keep(&question);
         }
         if grounds.len() <= 1 {
-            self.sample.entry((name, number, alone)).or_insert(question);
+            self.sample.entry((name, number, grounds.first().copied())).or_insert(question);
         }
     }
 
-    fn keep(&mut self, question: &Question) {
-        if self.kept.as_ref().is_none_or(|kept| shrink::size(question) < shrink::size(kept)) {
+    fn keep(&mut self, question: &Q) {
+        if self.kept.as_ref().is_none_or(|kept| question.size() < kept.size()) {
             self.kept = Some(question.clone());
         }
     }
@@ -59,15 +64,15 @@ impl Tally {
     /// Answers, grounds and ways back that were not met.
     pub fn missing(&self) -> Vec<String> {
         let mut missing = Vec::new();
-        for kind in KINDS {
-            let unmet = ANSWERS.iter().filter(|number| !self.answers.contains_key(&(kind, **number)));
+        for (kind, answers) in Q::ANSWERS {
+            let unmet = answers.iter().filter(|number| !self.answers.contains_key(&(kind, **number)));
             missing.extend(unmet.map(|number| format!("{kind} {number}")));
             if self.returned.get(kind).is_none_or(|count| *count == 0) {
                 missing.push(format!("{kind} and back"));
             }
         }
-        let alone = |ground: &Ground| self.grounds.get(ground).is_some_and(|(_, alone)| *alone > 0);
-        missing.extend(Ground::ALL.iter().filter(|ground| !alone(ground)).map(|ground| format!("{ground:?} alone")));
+        let alone = |ground: &Q::Ground| self.grounds.get(ground).is_some_and(|(_, alone)| *alone > 0);
+        missing.extend(Q::GROUNDS.iter().filter(|ground| !alone(ground)).map(|ground| format!("{ground:?} alone")));
         missing
     }
 
@@ -81,16 +86,20 @@ impl Tally {
             elapsed.as_secs_f64(),
             self.different
         );
-        for kind in KINDS {
-            let met = self.answers.iter().filter(|((of, _), _)| *of == kind);
+        for (kind, _) in Q::ANSWERS {
+            let met = self.answers.iter().filter(|((of, _), _)| of == kind);
             let met: Vec<String> = met.map(|((_, number), count)| format!("{number}: {count}")).collect();
             let returned = self.returned.get(kind).unwrap_or(&0);
             let _ = writeln!(text, "  {kind}: answers {}; there and back: {returned}", met.join(", "));
         }
-        let _ = writeln!(text, "  grounds of 20 in bytes:");
-        for ground in Ground::ALL {
-            let (met, alone) = self.grounds.get(&ground).unwrap_or(&(0, 0));
-            let _ = writeln!(text, "  {met:>8}  {ground:?}, alone {alone}");
+        let _ = writeln!(text, "  grounds of {}:", Q::MALFORMED);
+        for ground in Q::GROUNDS {
+            let (met, alone) = self.grounds.get(ground).unwrap_or(&(0, 0));
+            let company = match Q::fewest(*ground) {
+                1 => "alone".to_string(),
+                fewest => format!("with {} other", fewest - 1),
+            };
+            let _ = writeln!(text, "  {met:>8}  {ground:?}, {company} {alone}");
         }
         for missing in self.missing() {
             let _ = writeln!(text, "NOT MET: {missing}");
@@ -102,19 +111,19 @@ impl Tally {
     pub fn sample(&self, pair: &Pair) -> String {
         let mut text = String::new();
         for ((name, number, alone), question) in &self.sample {
-            let wanted = |q: &Question| {
-                let judged = pair.judge(q);
+            let wanted = |q: &Q| {
+                let judged = q.judge(pair);
                 judged.number == *number && alone.is_none_or(|ground| judged.grounds.iter().eq([&ground]))
             };
             let ground = alone.map_or(String::new(), |ground| format!(" {ground:?}"));
-            shrink::least(question, wanted).case(&format!("{name} {number}{ground}")).text(&mut text);
+            least(question, wanted).case(&format!("{name} {number}{ground}")).text(&mut text);
         }
         text
     }
 
     /// The smallest case that is different, with what both layers leave.
     pub fn first_difference(&self, pair: &Pair) -> Option<String> {
-        let small = shrink::least(self.kept.as_ref()?, |q| pair.judge(q).fault.is_some());
+        let small = least(self.kept.as_ref()?, |q| q.judge(pair).fault.is_some());
         Some(pair.report(&small))
     }
 }
