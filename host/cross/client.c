@@ -93,7 +93,7 @@ static struct reply remote(const struct request *r, void *const buffers[BUFFERS]
     }
     send_request(r, buffers);
     get(&reply, sizeof reply);
-    for (int i = 0; i < WRITTEN && r->function <= WRITE_DESCRIPTORS; i++) {
+    for (int i = 0; i < WRITTEN && r->function <= SETTINGS_TO_OLD; i++) {
         get(buffers[i], r->count[i] * size_of[i]);
     }
     return reply;
@@ -202,6 +202,29 @@ struct xhci_device_answered xhci_device_write_descriptors(
     buffers[LIST] = (void *)list;
     buffers[CTX] = bytes;
     return call(&r, buffers);
+}
+
+static struct xhci_device_answered convert(enum function function, const uint8_t *settings, size_t settings_len,
+    const uint32_t *list, size_t list_len, uint8_t *bytes, size_t bytes_len) {
+    struct request r = {function, {0}, {0}};
+    void *buffers[BUFFERS] = {0};
+    r.count[OUTCOMES] = settings_len;
+    r.count[LIST] = list_len;
+    r.count[CTX] = bytes_len;
+    buffers[OUTCOMES] = (void *)settings;
+    buffers[LIST] = (void *)list;
+    buffers[CTX] = bytes;
+    return call(&r, buffers);
+}
+
+struct xhci_device_answered xhci_device_settings_to_new(
+    const uint8_t *settings, size_t settings_len, const uint32_t *list, size_t list_len, uint8_t *bytes, size_t bytes_len) {
+    return convert(SETTINGS_TO_NEW, settings, settings_len, list, list_len, bytes, bytes_len);
+}
+
+struct xhci_device_answered xhci_device_settings_to_old(
+    const uint8_t *settings, size_t settings_len, const uint32_t *list, size_t list_len, uint8_t *bytes, size_t bytes_len) {
+    return convert(SETTINGS_TO_OLD, settings, settings_len, list, list_len, bytes, bytes_len);
 }
 
 static uint64_t asked(enum function function, const uint64_t *image, size_t image_len) {

@@ -6,14 +6,14 @@
 
 #include "xhci_device.h"
 
-/* Those up to WRITE_DESCRIPTORS write. */
+/* Those up to SETTINGS_TO_OLD write. */
 enum function {
     BRING_UP, CLAIM, COMMIT, RELEASE, SET_CONFIGURATION, HUB_UPDATE, DISCONNECT, READ_DESCRIPTORS, WRITE_DESCRIPTORS,
-    ASK, IS_USABLE, IS_UP, IS_SOUND, RECORD_WORDS, COMMAND_OF
+    SETTINGS_TO_NEW, SETTINGS_TO_OLD, ASK, IS_USABLE, IS_UP, IS_SOUND, RECORD_WORDS, COMMAND_OF
 };
 
 /* The buffers of a request, of which the first WRITTEN are written. Raw descriptors are read from the outcomes into the log,
- * and written from the list into the context. */
+ * and written from the list into the context; settings are converted from the outcomes, by the list, into the context. */
 enum { IMAGE, CTX, ROUTES, LOG, OUTCOMES, RINGS, HUBS, LIST, BUFFERS };
 enum { WRITTEN = OUTCOMES, NUMBERS = 10 };
 

@@ -68,6 +68,12 @@ static struct xhci_device_answered make_call(const struct request *r, void *b[BU
         return xhci_device_read_descriptors(b[OUTCOMES], (size_t)c[OUTCOMES], b[LOG], (size_t)c[LOG]);
     case WRITE_DESCRIPTORS:
         return xhci_device_write_descriptors(b[LIST], (size_t)c[LIST], b[CTX], (size_t)c[CTX]);
+    case SETTINGS_TO_NEW:
+        return xhci_device_settings_to_new(
+            b[OUTCOMES], (size_t)c[OUTCOMES], b[LIST], (size_t)c[LIST], b[CTX], (size_t)c[CTX]);
+    case SETTINGS_TO_OLD:
+        return xhci_device_settings_to_old(
+            b[OUTCOMES], (size_t)c[OUTCOMES], b[LIST], (size_t)c[LIST], b[CTX], (size_t)c[CTX]);
     default:
         exit(1);
     }
@@ -106,7 +112,7 @@ int main(void) {
         void *buffers[BUFFERS];
         struct reply reply = {0, 0, 0, 0};
         struct xhci_device_asked asked;
-        bool writes = r.function <= WRITE_DESCRIPTORS;
+        bool writes = r.function <= SETTINGS_TO_OLD;
         get_buffers(&r, buffers);
         if (writes) {
             struct xhci_device_answered answered = make_call(&r, buffers);

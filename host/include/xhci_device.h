@@ -1,5 +1,5 @@
-/* The functions of Nuszkadorj: the calls, as libxhci_device.a has them, and raw descriptors, as
- * libxhci_descriptors.a has them (host/archives makes both). Both may be linked.
+/* The functions of Nuszkadorj: the calls, as libxhci_device.a has them, and those outside a slot, raw descriptors and
+ * settings of old boards, as libxhci_functions.a has them (host/archives makes both). Both may be linked.
  *
  * A slice is a pointer and a count of elements. The slices of one call must not overlap, and a pointer
  * may not be null, even with a count of 0. Nothing is kept after a call returns.
@@ -68,7 +68,7 @@ enum {
     XHCI_DEVICE_ACCEPTED = 0,
     XHCI_DEVICE_CONTEXT_LENGTH = 1,     /* the context is not 33 blocks of the record's spacing */
     XHCI_DEVICE_ROUTES_LENGTH = 2,      /* the routes are not 32 * (N + 1) words */
-    XHCI_DEVICE_LOG_TOO_SHORT = 3,      /* the log has less than LOG_ROOM words; raw descriptors: too little is lent */
+    XHCI_DEVICE_LOG_TOO_SHORT = 3,      /* the log has less than LOG_ROOM words; outside a slot: too little is lent */
     XHCI_DEVICE_DESCRIPTOR_LIST = 4,
     XHCI_DEVICE_HUB_CHAIN = 5,
     XHCI_DEVICE_SPEED = 6,
@@ -87,7 +87,9 @@ enum {
     XHCI_DEVICE_PACKET_EXPONENT = 19,   /* bring-up at speeds 4 and 5: the packet byte is not 9 */
     XHCI_DEVICE_MALFORMED = 20,         /* raw descriptors: malformed bytes, or an endpoint word with packets 0 */
     XHCI_DEVICE_TOO_FEW_RINGS = 21,     /* a claim: fewer free rings than endpoint words */
-    XHCI_DEVICE_OUTDATED_ASK = 22       /* a commit: an ask would now return something else */
+    XHCI_DEVICE_OUTDATED_ASK = 22,      /* a commit: an ask would now return something else */
+    XHCI_DEVICE_SETTINGS = 23,          /* settings of old boards: malformed, or not found in their configuration */
+    XHCI_DEVICE_OTHER_CONFIGURATION = 24    /* the same, going back: of another configuration than the list's first */
 };
 
 /* The answer in words. */
@@ -116,6 +118,8 @@ static inline const char *xhci_device_answer_name(uint32_t answer) {
     case XHCI_DEVICE_MALFORMED: return "the descriptors are malformed";
     case XHCI_DEVICE_TOO_FEW_RINGS: return "there are fewer free rings than endpoint words";
     case XHCI_DEVICE_OUTDATED_ASK: return "the ask is outdated";
+    case XHCI_DEVICE_SETTINGS: return "the settings are malformed or not found";
+    case XHCI_DEVICE_OTHER_CONFIGURATION: return "the settings are of another configuration than the first";
     default: return "an answer without a name";
     }
 }
@@ -124,7 +128,7 @@ static inline const char *xhci_device_answer_name(uint32_t answer) {
 struct xhci_device_answered {
     uint32_t answer;
     uint32_t code;  /* of 13, else 0 */
-    size_t count;   /* how many words were logged; raw descriptors: how many words or bytes were written */
+    size_t count;   /* how many words were logged; outside a slot: how many words or bytes were written */
 };
 
 /* A record is an image of so many words, one for each number and each element of its arrays.
@@ -265,6 +269,21 @@ struct xhci_device_answered xhci_device_read_descriptors(
 
 struct xhci_device_answered xhci_device_write_descriptors(
     const uint32_t *list, size_t list_len, uint8_t *bytes, size_t bytes_len);
+
+/* Held settings as the maker's boards store them, interface and alternate by rising interface, into the new form: the value
+ * of the list's first configuration 8 bits, the number of pairs 6, the pairs 8 and 8, zeros to a byte, the most significant
+ * bit first. There are at most 32 pairs, and each must be in that configuration. Into the first of 66 bytes or more: 0, or
+ * the first of 3, 4 and 23. A refusal changes nothing, and bytes past the count keep their contents.
+ */
+#define XHCI_DEVICE_SETTINGS_BYTES 66
+
+struct xhci_device_answered xhci_device_settings_to_new(
+    const uint8_t *settings, size_t settings_len, const uint32_t *list, size_t list_len, uint8_t *bytes, size_t bytes_len);
+
+/* And back: 0, or the first of 3, 4, 23 and 24. The pairs are sought in the first configuration of the value that the
+ * settings name; if that is not the list's first, 24. */
+struct xhci_device_answered xhci_device_settings_to_old(
+    const uint8_t *settings, size_t settings_len, const uint32_t *list, size_t list_len, uint8_t *bytes, size_t bytes_len);
 
 #ifdef __cplusplus
 }

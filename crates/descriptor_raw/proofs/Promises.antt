@@ -8,18 +8,16 @@ use Rattle.std.proofs.Common.{Ok, Err}
 use native.Mathlib.Omega.{arith}
 use borrow.Author.Tests.{le-leb, leb-true}
 use lib.Dec.{leb}
-use lib.ListN.{length, get_or, set}
-use lib.Seq.{sets, length-sets, get_or-set_other}
+use lib.ListN.{length, get_or}
 use Rattle.laws.proofs.Tests.{and_right}
 use Rattle.laws.proofs.Cases.{Decided, decided}
 use Rattle.descriptor_list.specs.Valid.{begins_with_configuration, words_ok, runs_fit, configurations, interfaces, valid_list}
 use Rattle.descriptor_list.proofs.Laws.{valid_length}
-use Rattle.descriptor_raw.specs.declared.RawRefusal.{RawRefusal}
-use Rattle.descriptor_raw.specs.declared.RawRefusal.TheVariants.{TooShort, DescriptorList, Malformed}
-use Rattle.descriptor_raw.specs.Answer.{Left, count_of, leaves, accepts, unless}
+use Rattle.function_answer.specs.declared.Refusal.TheVariants.{TooShort, DescriptorList, Malformed}
+use Rattle.function_answer.proofs.Kept.{accepted_kept, unless_kept}
 use Rattle.descriptor_raw.specs.Read.{descriptors, all_whole, all_borne_out, well_formed, words_of, all_words, read_words, read_descriptors}
 use Rattle.descriptor_raw.specs.Write.{packets_given, written_bytes, write_descriptors}
-use Rattle.descriptor_raw.specs.Promises.{WrittenPromise, ReadPromise, Other, OthersPromise, RestKept, KeptPromise}
+use Rattle.descriptor_raw.specs.Promises.{WrittenPromise, ReadPromise, Other, OthersPromise, KeptPromise}
 use Rattle.descriptor_raw.proofs.Valid.{valid_words}
 use Rattle.descriptor_raw.proofs.Written.{Writable, written_well_formed, written_words, written_short}
 use Rattle.descriptor_raw.proofs.Yielded.{Fine, yielded_fine}
@@ -81,28 +79,6 @@ no_words (d ∷ ds) o =
 others : OthersPromise
 unfolding read_descriptors read_words valid_list begins_with_configuration words_ok runs_fit configurations interfaces
 others bytes words f o room = rw (le-leb 256 (length words) room, f, no_words (descriptors bytes) o)
-
--- a store before a place leaves what is there
-sets_past : (vs l : List ℕ) (i k : ℕ) → i + length vs ≤ k → get_or (sets l i vs) k 0 ≡ get_or l k 0
-sets_past [] l i k h = refl
-sets_past (v ∷ vs) l i k h =
-    sets_past vs (set l i v) (suc i) k (omega arith) ∙ get_or-set_other l i k v 0 (λ e. omega arith)
-
-accepted_kept : (output buffer : List ℕ) → RestKept buffer (accepts output buffer)
-unfolding count_of
-accepted_kept output buffer =
-    record {
-      long = length-sets buffer 0 output;
-      past = λ k h. sets_past output buffer 0 k (omega arith);
-    }
-
-refused_kept : (refusal : RawRefusal) (buffer : List ℕ) → RestKept buffer (leaves (Err refusal) buffer)
-unfolding count_of
-refused_kept refusal buffer = record { long = refl; past = λ k h. refl }
-
-unless_kept : (holds : Bool) (refusal : RawRefusal) (buffer : List ℕ) (next : Left) → RestKept buffer next → RestKept buffer (unless holds refusal buffer next)
-unless_kept true refusal buffer next n = n
-unless_kept false refusal buffer next n = refused_kept refusal buffer
 
 kept : KeptPromise
 unfolding read_descriptors write_descriptors

@@ -1,4 +1,3 @@
-pub mod Answer
 pub mod Claims
 pub mod Descriptor
 pub mod Marked

@@ -3,7 +3,7 @@ use Rattle.std.specs.Prelude.{ℕ, ◌^◌, ◌≤◌, ◌<◌, ◌≡◌, true,
 use Rattle.std.proofs.lemmas.List.Edits.{sets}
 use Rattle.laws.specs.Bounds.{Below}
 use Rattle.descriptor_list.specs.Valid.{valid_list}
-use Rattle.descriptor_raw.specs.Answer.{Left, count_of, accepts}
+use Rattle.function_answer.specs.Answer.{accepts, RestKept}
 use Rattle.descriptor_raw.specs.Descriptor.{is_configuration, is_interface, is_endpoint}
 use Rattle.descriptor_raw.specs.Read.{descriptors, well_formed, read_words, read_descriptors}
 use Rattle.descriptor_raw.specs.Write.{packets_given, written_bytes, write_descriptors}
@@ -55,10 +55,6 @@ OthersPromise =
     256 ≤ length words →
     read_descriptors bytes words ≡ accepts [] words
 
--- What is lent past the output keeps its contents, so all of it after a refusal, whose count is 0.
-pub record RestKept (buffer : List ℕ) (left : Left) : Type 0 where
-  pub long : length left.memory ≡ length buffer
-  pub past : (k : ℕ) → count_of left.answer ≤ k → get_or left.memory k 0 ≡ get_or buffer k 0
-
+-- What is lent past the output keeps its contents, so all of it after a refusal.
 abbrev pub KeptPromise : Type 0
 KeptPromise = (given buffer : List ℕ) → RestKept buffer (read_descriptors given buffer) × RestKept buffer (write_descriptors given buffer)

@@ -1,8 +1,8 @@
 -- The reader: bytes to descriptor words.
 use Rattle.std.specs.Prelude.{ℕ, zero, suc, ◌+◌, ◌-◌, Bool, true, not, cond, ◌&&◌, List, [], ◌∷◌, ◌++◌, eqb, leb, length, take}
 use Rattle.descriptor_list.specs.Valid.{valid_list}
-use Rattle.descriptor_raw.specs.declared.RawRefusal.TheVariants.{TooShort, DescriptorList, Malformed}
-use Rattle.descriptor_raw.specs.Answer.{Left, accepts, unless}
+use Rattle.function_answer.specs.declared.Refusal.TheVariants.{TooShort, DescriptorList, Malformed}
+use Rattle.function_answer.specs.Answer.{Left, accepts, unless}
 use Rattle.descriptor_raw.specs.Descriptor.{LENGTH, TYPE, TOTAL-LENGTH, NUM-INTERFACES, CONFIGURATION-VALUE, INTERFACE-NUMBER, ALTERNATE-SETTING, NUM-ENDPOINTS, ENDPOINT-ADDRESS, ENDPOINT-ATTRIBUTES, MAX-PACKET-SIZE, INTERVAL, packets_less_one, size_of, byte_at, two_bytes_at, is_configuration, is_interface, is_endpoint}
 use Rattle.descriptor_raw.specs.Claims.{bytes_after, interfaces_after, endpoints_after}
 use Rattle.descriptor_raw.specs.Words.{configuration_word, alternate_word, endpoint_word}

@@ -2,8 +2,8 @@
 use Rattle.std.specs.Prelude.{ℕ, ◌+◌, ◌-◌, ◌/◌, ◌%◌, Bool, true, not, cond, ◌&&◌, List, [], ◌∷◌, ◌++◌, eqb, leb, length, set, replicate}
 use Rattle.descriptor.specs.Word.{CONFIGURATION, ALTERNATE, ENDPOINT, kind, configuration_value, interface_number, alternate_setting, type_number, endpoint_descriptor}
 use Rattle.descriptor_list.specs.Valid.{valid_list}
-use Rattle.descriptor_raw.specs.declared.RawRefusal.TheVariants.{TooShort, DescriptorList, Malformed}
-use Rattle.descriptor_raw.specs.Answer.{Left, accepts, unless}
+use Rattle.function_answer.specs.declared.Refusal.TheVariants.{TooShort, DescriptorList, Malformed}
+use Rattle.function_answer.specs.Answer.{Left, accepts, unless}
 use Rattle.descriptor_raw.specs.Descriptor.{CONFIGURATION-TYPE, INTERFACE-TYPE, ENDPOINT-TYPE, LENGTH, TYPE, TOTAL-LENGTH, NUM-INTERFACES, CONFIGURATION-VALUE, CONFIGURATION-ATTRIBUTES, INTERFACE-NUMBER, ALTERNATE-SETTING, NUM-ENDPOINTS, ENDPOINT-ADDRESS, ENDPOINT-ATTRIBUTES, MAX-PACKET-SIZE, INTERVAL, packet_field, size_of}
 use Rattle.descriptor_raw.specs.Claims.{bytes_after, interfaces_after, endpoints_after}
 

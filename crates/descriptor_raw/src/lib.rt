@@ -44,11 +44,3 @@ impl From<u8> for DescriptorKind {
         }
     }
 }
-
-// Why the reader and the writer refuse; accepted, they say how many words or bytes they wrote.
-#[derive(Clone, Copy, PartialEq, Eq)]
-pub enum RawRefusal {
-    TooShort,
-    DescriptorList,
-    Malformed,
-}

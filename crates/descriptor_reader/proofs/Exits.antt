@@ -8,14 +8,14 @@ use lib.ListN.{length}
 use Rattle.std.proofs.Common.{Result, Ok, Err}
 use Rattle.std.specs.Result.{IsErrAnd}
 use Rattle.descriptor_list.specs.Valid.{valid_list}
-use Rattle.descriptor_raw.specs.declared.RawRefusal.{RawRefusal}
-use Rattle.descriptor_raw.specs.declared.RawRefusal.TheVariants.{TooShort, DescriptorList, Malformed}
-use Rattle.descriptor_raw.specs.Answer.{leaves, accepts, unless}
+use Rattle.function_answer.specs.declared.Refusal.{Refusal}
+use Rattle.function_answer.specs.declared.Refusal.TheVariants.{TooShort, DescriptorList, Malformed}
+use Rattle.function_answer.specs.Answer.{leaves, accepts, unless}
 use Rattle.descriptor_raw.specs.Read.{descriptors, all_whole, all_borne_out, well_formed, read_words, read_descriptors}
 
 -- what the exit of a `?` returns
-pub returned : {T : Type 0} (r : Result ℕ RawRefusal) (error refusal : RawRefusal) → IsErrAnd r (λ e. e ≡ error) →
-    ◌≡◌ {A = Result T RawRefusal} (Err error) (Err refusal) → r ≡ Err refusal
+pub returned : {T : Type 0} (r : Result ℕ Refusal) (error refusal : Refusal) → IsErrAnd r (λ e. e ≡ error) →
+    ◌≡◌ {A = Result T Refusal} (Err error) (Err refusal) → r ≡ Err refusal
 returned (Ok count) error refusal h q = absurd h
 returned (Err e) error refusal h q = let s : error ≡ refusal = cc in rw (h, s)
 

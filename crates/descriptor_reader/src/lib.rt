@@ -6,25 +6,26 @@ mod cut;
 mod words;
 
 ghost use Rattle.std.specs.Prelude.{◌≡◌};
-ghost use Rattle.descriptor_raw.specs.Answer.{leaves};
+ghost use Rattle.function_answer.specs.Answer.{leaves};
 ghost use Rattle.descriptor_raw.specs.Read.{read_descriptors};
 
 use cut::Descriptors;
-use descriptor_raw::{READ_WORDS, RawRefusal};
+use descriptor_raw::READ_WORDS;
+use function_answer::Refusal;
 
 // Reads bytes into the first words that are lent, of which there must be 256 or more.
-pub fn read_descriptors(bytes: &[u8], words: &mut [u32]) -> Result<usize, RawRefusal>
+pub fn read_descriptors(bytes: &[u8], words: &mut [u32]) -> Result<usize, Refusal>
     ensures { leaves result words.new ≡ read_descriptors bytes.now words.old }
 {
     if words.len() < READ_WORDS {
-        return Err(RawRefusal::TooShort);
+        return Err(Refusal::TooShort);
     }
-    let descriptors = Descriptors::of(bytes).ok_or(RawRefusal::Malformed)?;
+    let descriptors = Descriptors::of(bytes).ok_or(Refusal::Malformed)?;
     if !claims::all_borne_out(descriptors) {
-        return Err(RawRefusal::Malformed);
+        return Err(Refusal::Malformed);
     }
     // Memory of its own beside a count, since there is no heap for a Vec.
     let mut list = [0u32; READ_WORDS];
-    let count = words::gather(descriptors, &mut list).ok_or(RawRefusal::DescriptorList)?;
+    let count = words::gather(descriptors, &mut list).ok_or(Refusal::DescriptorList)?;
     words::take_list(&list[..count], words)
 }

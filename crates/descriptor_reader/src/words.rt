@@ -2,14 +2,15 @@
 ghost use Rattle.std.specs.Prelude.{◌≤◌, ◌≡◌, length};
 ghost use Rattle.std.proofs.lemmas.List.Edits.{sets};
 ghost use Rattle.descriptor_list.specs.Valid.{valid_list};
-ghost use Rattle.descriptor_raw.specs.declared.RawRefusal.TheVariants.{DescriptorList};
-ghost use Rattle.descriptor_raw.specs.Answer.{leaves, accepts, unless};
+ghost use Rattle.function_answer.specs.declared.Refusal.TheVariants.{DescriptorList};
+ghost use Rattle.function_answer.specs.Answer.{leaves, accepts, unless};
 ghost use Rattle.descriptor_raw.specs.Words.{configuration_word, alternate_word, endpoint_word};
 ghost use Rattle.descriptor_raw.specs.Read.{words_of};
 ghost use Rattle.descriptor_reader.specs.Walk.{made_words, Gathered};
 
 use super::cut::{Descriptor, Descriptors};
-use descriptor_raw::{DescriptorKind, READ_WORDS, RawRefusal, place};
+use descriptor_raw::{DescriptorKind, READ_WORDS, place};
+use function_answer::Refusal;
 
 #[tactic(auto, unfolding(descriptor_raw::specs::Words::configuration_word))]
 fn configuration_word(value: u8) -> u32
@@ -84,12 +85,12 @@ pub fn gather(descriptors: Descriptors, list: &mut [u32]) -> Option<usize>
 }
 
 // Takes a list into the words that are lent, if it is valid.
-pub fn take_list(list: &[u32], words: &mut [u32]) -> Result<usize, RawRefusal>
+pub fn take_list(list: &[u32], words: &mut [u32]) -> Result<usize, Refusal>
     requires { length list.now ≤ length words.old }
     ensures { leaves result words.new ≡ unless (valid_list list.now) DescriptorList words.old (accepts list.now words.old) }
 {
     if !descriptor_list::valid_list(list) {
-        return Err(RawRefusal::DescriptorList);
+        return Err(Refusal::DescriptorList);
     }
     words[..list.len()].copy_from_slice(list);
     Ok(list.len())

@@ -9,8 +9,8 @@ use lib.Seq.{sets}
 use Rattle.descriptor_list.specs.Valid.{valid_list}
 use Rattle.descriptor_list.proofs.Laws.{valid_length}
 use Rattle.std.proofs.Common.{Ok, Err}
-use Rattle.descriptor_raw.specs.declared.RawRefusal.TheVariants.{TooShort, DescriptorList, Malformed}
-use Rattle.descriptor_raw.specs.Answer.{leaves}
+use Rattle.function_answer.specs.declared.Refusal.TheVariants.{TooShort, DescriptorList, Malformed}
+use Rattle.function_answer.specs.Answer.{leaves}
 use Rattle.descriptor_raw.specs.Write.{packets_given, written_bytes, write_descriptors}
 use Rattle.descriptor_raw.proofs.Valid.{valid_words}
 use Rattle.descriptor_writer.specs.Written.{Listed}

@@ -6,12 +6,13 @@ mod made;
 mod put;
 
 ghost use Rattle.std.specs.Prelude.{◌≡◌};
-ghost use Rattle.descriptor_raw.specs.Answer.{leaves};
+ghost use Rattle.function_answer.specs.Answer.{leaves};
 ghost use Rattle.descriptor_raw.specs.Write.{packets_given, write_descriptors};
 ghost use Rattle.descriptor_writer.specs.Written.{gives_packets};
 
 use descriptor::WordKind;
-use descriptor_raw::{RawRefusal, WRITE_BYTES};
+use descriptor_raw::WRITE_BYTES;
+use function_answer::Refusal;
 
 // Whether a word is no endpoint's or has packets.
 fn gives_packets(w: u32) -> bool
@@ -29,17 +30,17 @@ fn packets_given(list: &[u32]) -> bool
 }
 
 // Writes a list into the first bytes that are lent, of which there must be 2,304 or more.
-pub fn write_descriptors(list: &[u32], bytes: &mut [u8]) -> Result<usize, RawRefusal>
+pub fn write_descriptors(list: &[u32], bytes: &mut [u8]) -> Result<usize, Refusal>
     ensures { leaves result bytes.new ≡ write_descriptors list.now bytes.old }
 {
     if bytes.len() < WRITE_BYTES {
-        return Err(RawRefusal::TooShort);
+        return Err(Refusal::TooShort);
     }
     if !descriptor_list::valid_list(list) {
-        return Err(RawRefusal::DescriptorList);
+        return Err(Refusal::DescriptorList);
     }
     if !packets_given(list) {
-        return Err(RawRefusal::Malformed);
+        return Err(Refusal::Malformed);
     }
     Ok(put::put_all(list, bytes))
 }

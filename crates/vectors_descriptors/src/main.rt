@@ -15,16 +15,16 @@ const ROOM: u64 = 16384;
 // The descriptors of one device. The functions for C write to lent memory, and return how much they wrote.
 fn run(rt: &impl Print, bytes: &[u8]) -> io::Result<()> {
     let mut words = [0u32; 256];
-    let r = xhci_descriptors::xhci_device_read_descriptors(bytes, &mut words);
+    let r = xhci_functions::xhci_device_read_descriptors(bytes, &mut words);
     let n = show::words(rt, r, &words)?;
     if r.answer != 0 {
         return Ok(());
     }
     let mut written = [0u8; 2304];
-    let w = xhci_descriptors::xhci_device_write_descriptors(&words[..n], &mut written);
+    let w = xhci_functions::xhci_device_write_descriptors(&words[..n], &mut written);
     let m = show::bytes(rt, w, &written)?;
     let mut again = [0u32; 256];
-    let a = xhci_descriptors::xhci_device_read_descriptors(&written[..m], &mut again);
+    let a = xhci_functions::xhci_device_read_descriptors(&written[..m], &mut again);
     show::again(rt, a, &words, &again)
 }
 

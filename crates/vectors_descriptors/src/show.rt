@@ -2,7 +2,7 @@
 ghost use Rattle.std.specs.Prelude.{◌≤◌, IfOk, length};
 
 use std::io;
-use xhci_descriptors::Answered;
+use xhci_functions::Answered;
 
 fn answer(rt: &impl Print, a: Answered) -> io::Result<()> {
     println!(rt; "{} {}", a.answer, a.count)

@@ -1,8 +1,8 @@
-//! Each call of library and original over the same inputs, and the library's functions on raw descriptors: instructions,
+//! Each call of library and original over the same inputs, and the library's functions outside a slot: instructions,
 //! counted by callgrind, and time.
 #![forbid(unsafe_code)]
 
-mod raw;
+mod outside;
 
 use std::process::{Command, ExitCode};
 
@@ -14,7 +14,7 @@ const HELP: &str = "\
 usage: bench [--functions | --calls LAYER NAME TIMES]
 
 Prints a table of each call of library and original over the inputs of host/bench/inputs.txt: instructions, counted by
-valgrind where it is there, and time; then a table of the library's functions on raw descriptors.
+valgrind where it is there, and time; then a table of the library's functions outside a slot.
 
   --functions                print the second table only
   --calls LAYER NAME TIMES   only run the last call, or the function, of the input NAME so many times
@@ -88,12 +88,12 @@ fn row(scenario: &Scenario) -> Result<String, Cannot> {
     Ok(format!("| {name} | {} | {} | {counts} {times}", answer.number, answer.count))
 }
 
-/// The table of the functions on raw descriptors, which the original has not, as long as somebody reads it.
+/// The table of the functions outside a slot, which the original has not, as long as somebody reads it.
 fn functions() -> Result<(), Cannot> {
     let title = "| function | bytes | answer | instructions | a byte | ns | a byte |";
     let mut read = print(&format!("{title}\n|---|---|---|---|---|---|---|\n"));
-    for (name, question) in raw::inputs() {
-        read = read && print(&format!("{}\n", raw::row(&name, &question).ok_or(Cannot::NoSuchInput)?));
+    for (name, question) in outside::inputs() {
+        read = read && print(&format!("{}\n", outside::row(&name, &question).ok_or(Cannot::NoSuchInput)?));
     }
     Ok(())
 }
@@ -112,8 +112,8 @@ fn only(scenarios: &[Scenario], layer: &str, name: &str, times: u32) -> Option<R
     if let Some(scenario) = scenarios.iter().find(|s| s.name == name) {
         return Some(repeat(layer, scenario, times).map(drop));
     }
-    let (_, question) = raw::inputs().into_iter().find(|(of, _)| of == name)?;
-    Some(raw::repeat(layer, &question, times).map(drop).ok_or(Cannot::NoSuchInput))
+    let (_, question) = outside::inputs().into_iter().find(|(of, _)| of == name)?;
+    Some(outside::repeat(layer, &question, times).map(drop).ok_or(Cannot::NoSuchInput))
 }
 
 fn main() -> ExitCode {

@@ -8,11 +8,13 @@ mod exhaustive;
 mod faults;
 mod fields;
 mod groups;
+mod outside;
 mod random;
 mod raw;
 mod refusal;
 mod rng;
 mod rows;
+mod settings;
 mod shrink;
 mod store;
 mod tally;
@@ -23,6 +25,7 @@ use std::process::ExitCode;
 use std::time::Instant;
 
 use compare::Pair;
+use outside::Question;
 use runner::program::{asked, fail, print};
 use store::Store;
 use tally::Tally;
@@ -38,9 +41,9 @@ original.
   --subject LAYER     what is judged (library)
   --seed N            of the random calls (1)
   --calls N           how many of them (600000)
-  --cases N           how many random cases of raw descriptors (2000000)
+  --cases N           how many random cases of raw descriptors, and of settings (2000000)
   --part PART         one part instead of all: refusals, records, routes, outcomes, store, asks, intervals, ports,
-                      packets, think, slots, random or raw (which the original has not)
+                      packets, think, slots, random; raw or settings (which the original has not)
   --sample            print a small scenario for each call and answer, or case for each function and answer, instead
                       of the counts
   --store FOLDER      draw a sample of the reference's answers by path, from calls of its own, and write it to
@@ -56,7 +59,7 @@ struct Options {
     subject: String,
     seed: u64,
     calls: u64,
-    /// Random cases of the part raw.
+    /// Random cases of the parts raw and settings.
     cases: u64,
     part: Option<String>,
     /// Print a small scenario for each call and answer, or case for each function and answer, instead of the counts.
@@ -96,7 +99,7 @@ fn options() -> Result<Options, String> {
         }
     }
     let is_part = |name: &String| {
-        ["random", "raw"].contains(&name.as_str()) || exhaustive::PARTS.iter().any(|part| part.0 == name)
+        ["random", "raw", "settings"].contains(&name.as_str()) || exhaustive::PARTS.iter().any(|part| part.0 == name)
     };
     match options.part.as_ref().filter(|name| !is_part(name)) {
         Some(name) => Err(format!("there is no part '{name}'")),
@@ -113,9 +116,10 @@ fn main() -> ExitCode {
         Err(message) => return fail(&message),
     };
     let done = match options.part.as_deref() {
-        Some("raw") => raw(&options),
+        Some("raw") => functions(&options, raw::run),
+        Some("settings") => functions(&options, settings::run),
         Some(_) => calls(&options),
-        None => calls(&options).and_then(|passed| Ok(raw_if_there(&options)? && passed)),
+        None => calls(&options).and_then(|passed| Ok(functions_if_there(&options)? && passed)),
     };
     match done {
         Ok(true) => ExitCode::SUCCESS,
@@ -168,18 +172,21 @@ fn parts(options: &Options, pair: &mut Pair, tally: &mut Tally) {
     }
 }
 
-/// The functions on raw descriptors. False: a difference, or an answer that was not met.
-fn raw(options: &Options) -> Result<bool, String> {
+/// Runs seed and number of random cases.
+type Run<Q> = fn(&outside::Pair, &mut outside::Tally<Q>, u64, u64);
+
+/// Functions outside a slot. False: a difference, or an answer that was not met.
+fn functions<Q: Question>(options: &Options, run: Run<Q>) -> Result<bool, String> {
     let Options { reference, subject, seed, cases, sample, .. } = options;
     let functions = |name: &str| runner::functions(name).ok_or(format!("'{name}' has no functions outside a slot"));
-    let pair = raw::Pair { reference: functions(reference)?, subject: functions(subject)? };
-    let (mut tally, start) = (raw::Tally::default(), Instant::now());
-    raw::run(&pair, &mut tally, *seed, *cases);
+    let pair = outside::Pair { reference: functions(reference)?, subject: functions(subject)? };
+    let (mut tally, start) = (outside::Tally::default(), Instant::now());
+    run(&pair, &mut tally, *seed, *cases);
     if *sample {
         print(&tally.sample(&pair));
         return Ok(true);
     }
-    print(&format!("raw descriptors, {subject} against {reference}, seed {seed}\n"));
+    print(&format!("{}, {subject} against {reference}, seed {seed}\n", Q::TITLE));
     print(&tally.text(start.elapsed()));
     let difference = tally.first_difference(&pair);
     if let Some(text) = &difference {
@@ -188,10 +195,14 @@ fn raw(options: &Options) -> Result<bool, String> {
     Ok(difference.is_none() && tally.missing().is_empty())
 }
 
-/// The same where both layers have them.
-fn raw_if_there(options: &Options) -> Result<bool, String> {
+/// All of them where both layers have them.
+fn functions_if_there(options: &Options) -> Result<bool, String> {
     let there = [&options.reference, &options.subject].iter().all(|name| runner::functions(name).is_some());
-    if there { raw(options) } else { Ok(true) }
+    if !there {
+        return Ok(true);
+    }
+    let (raw, settings) = (functions(options, raw::run)?, functions(options, settings::run)?);
+    Ok(raw && settings)
 }
 
 fn write(folder: &Path, store: &Store, pair: &mut Pair) -> std::io::Result<()> {

@@ -6,12 +6,11 @@ mod exhaustive;
 mod judge;
 mod random;
 mod shrink;
-mod tally;
 
-pub use judge::Pair;
-pub use tally::Tally;
+use crate::outside::{Pair, Tally};
+use judge::Raw;
 
-pub fn run(pair: &Pair, tally: &mut Tally, seed: u64, cases: u64) {
+pub fn run(pair: &Pair, tally: &mut Tally<Raw>, seed: u64, cases: u64) {
     exhaustive::run(pair, tally);
     random::run(pair, tally, seed, cases);
 }
@@ -73,6 +72,14 @@ mod tests {
                 bytes[7] = 0xC0;
             }
             reply
+        }
+
+        fn settings_to_new(&self, settings: &[u8], list: &[u32], bytes: &mut [u8]) -> Reply {
+            functions("model").settings_to_new(settings, list, bytes)
+        }
+
+        fn settings_to_old(&self, settings: &[u8], list: &[u32], bytes: &mut [u8]) -> Reply {
+            functions("model").settings_to_old(settings, list, bytes)
         }
     }
 

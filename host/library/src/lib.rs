@@ -6,7 +6,7 @@ pub mod words;
 use scenario::{
     Answer, Asked, BringUp, Buffers, Cannot, Claim, Functions, HubUpdate, Layer, Outcome, Record, Reply, Shown, proper,
 };
-use xhci_device::{Memory, RawRefusal, Setting, SlotId};
+use xhci_device::{Memory, RawRefusal, Setting, SettingsRefusal, SlotId};
 
 pub struct Library;
 
@@ -91,19 +91,27 @@ impl Layer for Library {
     }
 }
 
-fn replied(result: Result<usize, RawRefusal>) -> Reply {
+fn replied<Refusal>(result: Result<usize, Refusal>, number: fn(Refusal) -> u8) -> Reply {
     match result {
         Ok(count) => Reply { number: 0, count },
-        Err(refusal) => Reply { number: refusal.number(), count: 0 },
+        Err(refusal) => Reply { number: number(refusal), count: 0 },
     }
 }
 
 impl Functions for Library {
     fn read_descriptors(&self, bytes: &[u8], words: &mut [u32]) -> Reply {
-        replied(proper(|| xhci_device::read_descriptors(bytes, words)))
+        replied(proper(|| xhci_device::read_descriptors(bytes, words)), RawRefusal::number)
     }
 
     fn write_descriptors(&self, list: &[u32], bytes: &mut [u8]) -> Reply {
-        replied(proper(|| xhci_device::write_descriptors(list, bytes)))
+        replied(proper(|| xhci_device::write_descriptors(list, bytes)), RawRefusal::number)
+    }
+
+    fn settings_to_new(&self, settings: &[u8], list: &[u32], bytes: &mut [u8]) -> Reply {
+        replied(proper(|| xhci_device::settings_to_new(settings, list, bytes)), SettingsRefusal::number)
+    }
+
+    fn settings_to_old(&self, settings: &[u8], list: &[u32], bytes: &mut [u8]) -> Reply {
+        replied(proper(|| xhci_device::settings_to_old(settings, list, bytes)), SettingsRefusal::number)
     }
 }

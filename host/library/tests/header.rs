@@ -1,6 +1,6 @@
 //! The header for C says what the binding says.
 
-use xhci_device::{Answer, Command, RawRefusal, Record};
+use xhci_device::{Answer, Command, READ_WORDS, RawRefusal, Record, SETTINGS_BYTES, SettingsRefusal, WRITE_BYTES};
 
 const HEADER: &str = include_str!("../../include/xhci_device.h");
 
@@ -21,6 +21,16 @@ fn number(name: &str) -> usize {
     constant(name).and_then(|value| value.parse().ok()).unwrap_or_else(|| panic!("{name} in the header"))
 }
 
+/// The answers of functions outside a slot that no call gives.
+fn outside() -> [(u8, String); 3] {
+    use SettingsRefusal::{OtherConfiguration, Settings};
+    [
+        (RawRefusal::Malformed.number(), RawRefusal::Malformed.to_string()),
+        (Settings.number(), Settings.to_string()),
+        (OtherConfiguration.number(), OtherConfiguration.to_string()),
+    ]
+}
+
 #[test]
 fn answers_have_their_numbers_and_names() {
     let mut count = 0;
@@ -29,17 +39,15 @@ fn answers_have_their_numbers_and_names() {
         else {
             continue;
         };
-        let words = match Answer::of(number(name) as u8, 0) {
+        let number = number(name) as u8;
+        let words = match Answer::of(number, 0) {
             Some(answer) => answer.to_string(),
-            None => {
-                assert_eq!(number(name), usize::from(RawRefusal::Malformed.number()));
-                RawRefusal::Malformed.to_string()
-            }
+            None => outside().into_iter().find(|(of, _)| *of == number).expect("a name").1,
         };
         assert_eq!(text.trim_end_matches("\";"), words.trim_end_matches(", with code 0"), "{name}");
         count += 1;
     }
-    assert_eq!((count, Answer::of(20, 0)), (23, None));
+    assert_eq!((count, outside().map(|(number, _)| Answer::of(number, 0))), (25, [None; 3]));
 }
 
 #[test]
@@ -68,6 +76,8 @@ fn the_version_and_the_sizes_are_the_binding_s() {
     assert_eq!((version.as_str(), env!("CARGO_PKG_VERSION")), (xhci_device::VERSION, xhci_device::VERSION));
     assert_eq!(constant("XHCI_DEVICE_VERSION"), Some(format!("\"{version}\"").as_str()));
     assert_eq!(number("XHCI_DEVICE_RECORD_WORDS"), Record::WORDS);
+    let rooms = ["READ_WORDS", "WRITE_BYTES", "SETTINGS_BYTES"].map(|name| number(&format!("XHCI_DEVICE_{name}")));
+    assert_eq!(rooms, [READ_WORDS, WRITE_BYTES, SETTINGS_BYTES]);
 }
 
 /// The binding can be taken alone.

@@ -8,6 +8,7 @@ mod context;
 mod course;
 mod list;
 mod raw;
+mod settings;
 mod topology;
 
 use scenario::{Answer, Asked, BringUp, Buffers, Claim, Functions, HubUpdate, Layer, Outcome, Record, Reply, Shown};
@@ -15,6 +16,7 @@ use scenario::{Answer, Asked, BringUp, Buffers, Claim, Functions, HubUpdate, Lay
 use course::{Course, Ended};
 
 pub use raw::{Ground, grounds};
+pub use settings::{SettingsGround, settings_grounds};
 
 pub struct Model;
 
@@ -124,5 +126,13 @@ impl Functions for Model {
 
     fn write_descriptors(&self, list: &[u32], bytes: &mut [u8]) -> Reply {
         replied(raw::write(list, bytes.len()), bytes)
+    }
+
+    fn settings_to_new(&self, settings: &[u8], list: &[u32], bytes: &mut [u8]) -> Reply {
+        replied(settings::to_new(settings, list, bytes.len()), bytes)
+    }
+
+    fn settings_to_old(&self, settings: &[u8], list: &[u32], bytes: &mut [u8]) -> Reply {
+        replied(settings::to_old(settings, list, bytes.len()), bytes)
     }
 }

@@ -2,8 +2,8 @@
 
 use std::process::Command;
 
-use runner::layer;
-use scenario::{BringUp, Buffers, Call, Claim, Endpoint, Record, reason};
+use runner::{functions, layer};
+use scenario::{BringUp, Buffers, Call, Claim, Conversion, Endpoint, Form, Record, reason, settings_fault};
 
 #[test]
 fn the_refusals_are_explained() {
@@ -126,4 +126,44 @@ fn an_owner_or_the_rings_are_named_exactly_where_a_claim_is_refused() {
         }
     }
     assert!(met[8] > 0 && met[9] > 0 && met[21] > 0 && met[15] > 0, "{met:?}");
+}
+
+/// What is wrong with settings is told exactly where they are refused with 23.
+#[test]
+fn a_ground_is_named_exactly_where_settings_are_refused() {
+    let mut rng = Rng(4);
+    let mut met = [0; 256];
+    let functions = functions("library").expect("the library");
+    for _ in 0..20_000 {
+        let mut list = vec![1 << 22];
+        for _ in 0..rng.below(6) {
+            let configuration = rng.below(4) == 0;
+            let setting = 1 << 30 | (rng.below(3) as u32) << 22 | (rng.below(2) as u32) << 14;
+            list.push(if configuration { (1 + rng.below(2) as u32) << 22 } else { setting });
+        }
+        list.truncate(if rng.below(50) == 0 { 0 } else { list.len() });
+        let count = rng.below(4);
+        let mut settings: Vec<u8> = (0..2 * count).map(|_| rng.below(3) as u8).collect();
+        let to = if rng.below(2) == 0 { Form::New } else { Form::Old };
+        if to == Form::Old {
+            settings = settings.iter().map(|byte| byte << 2).collect();
+            settings.splice(0..0, [1 + rng.below(3) as u8, (count << 2) as u8]);
+        }
+        match rng.below(8) {
+            0 => settings.push(0),
+            1 => _ = settings.pop(),
+            2 => {
+                if let Some(last) = settings.last_mut() {
+                    *last ^= 1 << rng.below(8);
+                }
+            }
+            _ => {}
+        }
+        let conversion = Conversion { list, settings, ..Conversion::to(to) };
+        let number = conversion.ask(&*functions).0.number;
+        let fault = settings_fault(to.other(), &conversion.settings, &conversion.list);
+        assert_eq!(fault.is_some(), number == 23, "{conversion:?}: {fault:?}");
+        met[usize::from(number)] += 1;
+    }
+    assert!(met[0] > 1_000 && met[23] > 1_000 && met[24] > 100, "{met:?}");
 }

@@ -65,16 +65,28 @@ fn the_shipped_asks() {
     shipped(include_str!("../scenarios/ask.txt"), include_str!("../scenarios/ask.out"), told);
 }
 
-const DESCRIPTORS: &str = include_str!("../scenarios/descriptors.txt");
-
 #[test]
 fn the_shipped_cases() {
-    for layer in ["library", "model"] {
-        let plain = run(&["--layer", layer, "-"], DESCRIPTORS);
-        assert_eq!(plain.status.code(), Some(0));
-        assert_eq!(String::from_utf8_lossy(&plain.stdout), include_str!("../scenarios/descriptors.out"));
-        let explained = run(&["--layer", layer, "--explain", "-"], DESCRIPTORS);
-        assert_eq!(String::from_utf8_lossy(&explained.stdout), include_str!("../scenarios/descriptors.explained"));
+    let told = include_str!("../scenarios/descriptors.explained");
+    shipped(include_str!("../scenarios/descriptors.txt"), include_str!("../scenarios/descriptors.out"), told);
+    let told = include_str!("../scenarios/settings.explained");
+    shipped(include_str!("../scenarios/settings.txt"), include_str!("../scenarios/settings.out"), told);
+}
+
+/// What docs/SCENARIOS.md has as an example of settings.
+#[test]
+fn the_worked_example_of_settings() {
+    let page = include_str!("../../../docs/SCENARIOS.md");
+    let example = page.split("    case held by an old board\n").nth(1).expect("the example");
+    let cases: String = example.lines().take_while(|line| !line.is_empty()).map(|line| format!("{line}\n")).collect();
+    let run = run(&["-"], &format!("case held by an old board\n{cases}"));
+    let printed = String::from_utf8_lossy(&run.stdout).replace(".\n", "");
+    let quoted: Vec<&str> =
+        example.split("\n\n").nth(1).expect("what it prints").split('`').skip(1).step_by(2).collect();
+    let lines: Vec<&str> = printed.lines().collect();
+    assert_eq!((quoted.len(), lines.len()), (4, 4));
+    for (quoted, line) in quoted.iter().zip(lines) {
+        assert!(line.starts_with(quoted.trim_end_matches("...")), "{quoted}: {line}");
     }
 }
 

@@ -4,7 +4,9 @@
 
 use std::fmt::{Debug, Write};
 
+use crate::explain;
 use crate::raw::{RawRead, RawWrite};
+use crate::settings::{Conversion, Form};
 use crate::value::{Parsed, Words};
 
 /// 01's number, and how many words or bytes were written.
@@ -21,6 +23,12 @@ pub trait Functions {
 
     /// Descriptor words to raw configuration descriptors.
     fn write_descriptors(&self, list: &[u32], bytes: &mut [u8]) -> Reply;
+
+    /// Held settings from the form of the maker's boards to the new one, by a list of descriptor words.
+    fn settings_to_new(&self, settings: &[u8], list: &[u32], bytes: &mut [u8]) -> Reply;
+
+    /// And back.
+    fn settings_to_old(&self, settings: &[u8], list: &[u32], bytes: &mut [u8]) -> Reply;
 }
 
 /// A function with what it is given.
@@ -45,8 +53,27 @@ pub fn kind(name: &str) -> Option<Box<dyn Kind>> {
     Some(match name {
         RawRead::NAME => Box::new(RawRead::default()),
         RawWrite::NAME => Box::new(RawWrite::default()),
+        Conversion::TO_NEW => Box::new(Conversion::to(Form::New)),
+        Conversion::TO_OLD => Box::new(Conversion::to(Form::Old)),
         _ => return None,
     })
+}
+
+/// The key `room`, where it is not the usual one.
+pub fn room(out: &mut String, room: usize, usual: usize) {
+    if room != usual {
+        let _ = writeln!(out, "room {room}");
+    }
+}
+
+/// The answer in words; accepted, what was written.
+pub fn explain_reply(out: &mut String, Reply { number, count }: Reply, what: &str) {
+    let meaning = match number {
+        0 => format!("accepted, {count} {what}"),
+        3 => "refused: the room is too small".to_string(),
+        _ => explain::answer(number).to_string(),
+    };
+    let _ = writeln!(out, "  answer {number}: {meaning}");
 }
 
 #[derive(Debug)]

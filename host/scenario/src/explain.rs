@@ -36,6 +36,8 @@ pub fn answer(number: u8) -> &'static str {
         19 => "failed: the packet byte is no exponent of a SuperSpeed size",
         21 => "refused: there are fewer free rings than endpoint words",
         22 => "refused: the ask is outdated",
+        23 => "refused: the settings are malformed or not found",
+        24 => "refused: the settings are of another configuration than the first",
         _ => "an answer without a name",
     }
 }

@@ -17,6 +17,7 @@ mod raw;
 mod reason;
 mod record_text;
 mod session;
+mod settings;
 mod value;
 
 pub use call::*;
@@ -30,3 +31,4 @@ pub use print::{left_text, scenario_text, step_text};
 pub use raw::{BYTES_ROOM, RawRead, RawWrite, WORDS_ROOM};
 pub use reason::reason;
 pub use session::{Left, Session};
+pub use settings::{Conversion, Form, SETTINGS_ROOM, settings_fault};

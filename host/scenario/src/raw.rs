@@ -2,11 +2,11 @@
 
 use std::fmt::Write;
 
-use crate::case::{Functions, Kind, Reply};
+use crate::case::{Functions, Kind, Reply, explain_reply, room};
 use crate::descriptors::{explain_bytes, explain_words};
 use crate::memory::{filled_bytes, filled_words};
 use crate::value::{Parsed, Words};
-use crate::{explain, print, value};
+use crate::{print, value};
 
 /// What memory must have room for.
 pub const WORDS_ROOM: usize = 256;
@@ -58,21 +58,12 @@ impl RawWrite {
     }
 }
 
-fn room(out: &mut String, room: usize, usual: usize) {
-    if room != usual {
-        let _ = writeln!(out, "room {room}");
-    }
-}
-
 /// The answer in words: what was written, or what 20 says.
-fn reply(out: &mut String, Reply { number, count }: Reply, what: &str, malformed: &str) {
-    let meaning = match number {
-        0 => format!("accepted, {count} {what}"),
-        3 => "refused: the room is too small".to_string(),
-        20 => format!("refused: {malformed}"),
-        _ => explain::answer(number).to_string(),
-    };
-    let _ = writeln!(out, "  answer {number}: {meaning}");
+fn reply(out: &mut String, reply: Reply, what: &str, malformed: &str) {
+    match reply.number {
+        20 => _ = writeln!(out, "  answer 20: refused: {malformed}"),
+        _ => explain_reply(out, reply, what),
+    }
 }
 
 impl Kind for RawRead {

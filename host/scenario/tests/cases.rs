@@ -18,6 +18,15 @@ go
 case none
 rawread
 go
+case settings
+toold
+  settings 010800040c00
+  room 70
+  list 00400000 40000000
+go
+case no settings
+tonew
+go
 ";
 
 /// Writes into all it is given: the count is the first byte's, or the words'.
@@ -34,6 +43,16 @@ impl Functions for Scribe {
         bytes[..list.len()].fill(7);
         Reply { number: 0, count: list.len() }
     }
+
+    fn settings_to_new(&self, settings: &[u8], list: &[u32], bytes: &mut [u8]) -> Reply {
+        bytes[..settings.len()].copy_from_slice(settings);
+        bytes[settings.len()] = list.len() as u8;
+        Reply { number: 0, count: settings.len() + 1 }
+    }
+
+    fn settings_to_old(&self, settings: &[u8], list: &[u32], bytes: &mut [u8]) -> Reply {
+        self.settings_to_new(&settings[1..], list, bytes)
+    }
 }
 
 /// Refuses everything with one number.
@@ -45,6 +64,14 @@ impl Functions for Refuses {
     }
 
     fn write_descriptors(&self, _: &[u32], _: &mut [u8]) -> Reply {
+        Reply { number: self.0, count: 0 }
+    }
+
+    fn settings_to_new(&self, _: &[u8], _: &[u32], _: &mut [u8]) -> Reply {
+        Reply { number: self.0, count: 0 }
+    }
+
+    fn settings_to_old(&self, _: &[u8], _: &[u32], _: &mut [u8]) -> Reply {
         Reply { number: self.0, count: 0 }
     }
 }
@@ -89,6 +116,8 @@ fn cases_and_scenarios_stand_in_one_file() {
         format!("case one endpoint\nrawread\nbytes {bytes}\nroom 300\ngo\n"),
         "case and back\nrawwrite\nlist 00400000 40000000 a3808410\ngo\n".to_string(),
         "case none\nrawread\nbytes\ngo\n".to_string(),
+        "case settings\ntoold\nlist 00400000 40000000\nsettings 010800040c00\nroom 70\ngo\n".to_string(),
+        "case no settings\ntonew\nlist\nsettings\ngo\n".to_string(),
     ];
     assert_eq!(texts(&read.cases), expected);
     let again = parse(&texts(&read.cases).concat()).expect("the same");
@@ -109,6 +138,9 @@ fn the_first_bad_line_is_named() {
     assert_eq!(error("case a\nrawread\nroom 16777217\n").0, 3);
     assert_eq!(error("case a\nrawread\nroom\n").0, 3);
     assert_eq!(error("case a\nrawwrite\nlist 123456789\n").0, 3);
+    assert_eq!(error("case a\ntonew\nbytes 00\n"), (3, "'tonew' has no 'bytes'".to_string()));
+    assert_eq!(error("case a\ntoold\nsettings 00 01\n"), (3, "'01' is too much".to_string()));
+    assert_eq!(error("case a\ntoold\nsettings 0\n").0, 3);
     assert_eq!(error("case a\nrawread now\n").0, 2);
     assert_eq!(error("case a\nrawread\ngo now\n").0, 3);
     assert_eq!(error("case a\nrawread\ngo\nrawread\n").0, 4);
@@ -129,13 +161,20 @@ fn the_memory_is_filled_and_printed_whole() {
     assert_eq!(run(&Refuses(3), "rawread\nroom 2"), "answer 3 0\nwords a5000000 a5000001\n.\n");
     assert_eq!(run(&Refuses(3), "rawwrite\nroom 0"), "answer 3 0\nbytes\n.\n");
     assert_eq!(run(&Refuses(3), "rawread\nroom 0"), "answer 3 0\nwords\n.\n");
+    let [new, old] = ["tonew", "toold"].map(|kind| run(&Scribe, &format!("{kind}\nsettings 0102\nlist 0 0 0\nroom 5")));
+    assert_eq!(new, "answer 0 3\nbytes 010203a8a9\n.\n");
+    assert_eq!(old, "answer 0 2\nbytes 0203a7a8a9\n.\n");
+    assert_eq!(run(&Refuses(23), "toold\nroom 2"), "answer 23 0\nbytes a5a6\n.\n");
 }
 
 #[test]
-fn without_room_256_words_and_2304_bytes() {
+fn without_room_as_much_as_is_asked_for() {
     let lines = |text: String| text.lines().nth(1).expect("memory").to_string();
     assert_eq!(lines(run(&Refuses(20), "rawread")).split(' ').count(), 1 + 256);
     assert_eq!(lines(run(&Refuses(20), "rawwrite")).len(), "bytes ".len() + 2 * 2304);
+    for kind in ["tonew", "toold"] {
+        assert_eq!(lines(run(&Refuses(23), kind)).len(), "bytes ".len() + 2 * 66);
+    }
 }
 
 fn told_bytes(bytes: &[u8]) -> Vec<String> {
@@ -198,4 +237,76 @@ fn answers_are_told_in_words() {
     assert!(read.ends_with(
         "  answer 0: accepted, 2 words\n      interface 0, alternate 0\n      interface 0, alternate 0\n\n"
     ));
+}
+
+/// Configuration 1: interface 0 with alternates 0 and 1, interface 3; configuration 2: interface 200.
+const LIST: &str = "list 00400000 40000000 40004000 40c00000 00800000 72000000";
+
+/// What stands behind the list.
+fn told_settings(functions: &dyn Functions, kind: &str, settings: &str) -> Vec<String> {
+    let text = explained(functions, &format!("{kind}\n{LIST}\nsettings {settings}"));
+    text.lines().skip(9).filter(|line| !line.is_empty()).map(|line| line.trim().to_string()).collect()
+}
+
+#[test]
+fn settings_are_told_with_value_and_pairs() {
+    let text = explained(&Scribe, "tonew\nlist 00400000 40000000\nsettings 040c");
+    let expected = "case one
+
+old settings to new ones, room for 66
+    configuration 1
+      interface 0, alternate 0
+  old settings 040c
+      interface 4, alternate 12
+  answer 0: accepted, 3 bytes
+  new settings 040c02
+    configuration 4, pairs 3
+
+";
+    assert_eq!(text, expected);
+    let old = ["interface 0, alternate 1", "interface 3, alternate 0"];
+    let new = [&["new settings 010800040c00", "configuration 1, pairs 2"][..], &old].concat();
+    let refused = ["answer 24: refused: the settings are of another configuration than the first"];
+    assert_eq!(told_settings(&Refuses(24), "toold", "010800040c00"), [&new[..], &refused].concat());
+    assert_eq!(told_settings(&Refuses(3), "toold", ""), ["new settings", "answer 3: refused: the room is too small"]);
+}
+
+/// The ground of a 23 that is told, of settings of the old or the new form.
+fn ground(kind: &str, settings: &str) -> String {
+    let told = told_settings(&Refuses(23), kind, settings);
+    let at = told.iter().position(|line| line == "answer 23: refused: the settings are malformed or not found");
+    assert_eq!(at, Some(told.len() - 2));
+    told.last().cloned().unwrap_or_default()
+}
+
+#[test]
+fn the_ground_of_a_23_is_told() {
+    let many: String = (0..33).map(|interface| format!("{interface:02x}00")).collect();
+    for (settings, expected) in [
+        ("00", "bytes: 1, an odd number"),
+        ("000103", "bytes: 3, an odd number"),
+        ("03000001", "pair 2: interface 0 behind interface 3"),
+        ("00010001", "pair 2: interface 0 behind interface 0"),
+        ("00010302", "pair 2: configuration 1 has no interface 3, alternate 2"),
+        ("c800", "pair 1: configuration 1 has no interface 200, alternate 0"),
+        (&many, "pairs: 33, and 32 are allowed"),
+    ] {
+        assert_eq!(ground("tonew", settings), expected);
+    }
+    for (settings, expected) in [
+        ("", "bytes: 0, and value and count take 2"),
+        ("01", "bytes: 1, and value and count take 2"),
+        ("0104", "bytes: 2, and a count of 1 takes 4"),
+        ("0108000400", "bytes: 5, and a count of 2 takes 6"),
+        ("010000", "bytes: 3, and a count of 0 takes 2"),
+        ("0102", "the bits past the last pair are not 0"),
+        ("0300", "the list has no configuration 3"),
+        ("0104000c", "pair 1: configuration 1 has no interface 0, alternate 3"),
+        ("0204000c", "pair 1: configuration 2 has no interface 0, alternate 3"),
+        ("01080c000004", "pair 2: interface 0 behind interface 3"),
+    ] {
+        assert_eq!(ground("toold", settings), expected);
+    }
+    let empty = explained(&Refuses(23), "tonew");
+    assert!(empty.ends_with("not found\n    the list has no configuration\n\n"));
 }

@@ -7,8 +7,8 @@ use std::{env, fs, io};
 
 use crate::sha256::sha256;
 
-/// The archives: the calls on a slot, and what stands outside a slot.
-pub const ARCHIVES: [&str; 2] = ["xhci_device", "xhci_descriptors"];
+/// The archives: the calls on a slot, and the functions outside a slot.
+pub const ARCHIVES: [&str; 2] = ["xhci_device", "xhci_functions"];
 
 /// The crate of the repository that is built as an archive: it exports the calls of the library of the archive's name.
 pub fn exporting(name: &str) -> String {

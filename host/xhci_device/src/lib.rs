@@ -14,6 +14,7 @@ mod learned;
 mod library;
 mod raw;
 mod record;
+mod settings;
 
 pub use answer::Answer;
 pub use asked::Asked;
@@ -24,6 +25,7 @@ pub use driver::{Attached, Call, Next, Pending};
 pub use hub::Hub;
 pub use raw::{READ_WORDS, RawRefusal, WRITE_BYTES, read_descriptors, write_descriptors};
 pub use record::{Configuration, Endpoint, Record, Setting};
+pub use settings::{SETTINGS_BYTES, SettingsRefusal, settings_to_new, settings_to_old};
 
 /// The version of this crate and of the header for C.
 pub const VERSION: &str = env!("CARGO_PKG_VERSION");

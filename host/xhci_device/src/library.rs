@@ -3,7 +3,7 @@
 #![allow(unsafe_code)]
 
 use crate::layout::EP_ROOM;
-use crate::{Answer, Asked, BringUp, Memory, RawRefusal};
+use crate::{Answer, Asked, BringUp, Memory, RawRefusal, SettingsRefusal};
 
 #[repr(C)]
 struct Answered {
@@ -163,6 +163,22 @@ unsafe extern "C" {
     ) -> Answered;
     fn xhci_device_read_descriptors(bytes: *const u8, bytes_len: usize, words: *mut u32, words_len: usize) -> Answered;
     fn xhci_device_write_descriptors(list: *const u32, list_len: usize, bytes: *mut u8, bytes_len: usize) -> Answered;
+    fn xhci_device_settings_to_new(
+        settings: *const u8,
+        settings_len: usize,
+        list: *const u32,
+        list_len: usize,
+        bytes: *mut u8,
+        bytes_len: usize,
+    ) -> Answered;
+    fn xhci_device_settings_to_old(
+        settings: *const u8,
+        settings_len: usize,
+        list: *const u32,
+        list_len: usize,
+        bytes: *mut u8,
+        bytes_len: usize,
+    ) -> Answered;
 }
 
 fn told(answered: Answered) -> (Answer, usize) {
@@ -173,10 +189,11 @@ fn answer(number: u32, code: u32) -> Answer {
     Answer::of(number as u8, code as u8).expect("an answer of a call")
 }
 
-fn counted(answered: Answered) -> Result<usize, RawRefusal> {
+/// What a function outside a slot answers.
+fn counted<Refusal>(answered: Answered, refusal: fn(u32) -> Option<Refusal>) -> Result<usize, Refusal> {
     match answered.answer {
         0 => Ok(answered.count),
-        number => Err(RawRefusal::of(number).expect("the library answers 0, 3, 4 or 20")),
+        number => Err(refusal(number).expect("an answer of the function")),
     }
 }
 
@@ -400,12 +417,45 @@ pub fn disconnect(image: &mut [u64], memory: Memory<'_>) -> (Answer, usize) {
 
 pub fn read_descriptors(bytes: &[u8], words: &mut [u32]) -> Result<usize, RawRefusal> {
     // SAFETY: each pointer comes with its slice's length, and the words are borrowed for this call alone.
-    counted(unsafe { xhci_device_read_descriptors(bytes.as_ptr(), bytes.len(), words.as_mut_ptr(), words.len()) })
+    let answered =
+        unsafe { xhci_device_read_descriptors(bytes.as_ptr(), bytes.len(), words.as_mut_ptr(), words.len()) };
+    counted(answered, RawRefusal::of)
 }
 
 pub fn write_descriptors(list: &[u32], bytes: &mut [u8]) -> Result<usize, RawRefusal> {
     // SAFETY: each pointer comes with its slice's length, and the bytes are borrowed for this call alone.
-    counted(unsafe { xhci_device_write_descriptors(list.as_ptr(), list.len(), bytes.as_mut_ptr(), bytes.len()) })
+    let answered = unsafe { xhci_device_write_descriptors(list.as_ptr(), list.len(), bytes.as_mut_ptr(), bytes.len()) };
+    counted(answered, RawRefusal::of)
+}
+
+pub fn settings_to_new(settings: &[u8], list: &[u32], bytes: &mut [u8]) -> Result<usize, SettingsRefusal> {
+    // SAFETY: each pointer comes with its slice's length, and the bytes are borrowed for this call alone.
+    let answered = unsafe {
+        xhci_device_settings_to_new(
+            settings.as_ptr(),
+            settings.len(),
+            list.as_ptr(),
+            list.len(),
+            bytes.as_mut_ptr(),
+            bytes.len(),
+        )
+    };
+    counted(answered, SettingsRefusal::of)
+}
+
+pub fn settings_to_old(settings: &[u8], list: &[u32], bytes: &mut [u8]) -> Result<usize, SettingsRefusal> {
+    // SAFETY: each pointer comes with its slice's length, and the bytes are borrowed for this call alone.
+    let answered = unsafe {
+        xhci_device_settings_to_old(
+            settings.as_ptr(),
+            settings.len(),
+            list.as_ptr(),
+            list.len(),
+            bytes.as_mut_ptr(),
+            bytes.len(),
+        )
+    };
+    counted(answered, SettingsRefusal::of)
 }
 
 #[cfg(test)]

@@ -3,11 +3,11 @@
 use scenario::{BYTES_ROOM, RawRead, RawWrite, WORDS_ROOM};
 
 use crate::build;
+use crate::outside::{Pair, Tally};
 use crate::raw::bytes::*;
-use crate::raw::judge::{Pair, Question};
-use crate::raw::tally::Tally;
+use crate::raw::judge::Raw;
 
-pub fn run(pair: &Pair, tally: &mut Tally) {
+pub fn run(pair: &Pair, tally: &mut Tally<Raw>) {
     let mut ask = |question| pair.compare(tally, question);
     short(&mut ask);
     for sample in [one_endpoint(), two_configurations(), camera()] {
@@ -20,14 +20,14 @@ pub fn run(pair: &Pair, tally: &mut Tally) {
     lists(&mut ask);
 }
 
-pub type Ask<'a> = &'a mut dyn FnMut(Question);
+pub type Ask<'a> = &'a mut dyn FnMut(Raw);
 
 fn read(ask: Ask, bytes: Vec<u8>) {
-    ask(Question::Read(RawRead { bytes, room: WORDS_ROOM }));
+    ask(Raw::Read(RawRead { bytes, room: WORDS_ROOM }));
 }
 
 fn write(ask: Ask, list: Vec<u32>) {
-    ask(Question::Write(RawWrite { list, room: BYTES_ROOM }));
+    ask(Raw::Write(RawWrite { list, room: BYTES_ROOM }));
 }
 
 fn one_endpoint() -> Vec<u8> {
@@ -147,10 +147,10 @@ fn rooms(ask: Ask) {
     let lists = [Vec::new(), sample_list(), vec![build::alternate(0, 0)], without_packets()];
     for room in (0..=300).chain([2303, 2304, 2305, 5000]) {
         for bytes in &bytes {
-            ask(Question::Read(RawRead { bytes: bytes.clone(), room }));
+            ask(Raw::Read(RawRead { bytes: bytes.clone(), room }));
         }
         for list in &lists {
-            ask(Question::Write(RawWrite { list: list.clone(), room }));
+            ask(Raw::Write(RawWrite { list: list.clone(), room }));
         }
     }
 }

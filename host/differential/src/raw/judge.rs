@@ -1,122 +1,103 @@
-//! The functions of two layers on one question.
+//! Raw descriptors as questions, and how they are judged.
 
 use std::collections::BTreeSet;
 
 use model::{Ground, grounds};
-use scenario::{BYTES_ROOM, Case, Functions, Kind, RawRead, RawWrite, Reply, WORDS_ROOM};
+use scenario::{BYTES_ROOM, Functions, Kind, RawRead, RawWrite, Reply, WORDS_ROOM};
 
-use crate::raw::tally::Tally;
+use crate::outside::{Judged, Pair, Question};
+use crate::raw::shrink;
 use crate::refusal::list_fault;
 
 #[derive(Clone, Debug)]
-pub enum Question {
+pub enum Raw {
     Read(RawRead),
     Write(RawWrite),
 }
 
-impl Question {
-    pub fn name(&self) -> &'static str {
+impl Question for Raw {
+    type Ground = Ground;
+
+    const TITLE: &'static str = "raw descriptors";
+    const ANSWERS: &'static [(&'static str, &'static [u8])] =
+        &[(RawRead::NAME, &[0, 3, 4, 20]), (RawWrite::NAME, &[0, 3, 4, 20])];
+    const GROUNDS: &'static [Ground] = &Ground::ALL;
+    const MALFORMED: u8 = 20;
+
+    fn name(&self) -> &'static str {
         match self {
-            Question::Read(_) => RawRead::NAME,
-            Question::Write(_) => RawWrite::NAME,
+            Raw::Read(_) => RawRead::NAME,
+            Raw::Write(_) => RawWrite::NAME,
         }
     }
 
-    /// As a case that a runner can run.
-    pub fn case(&self, name: &str) -> Case {
-        let kind: Box<dyn Kind> = match self.clone() {
-            Question::Read(read) => Box::new(read),
-            Question::Write(write) => Box::new(write),
-        };
-        Case { name: name.to_string(), kind }
-    }
-}
-
-pub struct Judged {
-    /// The subject's.
-    pub number: u8,
-    /// Why bytes answered with 20 are malformed, by the model.
-    pub grounds: BTreeSet<Ground>,
-    /// Whether the question was accepted, and its output brought back.
-    pub returned: bool,
-    /// What is not as it should be.
-    pub fault: Option<&'static str>,
-}
-
-pub struct Pair {
-    pub reference: Box<dyn Functions>,
-    pub subject: Box<dyn Functions>,
-}
-
-impl Pair {
-    pub fn compare(&self, tally: &mut Tally, question: Question) {
-        let judged = self.judge(&question);
-        tally.count(question, judged);
-    }
-
-    pub fn judge(&self, question: &Question) -> Judged {
-        match question {
-            Question::Read(read) => self.judge_read(read),
-            Question::Write(write) => self.judge_write(write),
+    fn kind(&self) -> Box<dyn Kind> {
+        match self.clone() {
+            Raw::Read(read) => Box::new(read),
+            Raw::Write(write) => Box::new(write),
         }
     }
 
-    fn judge_read(&self, read: &RawRead) -> Judged {
-        let (reply, words) = read.ask(&*self.subject);
-        let (expected_reply, expected) = read.ask(&*self.reference);
-        let grounds = if read.room < WORDS_ROOM { BTreeSet::new() } else { grounds(&read.bytes) };
-        let returned = reply.number == 0 && words.get(..reply.count).is_some_and(|words| self.read_again(words));
-        let fault = if (reply, words) != (expected_reply, expected) {
-            Some("the layers")
-        } else if grounds.is_empty() == (reply.number == 20) {
-            Some("the grounds of 20")
-        } else if reply.number == 0 && !returned {
-            Some("bytes read, written and read again")
-        } else {
-            None
-        };
-        Judged { number: reply.number, grounds, returned, fault }
+    fn size(&self) -> usize {
+        shrink::size(self)
     }
 
-    fn judge_write(&self, write: &RawWrite) -> Judged {
-        let (reply, bytes) = write.ask(&*self.subject);
-        let (expected_reply, expected) = write.ask(&*self.reference);
-        let returned = reply.number == 0 && self.reads(&bytes[..reply.count], &write.list);
-        let fault = if (reply, bytes) != (expected_reply, expected) {
-            Some("the layers")
-        } else if reply.number != refusal(write) {
-            Some("the refusal")
-        } else if reply.number == 0 && !returned {
-            Some("a list written and read")
-        } else {
-            None
-        };
-        Judged { number: reply.number, grounds: BTreeSet::new(), returned, fault }
+    fn smaller(&self) -> Vec<Raw> {
+        shrink::smaller(self)
     }
 
-    /// Whether the subject writes words, and reads them from what it wrote.
-    fn read_again(&self, list: &[u32]) -> bool {
-        let write = RawWrite { list: list.to_vec(), room: BYTES_ROOM };
-        let (Reply { number, count }, bytes) = write.ask(&*self.subject);
-        number == 0 && self.reads(&bytes[..count], list)
+    fn judge(&self, pair: &Pair) -> Judged<Ground> {
+        match self {
+            Raw::Read(read) => judge_read(pair, read),
+            Raw::Write(write) => judge_write(pair, write),
+        }
     }
+}
 
-    fn reads(&self, bytes: &[u8], list: &[u32]) -> bool {
-        let read = RawRead { bytes: bytes.to_vec(), room: WORDS_ROOM };
-        let (Reply { number, count }, words) = read.ask(&*self.subject);
-        number == 0 && words[..count] == *list
-    }
+fn judge_read(pair: &Pair, read: &RawRead) -> Judged<Ground> {
+    let (reply, words) = read.ask(&*pair.subject);
+    let (expected_reply, expected) = read.ask(&*pair.reference);
+    let grounds = if read.room < WORDS_ROOM { BTreeSet::new() } else { grounds(&read.bytes) };
+    let returned = reply.number == 0 && words.get(..reply.count).is_some_and(|words| read_again(&*pair.subject, words));
+    let fault = if (reply, words) != (expected_reply, expected) {
+        Some("the layers")
+    } else if grounds.is_empty() == (reply.number == 20) {
+        Some("the grounds of 20")
+    } else if reply.number == 0 && !returned {
+        Some("bytes read, written and read again")
+    } else {
+        None
+    };
+    Judged { number: reply.number, grounds, returned, fault }
+}
 
-    pub fn report(&self, question: &Question) -> String {
-        let case = question.case("smallest");
-        let mut text = format!("DIFFERENT: {}\nthe smallest case found:\n", self.judge(question).fault.unwrap_or("-"));
-        case.text(&mut text);
-        text.push_str("the subject leaves:\n");
-        case.run(&*self.subject, &mut text);
-        text.push_str("the reference leaves:\n");
-        case.run(&*self.reference, &mut text);
-        text
-    }
+fn judge_write(pair: &Pair, write: &RawWrite) -> Judged<Ground> {
+    let (reply, bytes) = write.ask(&*pair.subject);
+    let (expected_reply, expected) = write.ask(&*pair.reference);
+    let returned = reply.number == 0 && reads(&*pair.subject, &bytes[..reply.count], &write.list);
+    let fault = if (reply, bytes) != (expected_reply, expected) {
+        Some("the layers")
+    } else if reply.number != refusal(write) {
+        Some("the refusal")
+    } else if reply.number == 0 && !returned {
+        Some("a list written and read")
+    } else {
+        None
+    };
+    Judged { number: reply.number, grounds: BTreeSet::new(), returned, fault }
+}
+
+/// Whether the subject writes words, and reads them from what it wrote.
+fn read_again(subject: &dyn Functions, list: &[u32]) -> bool {
+    let write = RawWrite { list: list.to_vec(), room: BYTES_ROOM };
+    let (Reply { number, count }, bytes) = write.ask(subject);
+    number == 0 && reads(subject, &bytes[..count], list)
+}
+
+fn reads(subject: &dyn Functions, bytes: &[u8], list: &[u32]) -> bool {
+    let read = RawRead { bytes: bytes.to_vec(), room: WORDS_ROOM };
+    let (Reply { number, count }, words) = read.ask(subject);
+    number == 0 && words[..count] == *list
 }
 
 /// What the writer must answer, read from 01 and 02 once more.

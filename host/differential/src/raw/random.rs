@@ -2,21 +2,21 @@
 
 use scenario::{BYTES_ROOM, RawRead, RawWrite, WORDS_ROOM};
 
+use crate::outside::{Pair, Tally};
 use crate::random::{broken_list, list};
 use crate::raw::bytes::*;
-use crate::raw::judge::{Pair, Question};
-use crate::raw::tally::Tally;
+use crate::raw::judge::Raw;
 use crate::rng::Rng;
 
-pub fn run(pair: &Pair, tally: &mut Tally, seed: u64, cases: u64) {
+pub fn run(pair: &Pair, tally: &mut Tally<Raw>, seed: u64, cases: u64) {
     let mut rng = Rng::new(seed);
     for _ in 0..cases {
         let question = if rng.percent(70) {
             let bytes = bytes(&mut rng);
-            Question::Read(RawRead { bytes, room: room(&mut rng, WORDS_ROOM) })
+            Raw::Read(RawRead { bytes, room: room(&mut rng, WORDS_ROOM) })
         } else {
             let list = words(&mut rng);
-            Question::Write(RawWrite { list, room: room(&mut rng, BYTES_ROOM) })
+            Raw::Write(RawWrite { list, room: room(&mut rng, BYTES_ROOM) })
         };
         pair.compare(tally, question);
     }

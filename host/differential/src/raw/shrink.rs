@@ -3,16 +3,16 @@
 use scenario::{BYTES_ROOM, RawRead, RawWrite, WORDS_ROOM};
 
 use crate::raw::bytes::places;
-use crate::raw::judge::Question;
+use crate::raw::judge::Raw;
 
 /// By this measure questions are compared.
-pub fn size(question: &Question) -> usize {
+pub fn size(question: &Raw) -> usize {
     match question {
-        Question::Read(read) => {
+        Raw::Read(read) => {
             let nonzero = read.bytes.iter().filter(|byte| **byte != 0).count();
             2 * read.bytes.len() + nonzero + usize::from(read.room != WORDS_ROOM)
         }
-        Question::Write(write) => {
+        Raw::Write(write) => {
             let bits: u32 = write.list.iter().map(|word| word.count_ones()).sum();
             33 * write.list.len() + bits as usize + usize::from(write.room != BYTES_ROOM)
         }
@@ -20,10 +20,10 @@ pub fn size(question: &Question) -> usize {
 }
 
 /// Questions with one thing left out.
-fn smaller(question: &Question) -> Vec<Question> {
+pub fn smaller(question: &Raw) -> Vec<Raw> {
     match question {
-        Question::Read(read) => smaller_read(read).into_iter().map(Question::Read).collect(),
-        Question::Write(write) => smaller_write(write).into_iter().map(Question::Write).collect(),
+        Raw::Read(read) => smaller_read(read).into_iter().map(Raw::Read).collect(),
+        Raw::Write(write) => smaller_write(write).into_iter().map(Raw::Write).collect(),
     }
 }
 
@@ -61,13 +61,4 @@ fn smaller_write(write: &RawWrite) -> Vec<RawWrite> {
         }
     }
     found
-}
-
-/// The smallest question that can be reached from one by leaving things out, as long as it is wanted.
-pub fn least(question: &Question, wanted: impl Fn(&Question) -> bool) -> Question {
-    let mut best = question.clone();
-    while let Some(next) = smaller(&best).into_iter().find(|q| size(q) < size(&best) && wanted(q)) {
-        best = next;
-    }
-    best
 }

@@ -9,15 +9,18 @@ mod lists;
 mod page;
 mod picture;
 mod records;
+mod settings;
 mod values;
 
 /// What the modules read, by its mark.
-const CHECKED: [&str; 37] = [
+const CHECKED: [&str; 39] = [
     "picture configuration",
     "picture alternate",
     "picture endpoint",
     "words",
     "lists",
+    "picture settings",
+    "settings",
     "picture hub",
     "hubs",
     "routes",

@@ -1,0 +1,31 @@
+// What the functions outside a slot answer: 01, "Who can cause an answer", and from 20 on the numbers of document 02.
+#![tactic(auto)]
+
+ghost use Rattle.std.specs.Prelude.{◌≡◌, Err};
+ghost use Rattle.function_answer.specs.Answer.{number};
+
+// Why such a function refuses; accepted, it says how many words or bytes it wrote.
+#[derive(Clone, Copy, PartialEq, Eq)]
+pub enum Refusal {
+    TooShort,
+    DescriptorList,
+    Malformed,
+    Settings,
+    OtherConfiguration,
+}
+
+impl Refusal {
+    // The documents' number.
+    #[tactic(auto, unfolding(crate::specs::Answer::number))]
+    pub fn number(self) -> u32
+        ensures { result ≡ number (Err self) }
+    {
+        match self {
+            Refusal::TooShort => 3,
+            Refusal::DescriptorList => 4,
+            Refusal::Malformed => 20,
+            Refusal::Settings => 23,
+            Refusal::OtherConfiguration => 24,
+        }
+    }
+}

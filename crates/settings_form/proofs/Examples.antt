@@ -1,0 +1,23 @@
+-- The examples of specs/Examples.antt.
+use mathlib.Core.Path.{refl}
+use Rattle.descriptor.specs.Word.{kind, configuration_value, interface_number, alternate_setting, direction_in, endpoint_number, type_number, endpoint_ok, word_ok}
+use Rattle.descriptor_list.specs.Lookup.{endpoint_run, of_interface, is_alternate}
+use Rattle.descriptor_list.specs.Valid.{begins_with_configuration, words_ok, run_fits, runs_fit, configurations, has_interface, last_alternate, interfaces, valid_list}
+use Rattle.function_answer.specs.Answer.{on_check}
+use Rattle.settings_form.specs.Bits.{bits, number_of, all_bits, bytes_from}
+use Rattle.settings_form.specs.Form.{new_form, value_in, count_in, pairs_in, is_new_form}
+use Rattle.settings_form.specs.Held.{up_to_configuration, is_configuration, configuration_words, pairs_held, held_in, settings_held}
+use Rattle.settings_form.specs.Convert.{list_check, first_value, to_new, to_old}
+use Rattle.settings_form.specs.Examples.{alternates, pairs, NewExamples, OldExamples, FullExamples}
+
+new_examples : NewExamples
+unfolding alternates pairs bits number_of all_bits bytes_from new_form value_in count_in pairs_in is_new_form up_to_configuration is_configuration configuration_words pairs_held held_in settings_held list_check first_value to_new to_old on_check valid_list begins_with_configuration words_ok run_fits runs_fit configurations has_interface last_alternate interfaces of_interface is_alternate endpoint_run kind configuration_value interface_number alternate_setting direction_in endpoint_number type_number endpoint_ok word_ok
+new_examples = (refl, refl, refl, refl, refl, refl, refl, refl, refl, refl, refl, refl, refl)
+
+old_examples : OldExamples
+unfolding alternates pairs bits number_of all_bits bytes_from new_form value_in count_in pairs_in is_new_form up_to_configuration is_configuration configuration_words pairs_held held_in settings_held list_check first_value to_new to_old on_check valid_list begins_with_configuration words_ok run_fits runs_fit configurations has_interface last_alternate interfaces of_interface is_alternate endpoint_run kind configuration_value interface_number alternate_setting direction_in endpoint_number type_number endpoint_ok word_ok
+old_examples = (refl, refl, refl, refl, refl, refl, refl, refl, refl, refl, refl, refl, refl, refl, refl, refl, refl, refl, refl, refl)
+
+full_examples : FullExamples
+unfolding alternates pairs bits number_of all_bits bytes_from new_form value_in count_in pairs_in is_new_form up_to_configuration is_configuration configuration_words pairs_held held_in settings_held list_check first_value to_new to_old on_check valid_list begins_with_configuration words_ok run_fits runs_fit configurations has_interface last_alternate interfaces of_interface is_alternate endpoint_run kind configuration_value interface_number alternate_setting direction_in endpoint_number type_number endpoint_ok word_ok
+full_examples = (refl, refl, refl)

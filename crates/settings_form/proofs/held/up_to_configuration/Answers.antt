@@ -1,0 +1,15 @@
+use Rattle.std.proofs.Common.{rules, tests, ◌≡◌, length, take}
+use Rattle.std.specs.List.{prefix_len}
+use Rattle.std.proofs.lemmas.Iterator.{YieldsList-from_slice}
+use Rattle.std.proofs.lemmas.Iterator.Consumers.{count_from_yields_List}
+use Rattle.std.proofs.lemmas.Iterator.Search.{YieldsList-from_take_while}
+use Rattle.settings_form.proofs.Words.{stays, words_taken}
+use Rattle.settings_form.proofs.held.up_to_configuration.Goals as goal
+
+pub returns : goal.returns
+returns c =
+    let words = c.args.words.now in
+    let n : c.count-n.result ≡ length (take (prefix_len stays words) words) =
+    count_from_yields_List c.take_while.result _ c.count-n.ensures.ran
+    (YieldsList-from_take_while _ stays (YieldsList-from_slice words (cc)) c.take_while.ensures.closure c.take_while.ensures.done (λ x b q k. search (rules, tests))) in
+    rw n (words_taken words)

@@ -1,0 +1,6 @@
+pub mod Bits
+pub mod Convert
+pub mod Examples
+pub mod Form
+pub mod Held
+pub mod Promises

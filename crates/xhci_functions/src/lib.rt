@@ -1,0 +1,59 @@
+// The functions outside a slot that crates/xhci_functions_c exports to C. There is a function here for each export, since a crate is a
+// library or an archive.
+#![tactic(auto)]
+
+ghost use Rattle.std.specs.Prelude.{◌≡◌};
+ghost use Rattle.descriptor_raw.specs.Read.{read_descriptors};
+ghost use Rattle.descriptor_raw.specs.Write.{write_descriptors};
+ghost use Rattle.settings_form.specs.Convert.{to_new, to_old};
+ghost use Rattle.xhci_functions.specs.Crossed.{answered_of, crosses, crossed};
+
+pub use answer::Answered;
+use function_answer::Refusal;
+
+// The number of an answer, no code, and how many words or bytes were written. No `impl From`, since both types are other crates'.
+#[tactic(auto, unfolding(crate::specs::Crossed::answered_of, function_answer::specs::Answer::number, function_answer::specs::Answer::count_of))]
+fn as_answered(a: Result<usize, Refusal>) -> Answered
+    ensures { result ≡ answered_of a }
+{
+    match a {
+        Ok(count) => Answered {
+            answer: 0,
+            code: 0,
+            count,
+        },
+        Err(refusal) => Answered {
+            answer: refusal.number(),
+            code: 0,
+            count: 0,
+        },
+    }
+}
+
+#[tactic(auto, unfolding(crate::specs::Crossed::crossed))]
+pub fn xhci_device_read_descriptors(bytes: &[u8], words: &mut [u32]) -> Answered
+    ensures { crosses result words.new ≡ crossed (read_descriptors bytes.now words.old) }
+{
+    as_answered(descriptor_reader::read_descriptors(bytes, words))
+}
+
+#[tactic(auto, unfolding(crate::specs::Crossed::crossed))]
+pub fn xhci_device_write_descriptors(list: &[u32], bytes: &mut [u8]) -> Answered
+    ensures { crosses result bytes.new ≡ crossed (write_descriptors list.now bytes.old) }
+{
+    as_answered(descriptor_writer::write_descriptors(list, bytes))
+}
+
+#[tactic(auto, unfolding(crate::specs::Crossed::crossed))]
+pub fn xhci_device_settings_to_new(settings: &[u8], list: &[u32], bytes: &mut [u8]) -> Answered
+    ensures { crosses result bytes.new ≡ crossed (to_new settings.now list.now bytes.old) }
+{
+    as_answered(settings_form::to_new(settings, list, bytes))
+}
+
+#[tactic(auto, unfolding(crate::specs::Crossed::crossed))]
+pub fn xhci_device_settings_to_old(settings: &[u8], list: &[u32], bytes: &mut [u8]) -> Answered
+    ensures { crosses result bytes.new ≡ crossed (to_old settings.now list.now bytes.old) }
+{
+    as_answered(settings_form::to_old(settings, list, bytes))
+}

@@ -1,0 +1,47 @@
+// The static library of the functions outside a slot for C (host/include/xhci_device.h): each export calls the function of its name,
+// since no crate can use an archive.
+#![tactic(auto)]
+
+ghost use Rattle.std.specs.Prelude.{◌≡◌};
+ghost use Rattle.descriptor_raw.specs.Read.{read_descriptors};
+ghost use Rattle.descriptor_raw.specs.Write.{write_descriptors};
+ghost use Rattle.settings_form.specs.Convert.{to_new, to_old};
+ghost use Rattle.xhci_functions.specs.Crossed.{crosses, crossed};
+
+use xhci_functions::Answered;
+
+#[unsafe(no_mangle)]
+pub extern "C" fn xhci_device_read_descriptors(bytes: &[u8], words: &mut [u32]) -> Answered
+    ensures { crosses result words.new ≡ crossed (read_descriptors bytes.now words.old) }
+{
+    xhci_functions::xhci_device_read_descriptors(bytes, words)
+}
+
+#[unsafe(no_mangle)]
+pub extern "C" fn xhci_device_write_descriptors(list: &[u32], bytes: &mut [u8]) -> Answered
+    ensures { crosses result bytes.new ≡ crossed (write_descriptors list.now bytes.old) }
+{
+    xhci_functions::xhci_device_write_descriptors(list, bytes)
+}
+
+#[unsafe(no_mangle)]
+pub extern "C" fn xhci_device_settings_to_new(
+    settings: &[u8],
+    list: &[u32],
+    bytes: &mut [u8],
+) -> Answered
+    ensures { crosses result bytes.new ≡ crossed (to_new settings.now list.now bytes.old) }
+{
+    xhci_functions::xhci_device_settings_to_new(settings, list, bytes)
+}
+
+#[unsafe(no_mangle)]
+pub extern "C" fn xhci_device_settings_to_old(
+    settings: &[u8],
+    list: &[u32],
+    bytes: &mut [u8],
+) -> Answered
+    ensures { crosses result bytes.new ≡ crossed (to_old settings.now list.now bytes.old) }
+{
+    xhci_functions::xhci_device_settings_to_old(settings, list, bytes)
+}

@@ -1,0 +1,119 @@
+//! Functions outside a slot: raw descriptors at three lengths, what a byte costs, and settings of old boards.
+
+use scenario::{BYTES_ROOM, Conversion, Form, RawRead, RawWrite, Reply, WORDS_ROOM, start_clock, stop_clock};
+
+use crate::{TIMED, instructions};
+
+pub enum Question {
+    Read(RawRead),
+    Write(RawWrite),
+    Convert(Conversion),
+}
+
+/// The word of an alternate; 32 interfaces in turn.
+fn word(place: usize) -> u32 {
+    1 << 30 | (place as u32 % 32) << 22 | (place as u32 / 32 % 256) << 14
+}
+
+fn interface(place: usize) -> [u8; 9] {
+    [9, 4, (place % 32) as u8, (place / 32) as u8, 0, 0, 0, 0, 0]
+}
+
+const OTHER: [u8; 9] = [9, 33, 0, 0, 0, 0, 0, 0, 0];
+
+/// One configuration of so many descriptors of 9 bytes, itself included: one in `apart` is an interface, the rest are
+/// of another type.
+fn read(descriptors: usize, apart: usize) -> Question {
+    let [low, high] = (9 * descriptors as u16).to_le_bytes();
+    let interfaces = ((descriptors - 1) / apart).min(32) as u8;
+    let mut bytes = vec![9, 2, low, high, interfaces, 1, 0, 0x80, 0];
+    for place in 1..descriptors {
+        bytes.extend(if place % apart == 0 { interface(place / apart - 1) } else { OTHER });
+    }
+    Question::Read(RawRead { bytes, room: WORDS_ROOM })
+}
+
+fn write(words: usize) -> Question {
+    let list = [1 << 22].into_iter().chain((1..words).map(word)).collect();
+    Question::Write(RawWrite { list, room: BYTES_ROOM })
+}
+
+/// So many pairs, interfaces from 0 on, of a configuration with their alternates alone or, `last`, with these behind all
+/// others that a list has room for.
+fn convert(to: Form, pairs: usize, last: bool) -> Option<Question> {
+    let before = if last { 255 - pairs } else { 0 };
+    let held = (0..pairs as u32).map(|interface| 1 << 30 | interface << 22 | 255 << 14);
+    let list: Vec<u32> = [1 << 22].into_iter().chain((0..before).map(word)).chain(held).collect();
+    let settings = (0..pairs as u8).flat_map(|interface| [interface, 255]).collect();
+    let old = Conversion { list, settings, ..Conversion::to(Form::New) };
+    if to == Form::New {
+        return Some(Question::Convert(old));
+    }
+    let (reply, mut settings) = old.ask(&*runner::functions("model")?);
+    settings.truncate(reply.count);
+    Some(Question::Convert(Conversion { to, settings, ..old }))
+}
+
+/// By name. A list has at most 256 words, so that of two of the interfaces alone the last two are refused (4).
+pub fn inputs() -> Vec<(String, Question)> {
+    let lengths = [256, 512, 1024];
+    let of = |name: &str, count: usize, question| (format!("{name}-{}", 9 * count), question);
+    let interfaces = lengths.map(|count| of("read-interfaces", count, read(count, 1)));
+    let quarter = lengths.map(|count| of("read-a-quarter-interfaces", count, read(count, 4)));
+    let written = [64, 128, 256].map(|count| of("write", count, write(count)));
+    let converted = [("settings-to-new", Form::New), ("settings-to-old", Form::Old)].map(|(name, to)| {
+        let of = |pairs, last| {
+            let behind = if last { "-behind-the-list" } else { "" };
+            (format!("{name}-{pairs}{behind}"), convert(to, pairs, last).expect("the model"))
+        };
+        [of(0, false), of(32, false), of(32, true)]
+    });
+    interfaces.into_iter().chain(quarter).chain(written).chain(converted.into_iter().flatten()).collect()
+}
+
+/// Asks so many times. The reply, and nanoseconds for each.
+pub fn repeat(layer: &str, question: &Question, times: u32) -> Option<(Reply, f64)> {
+    let functions = runner::functions(layer)?;
+    let mut reply = Reply::default();
+    start_clock();
+    for _ in 0..times {
+        reply = match question {
+            Question::Read(read) => read.ask(&*functions).0,
+            Question::Write(write) => write.ask(&*functions).0,
+            Question::Convert(conversion) => conversion.ask(&*functions).0,
+        };
+    }
+    Some((reply, stop_clock().as_nanos() as f64 / f64::from(times.max(1))))
+}
+
+pub fn row(name: &str, question: &Question) -> Option<String> {
+    let (reply, time) = repeat("library", question, TIMED)?;
+    let (bytes, goes_by_bytes) = match question {
+        Question::Read(read) => (read.bytes.len(), true),
+        Question::Write(_) => (reply.count, true),
+        // Most of its cost is the list's.
+        Question::Convert(conversion) => (conversion.settings.len(), false),
+    };
+    let each = |cost: f64| if goes_by_bytes { format!("{:.2}", cost / bytes as f64) } else { String::new() };
+    let counts = instructions("library", name)
+        .map_or("no valgrind | |".to_string(), |count| format!("{count} | {} |", each(count as f64)));
+    Some(format!("| {name} | {bytes} | {} | {counts} {time:.0} | {} |", reply.number, each(time)))
+}
+
+#[cfg(test)]
+mod tests {
+    use super::*;
+
+    /// Two inputs have more words than a list; everything else is accepted.
+    #[test]
+    fn inputs_are_answered() {
+        for (name, question) in inputs() {
+            let too_long = ["read-interfaces-4608", "read-interfaces-9216"].contains(&name.as_str());
+            let expected = if too_long { 4 } else { 0 };
+            for layer in ["library", "model"] {
+                let (reply, _) = repeat(layer, &question, 1).expect("a layer");
+                assert_eq!(reply.number, expected, "{name}, {layer}");
+            }
+        }
+    }
+}
