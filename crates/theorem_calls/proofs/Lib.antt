@@ -6,7 +6,6 @@ pub mod Failed
 pub mod Framed
 pub mod Listed
 pub mod Logged
-pub mod Reaching
 pub mod Spelled
 pub mod Stays
 mod Steadily

@@ -3,7 +3,6 @@ use Rattle.std.specs.Prelude.{ℕ, zero, suc, ◌+◌, ◌<◌, ◌≡◌, cond,
 use Rattle.descriptor.specs.Word.{configuration_value}
 use Rattle.descriptor_list.specs.Valid.{configurations}
 use Rattle.answer.specs.declared.Answer.TheVariants as answer
-use Rattle.command.specs.Command.{log_word}
 use Rattle.record_endpoint.specs.declared.endpoint_map.EndpointMap.{EndpointMap}
 use Rattle.record_endpoint.specs.declared.endpoint_map.Owner.{Owner}
 use Rattle.record_endpoint.specs.declared.endpoint_map.Owner.TheVariants.{Any, Interface}
@@ -13,28 +12,7 @@ use Rattle.device.specs.declared.record.Device.{Device}
 use Rattle.device.specs.Device.{endpoint_map_in}
 use Rattle.theorem_slot.specs.Call.{Asked, brings_up, claims, commits, releases, configures, updates_hub, disconnects, Call, left}
 use Rattle.theorem_calls.specs.Commands.{AllDone}
-
--- The words of the commands, those without operands.
-abbrev pub ADDRESS : ℕ
-ADDRESS = 0x10000000
-
-abbrev pub EVALUATE : ℕ
-EVALUATE = 0x20000000
-
-abbrev pub CONFIGURE : ℕ
-CONFIGURE = 0x30000000
-
-abbrev pub READ-HEADER : ℕ
-READ-HEADER = 0x80000000
-
-abbrev pub READ-CONFIGURATION : ℕ
-READ-CONFIGURATION = 0x90000000
-
-abbrev pub READ-DEVICE : ℕ
-READ-DEVICE = 0xA0000000
-
-abbrev pub DISABLE : ℕ
-DISABLE = 0xC0000000
+use Rattle.theorem_calls.specs.Words.{address, evaluate, configure, stop, set_interface, set_value, read_header, read_configuration, read_device, read_config, disable}
 
 -- The Dcis of an owner's endpoints, by rising address: of k places from `place` on, and of all.
 unfoldable pub dcis_from : Owner → EndpointMap → ℕ → ℕ → List ℕ
@@ -48,28 +26,28 @@ dcis_of who d = dcis_from who (endpoint_map_in d) PLACES 0
 -- A Stop for each.
 unfoldable pub stops : List ℕ → List ℕ
 stops [] = []
-stops (dci ∷ dcis) = log_word 4 dci 0 ∷ stops dcis
+stops (dci ∷ dcis) = stop dci ∷ stops dcis
 
 -- A ReadConfig for each of k configurations from index i on.
 unfoldable pub reads_of : ℕ → ℕ → List ℕ
 reads_of zero i = []
-reads_of (suc k) i = log_word 11 i 0 ∷ reads_of k (i + 1)
+reads_of (suc k) i = read_config i ∷ reads_of k (i + 1)
 
 -- The whole log of an accepted call: no command more, none less, none in another place.
 unfoldable pub accepted_words : Asked → Device → List ℕ
 accepted_words (brings_up a) d =
-    ADDRESS ∷ READ-HEADER ∷ EVALUATE ∷ READ-CONFIGURATION ∷ READ-DEVICE
+    address ∷ read_header ∷ evaluate ∷ read_configuration ∷ read_device
     ∷ cond (eqb (length a.list) 0) []
-    (reads_of (configurations a.list) 0 ++ (CONFIGURE ∷ log_word 7 (configuration_value (get_or a.list 0 0)) 0 ∷ EVALUATE ∷ []))
+    (reads_of (configurations a.list) 0 ++ (configure ∷ set_value (configuration_value (get_or a.list 0 0)) ∷ evaluate ∷ []))
 accepted_words (claims interface alternate) d =
-    stops (dcis_of (Interface interface) d) ++ (CONFIGURE ∷ log_word 6 interface alternate ∷ [])
+    stops (dcis_of (Interface interface) d) ++ (configure ∷ set_interface interface alternate ∷ [])
 accepted_words (commits p) d =
-    stops (dcis_of (Interface p.interface) d) ++ (CONFIGURE ∷ log_word 6 p.interface p.alternate ∷ [])
-accepted_words (releases interface) d = stops (dcis_of (Interface interface) d) ++ (CONFIGURE ∷ [])
+    stops (dcis_of (Interface p.interface) d) ++ (configure ∷ set_interface p.interface p.alternate ∷ [])
+accepted_words (releases interface) d = stops (dcis_of (Interface interface) d) ++ (configure ∷ [])
 accepted_words (configures value) d =
-    stops (dcis_of Any d) ++ (CONFIGURE ∷ log_word 7 value 0 ∷ EVALUATE ∷ [])
-accepted_words (updates_hub ports multi ns) d = EVALUATE ∷ []
-accepted_words disconnects d = log_word 4 1 0 ∷ stops (dcis_of Any d) ++ (DISABLE ∷ [])
+    stops (dcis_of Any d) ++ (configure ∷ set_value value ∷ evaluate ∷ [])
+accepted_words (updates_hub ports multi ns) d = evaluate ∷ []
+accepted_words disconnects d = stop 1 ∷ stops (dcis_of Any d) ++ (disable ∷ [])
 
 abbrev pub AcceptedLog : Type 0
 AcceptedLog =

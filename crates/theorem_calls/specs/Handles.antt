@@ -15,13 +15,11 @@ use Rattle.device.specs.Device.{endpoint_map_in}
 use Rattle.device.specs.Left.{Left}
 use Rattle.theorem_slot.specs.Call.{Asked, brings_up, claims, commits, releases, configures, updates_hub, disconnects, Call, left, OfSlot}
 use Rattle.theorem_slot.specs.Answers.{is_refused}
+use Rattle.theorem_device_state.specs.DeviceState.{SET-INTERFACE}
 
--- Resume and SetInterface of the log words.
+-- Resume of the log words.
 abbrev pub RESUME : ℕ
 RESUME = 5
-
-abbrev pub SET-INTERFACE : ℕ
-SET-INTERFACE = 6
 
 -- What of a call's log the handles depend on: how many Resumes are done, whether it has a Configure, and a SetInterface.
 pub record Tally : Type 0 where

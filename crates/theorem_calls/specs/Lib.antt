@@ -3,5 +3,5 @@ pub mod Changes
 pub mod Commands
 pub mod Handles
 pub mod Possible
-pub mod Reached
 pub mod Undone
+pub mod Words

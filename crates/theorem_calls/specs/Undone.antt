@@ -1,7 +1,7 @@
 -- What a call logs after its first command that fails, whatever record and table it gets.
 use Rattle.std.specs.Prelude.{ℕ, ◌+◌, ◌<◌, ◌≡◌, true, false, cond, ◌&&◌, List, [], ◌∷◌, eqb, ltb, length, get_or, take, drop}
 use Rattle.descriptor_list.specs.Valid.{configurations}
-use Rattle.command.specs.Command.{log_word, outcome_at}
+use Rattle.command.specs.Command.{outcome_at}
 use Rattle.record_endpoint.specs.declared.endpoint_map.Owner.TheVariants.{Any, Interface}
 use Rattle.record_settings.specs.Held.{is_held, alternate_of}
 use Rattle.theorem_controller.specs.Controller.{is_done}
@@ -12,12 +12,13 @@ use Rattle.device.specs.Left.{Left}
 use Rattle.theorem_slot.specs.Answers.{is_refused}
 use Rattle.theorem_slot.specs.Call.{Asked, brings_up, claims, commits, releases, configures, updates_hub, disconnects, Call, left}
 use Rattle.theorem_calls.specs.Commands.{is_unplugging, AllDone}
-use Rattle.theorem_calls.specs.Accepted.{CONFIGURE, dcis_of, accepted_words}
+use Rattle.theorem_calls.specs.Accepted.{dcis_of, accepted_words}
+use Rattle.theorem_calls.specs.Words.{configure, resume, set_interface}
 
 -- Resumes of some endpoints, until one is not done; the first is command number n of its call.
 unfoldable pub resumes : List ℕ → ℕ → List ℕ → List ℕ
 resumes outcomes n [] = []
-resumes outcomes n (dci ∷ dcis) = log_word 5 dci 0 ∷ cond (is_done (outcome_at outcomes n)) (resumes outcomes (n + 1) dcis) []
+resumes outcomes n (dci ∷ dcis) = resume dci ∷ cond (is_done (outcome_at outcomes n)) (resumes outcomes (n + 1) dcis) []
 
 -- After command m, one of the Stops of some endpoints, those stopped before it are resumed; after a later one what `next` says.
 unfoldable pub after_stop : List ℕ → ℕ → List ℕ → List ℕ → List ℕ
@@ -30,14 +31,14 @@ after_configure outcomes m dcis next = cond (eqb m (length dcis)) (resumes outco
 -- A claim's failed SetInterface: a Configure, and if that is done, the interface's held alternate is set again, if it held one.
 unfoldable pub claim_undone : List ℕ → ℕ → ℕ → Device → List ℕ
 claim_undone outcomes m interface d =
-    CONFIGURE
+    configure
     ∷ cond (is_done (outcome_at outcomes (m + 1)) && is_held interface (held_of d))
-    (log_word 6 interface (alternate_of interface (held_of d)) ∷ []) []
+    (set_interface interface (alternate_of interface (held_of d)) ∷ []) []
 
 -- What follows the failed command m, all before it being done.
 unfoldable pub undo_words : Asked → Device → List ℕ → ℕ → List ℕ
 -- a failed SetConfiguration: a Configure
-undo_words (brings_up a) d outcomes m = cond (eqb m (configurations a.list + 6)) (CONFIGURE ∷ []) []
+undo_words (brings_up a) d outcomes m = cond (eqb m (configurations a.list + 6)) (configure ∷ []) []
 undo_words (claims interface alternate) d outcomes m =
     let dcis = dcis_of (Interface interface) d in
     after_stop outcomes m dcis (after_configure outcomes m dcis (claim_undone outcomes m interface d))
@@ -51,7 +52,7 @@ undo_words (configures value) d outcomes m =
     let dcis = dcis_of Any d in
     after_stop outcomes m dcis
     (after_configure outcomes m dcis
-    (cond (eqb m (length dcis + 1)) (CONFIGURE ∷ cond (is_done (outcome_at outcomes (m + 1))) (resumes outcomes (m + 2) dcis) []) []))
+    (cond (eqb m (length dcis + 1)) (configure ∷ cond (is_done (outcome_at outcomes (m + 1))) (resumes outcomes (m + 2) dcis) []) []))
 undo_words (updates_hub ports multi ns) d outcomes m = []
 -- an unplugging goes on
 undo_words disconnects d outcomes m = []

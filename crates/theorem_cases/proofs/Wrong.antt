@@ -1,4 +1,4 @@
--- Cases, lists, paths and orders of checks that somebody could believe: none of them holds (Cases.antt).
+-- Cases, lists, paths, orders of checks and answers that somebody could believe: none of them holds (Cases.antt).
 use Rattle.std.specs.Prelude.{ℕ, Bool, true, false, ◌||◌, List, [], ◌∷◌, eqb, Some}
 use Rattle.def.specs.Speed.{HIGH}
 use Rattle.answer.specs.declared.Answer.TheVariants as answer
@@ -9,16 +9,18 @@ use Rattle.device.specs.Disconnect.{disconnect}
 use Rattle.theorem_slot.specs.Call.{brings_up, claims, releases, configures, updates_hub, disconnects, left}
 use Rattle.theorem_slot.specs.Plain.{up, unplugged}
 use Rattle.theorem_device_state.specs.DeviceState.{unknown, known}
+use Rattle.theorem_calls.specs.Words.{configure, evaluate, stop, resume, set_interface, set_value, disable}
 use Rattle.theorem_cases.specs.Added.{interrupt81}
 use Rattle.theorem_cases.specs.Cases as cases-of
-use Rattle.theorem_cases.specs.Cases.{hubs, inner, added, logged, unplugs, answered, case_holds}
+use Rattle.theorem_cases.specs.Cases.{hubs, inner, added, logged, unplugs, answered, case_holds, same_words}
 use Rattle.theorem_cases.specs.InterfacePaths.{not_switched}
 use Rattle.theorem_cases.specs.DevicePaths.{all_dropped, ended}
 use Rattle.theorem_cases.specs.Example.{ctx, log, alone, second}
 use Rattle.theorem_cases.specs.Example as example
 use Rattle.theorem_cases.specs.Faults.{faults, told, try, crowded, faults_hold}
+use Rattle.theorem_cases.specs.Given.{numbers, releasings, configurings}
 use Rattle.theorem_cases.specs.Lists.{ListOfCalls, first_claim, hears, holding, route, alternates, while_up, none, device, listed_holds}
-use Rattle.theorem_cases.specs.Path.{path, path_holds, paths_of, none_missing, done, cut, fails, configure, evaluate, stop, resume, set_interface, set_value, disable, device_of, table_of}
+use Rattle.theorem_cases.specs.Path.{path, path_holds, paths_of, none_missing, done, cut, fails, device_of, table_of}
 use Rattle.theorem_cases.specs.Slot.{held, lost, with_value, first_alternates, telling}
 use Rattle.theorem_cases.specs.Slot as slot
 
@@ -144,4 +146,12 @@ wrong_orders =
     (faults 21 9 (told (claims 2 0) (try crowded 1056 96 64)) (told (claims 2 0) (try held 1056 96 64)))
     -- the alternate before the length of the log
     ∷ faults_hold (faults 8 3 (told (claims 9 0) (try held 1056 96 63)) (told (claims 0 0) (try held 1056 96 63)))
+    ∷ []
+
+abbrev pub wrong_answers : List Bool
+wrong_answers =
+    -- a release may break
+    same_words (numbers releasings) (0 ∷ 1 ∷ 2 ∷ 3 ∷ 8 ∷ 12 ∷ 13 ∷ 14 ∷ 15 ∷ 18 ∷ [])
+    -- a set configuration never fails with a code
+    ∷ same_words (numbers configurings) (0 ∷ 1 ∷ 2 ∷ 3 ∷ 12 ∷ 14 ∷ 15 ∷ 18 ∷ [])
     ∷ []

@@ -5,8 +5,9 @@ use Rattle.answer.specs.declared.Answer.TheVariants as answer
 use Rattle.record_endpoint.specs.declared.entry.Handle.TheVariants.{Active, Revoked}
 use Rattle.theorem_slot.specs.Call.{brings_up, configures, updates_hub, disconnects}
 use Rattle.theorem_device_state.specs.DeviceState.{Known, unknown, known}
+use Rattle.theorem_calls.specs.Words.{address, evaluate, configure, stop, resume, set_value, read_header, read_configuration, read_device, read_config, disable}
 use Rattle.theorem_cases.specs.Lists.{route}
-use Rattle.theorem_cases.specs.Path.{Sent, done, fails, cut, Standing, Path, path, Paths, paths_of, address, evaluate, configure, stop, resume, set_value, read_header, read_configuration, read_device, read_config, disable}
+use Rattle.theorem_cases.specs.Path.{Sent, done, fails, cut, Standing, Path, path, Paths, paths_of}
 use Rattle.theorem_cases.specs.Slot.{first_words, all_words, rings, bring_up_with, usual_bring_up, standing, idle_as, idle, held_as, held, kept, lost, bare, with_word, with_value, first_alternates, telling, told, unheard, gone}
 use Rattle.theorem_cases.specs.InterfacePaths.{one, second_fails, broken}
 

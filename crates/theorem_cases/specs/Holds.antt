@@ -3,6 +3,7 @@ use Rattle.std.specs.Prelude.{ℕ, Bool, ◌&&◌, ◌++◌}
 use Rattle.theorem_cases.specs.Cases.{cases, all_hold}
 use Rattle.theorem_cases.specs.DevicePaths.{device_paths, unplugging_table, other_device_paths}
 use Rattle.theorem_cases.specs.Faults.{all_faults, fault_table}
+use Rattle.theorem_cases.specs.Given.{all_given}
 use Rattle.theorem_cases.specs.InterfacePaths.{interface_beginnings, interface_paths, interface_mismatches}
 use Rattle.theorem_cases.specs.Lists.{lists, all_listed}
 use Rattle.theorem_cases.specs.Path.{STOP, all_paths, none_missing}
@@ -15,4 +16,4 @@ paths_hold =
 
 -- The ring of the added endpoint is any.
 abbrev pub holds : (ring : ℕ) → Bool
-holds ring = all_hold (cases ring) && (all_listed lists && (paths_hold && all_faults fault_table))
+holds ring = all_hold (cases ring) && (all_listed lists && (paths_hold && (all_faults fault_table && all_given)))

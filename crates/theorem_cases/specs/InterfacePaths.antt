@@ -5,8 +5,9 @@ use Rattle.record_endpoint.specs.declared.entry.Handle.TheVariants.{Active, Revo
 use Rattle.device.specs.Ask.{asking}
 use Rattle.theorem_slot.specs.Call.{claims, commits, releases}
 use Rattle.theorem_device_state.specs.DeviceState.{unknown, known}
+use Rattle.theorem_calls.specs.Words.{configure, stop, resume, set_interface}
 use Rattle.theorem_cases.specs.Lists.{holding, route}
-use Rattle.theorem_cases.specs.Path.{Sent, done, fails, cut, owned, Standing, Path, path, Paths, paths_of, configure, stop, resume, set_interface}
+use Rattle.theorem_cases.specs.Path.{Sent, done, fails, cut, owned, Standing, Path, path, Paths, paths_of}
 use Rattle.theorem_cases.specs.Slot.{standing, idle_as, idle, held_as, held, kept, lost, bare_as, bare, with_word, told}
 
 -- Interface 0 is claimed at alternate 0 while it holds alternate 1: 80 is drawn for 0x83, 96 for 0x02.

@@ -3,6 +3,7 @@ pub mod Cases
 pub mod DevicePaths
 pub mod Example
 pub mod Faults
+pub mod Given
 pub mod Holds
 pub mod InterfacePaths
 pub mod Lists

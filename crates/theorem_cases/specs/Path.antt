@@ -1,5 +1,5 @@
 -- A call on a slot that is written out whole, command by command, and all that it leaves but the context; and what it tells the USB device.
-use Rattle.std.specs.Prelude.{ℕ, zero, suc, ◌+◌, ◌-◌, ◌*◌, ◌/◌, ◌^◌, Bool, true, false, cond, ◌&&◌, List, [], ◌∷◌, ◌++◌, eqb, length, drop, replicate}
+use Rattle.std.specs.Prelude.{ℕ, zero, suc, ◌+◌, ◌-◌, ◌/◌, ◌^◌, Bool, true, false, cond, ◌&&◌, List, [], ◌∷◌, ◌++◌, eqb, length, drop, replicate}
 use Rattle.answer.specs.declared.Answer.{Answer}
 use Rattle.answer.specs.Answer.{number}
 use Rattle.transfer.specs.Routes.{Queue}
@@ -15,48 +15,9 @@ use Rattle.theorem_cases.specs.Example.{ctx}
 use Rattle.theorem_cases.specs.Cases.{same_words}
 use Rattle.theorem_cases.specs.Lists.{Holding, same_answer, same_flag, same_told, ring_in, rising}
 
--- 01's log words: operation 4 bits, first 8, second 8.
+-- Stop of the log words.
 abbrev pub STOP : ℕ
 STOP = 4
-
-abbrev pub log_word : (operation first second : ℕ) → ℕ
-log_word operation first second = operation * 2 ^ 28 + first * 2 ^ 20 + second * 2 ^ 12
-
-abbrev pub address : ℕ
-address = log_word 1 0 0
-
-abbrev pub evaluate : ℕ
-evaluate = log_word 2 0 0
-
-abbrev pub configure : ℕ
-configure = log_word 3 0 0
-
-abbrev pub stop : (dci : ℕ) → ℕ
-stop dci = log_word STOP dci 0
-
-abbrev pub resume : (dci : ℕ) → ℕ
-resume dci = log_word 5 dci 0
-
-abbrev pub set_interface : (interface alternate : ℕ) → ℕ
-set_interface interface alternate = log_word 6 interface alternate
-
-abbrev pub set_value : (value : ℕ) → ℕ
-set_value value = log_word 7 value 0
-
-abbrev pub read_header : ℕ
-read_header = log_word 8 0 0
-
-abbrev pub read_configuration : ℕ
-read_configuration = log_word 9 0 0
-
-abbrev pub read_device : ℕ
-read_device = log_word 10 0 0
-
-abbrev pub read_config : (index : ℕ) → ℕ
-read_config index = log_word 11 index 0
-
-abbrev pub disable : ℕ
-disable = log_word 12 0 0
 
 -- A command that was sent: its word, and the outcomes from its own on: one byte, or none where the call is cut there.
 pub record Sent : Type 0 where
