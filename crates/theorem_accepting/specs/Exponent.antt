@@ -9,21 +9,7 @@ use Rattle.theorem_checks.specs.Checks.{AllHold, bring_up_conditions}
 
 -- The same bring-up of a device whose header has another number of bytes.
 unfoldable pub with_header : ℕ → BringUp → BringUp
-with_header header a =
-    record {
-      slot = a.slot;
-      max_slots = a.max_slots;
-      speed = a.speed;
-      hubs = a.hubs;
-      parent = a.parent;
-      port = a.port;
-      root_port = a.root_port;
-      rings = a.rings;
-      header = header;
-      packet = a.packet;
-      value = a.value;
-      list = a.list;
-    }
+with_header header a = record a { header = header }
 
 -- Record, count, context, routes and log are the same; so is the answer, but for 19 in 16's place.
 pub record LeavesAs (l short : Left) : Type 0 where

@@ -11,7 +11,7 @@ use Rattle.device.specs.Ask.{asking, ask}
 use Rattle.record_endpoint.specs.declared.entry.Handle.TheVariants.{Active}
 use Rattle.theorem_slot.specs.Call.{Asked, brings_up, claims, commits, releases, configures, updates_hub, disconnects, left}
 use Rattle.theorem_cases.specs.Path.{Standing, device_of, table_of}
-use Rattle.theorem_cases.specs.Slot.{all_words, held, lost, gone, first_alternates}
+use Rattle.theorem_cases.specs.Slot.{held, lost, gone, first_alternates}
 
 -- A call where a slot stands, lent a context, a table and a log of some lengths.
 pub record Try : Type 0 where
@@ -72,23 +72,7 @@ empty = gone first_alternates []
 
 -- All given rings are in use: none can be drawn.
 abbrev pub crowded : Standing
-crowded =
-    record {
-      usable = true;
-      up = true;
-      speed = HIGH;
-      configured = true;
-      value = 1;
-      list = all_words;
-      control = Active;
-      endpoints = held.endpoints;
-      held = held.held;
-      quarantined = [];
-      given = 64 ∷ 48 ∷ 32 ∷ 16 ∷ [];
-      routes = held.routes;
-      device_value = held.device_value;
-      device_alternates = held.device_alternates;
-    }
+crowded = record held { given = 64 ∷ 48 ∷ 32 ∷ 16 ∷ [] }
 
 -- Interface 2, alternate 0 lists 0x81, which interface 0 has. With the other fault mended it is alternate 1, which lists 0x85.
 abbrev pub claim_faults : List Faults

@@ -1,5 +1,5 @@
 -- Every path of a claim, of a commit and of a release; 01, "Course of each call".
-use Rattle.std.specs.Prelude.{true, false, List, [], ◌∷◌}
+use Rattle.std.specs.Prelude.{true, false, List, [], ◌∷◌, ◌++◌}
 use Rattle.answer.specs.declared.Answer.TheVariants as answer
 use Rattle.record_endpoint.specs.declared.entry.Handle.TheVariants.{Active, Revoked}
 use Rattle.device.specs.Ask.{asking}
@@ -36,8 +36,9 @@ configured rest = stopped (done configure ∷ rest)
 abbrev pub not_switched : List Sent → List Sent
 not_switched rest = configured (fails 7 (set_interface 0 0) ∷ rest)
 
-abbrev pub claim_paths : List Path
-claim_paths =
+-- Not all Stops are done: of a claim and of a release the same.
+abbrev pub unstopped_paths : List Path
+unstopped_paths =
     -- a Stop
     path (cut (stop 4) ∷ []) answer.Cut (lost Revoked Revoked Active)
     ∷ path (fails 7 (stop 4) ∷ []) (answer.Failed 7) (kept Active Active Active)
@@ -46,8 +47,13 @@ claim_paths =
     ∷ path (second_fails (done (resume 4) ∷ [])) (answer.Failed 7) (kept Active Active Active)
     ∷ path (second_fails (fails 5 (resume 4) ∷ [])) (answer.Failed 5) (kept Active Active Active)
     ∷ path (second_fails (cut (resume 4) ∷ [])) answer.Cut (lost Revoked Revoked Active)
+    ∷ []
+
+abbrev pub claim_paths : List Path
+claim_paths =
+    unstopped_paths
     -- Configure fails: both are resumed, and only those are active; a failed Resume's code is the answer
-    ∷ path (stopped (cut configure ∷ [])) answer.Cut (lost Revoked Revoked Active)
+    ++ (path (stopped (cut configure ∷ [])) answer.Cut (lost Revoked Revoked Active)
     ∷ path (stopped (fails 7 configure ∷ done (resume 4) ∷ done (resume 3) ∷ [])) (answer.Failed 7) (kept Active Active Active)
     ∷ path (stopped (fails 7 configure ∷ fails 5 (resume 4) ∷ [])) (answer.Failed 5) (kept Revoked Revoked Active)
     ∷ path (stopped (fails 7 configure ∷ cut (resume 4) ∷ [])) answer.Cut (lost Revoked Revoked Active)
@@ -62,7 +68,7 @@ claim_paths =
     ∷ path (not_switched (done configure ∷ done (set_interface 0 1) ∷ [])) (answer.Failed 7) (kept Active Active Active)
     -- all done
     ∷ path (configured (done (set_interface 0 0) ∷ [])) answer.Accepted switched
-    ∷ []
+    ∷ [])
 
 -- All commands are done: what comes of it goes by the table.
 abbrev pub all_done : List Sent
@@ -131,16 +137,9 @@ released =
 
 abbrev pub release_paths : List Path
 release_paths =
-    -- a Stop
-    path (cut (stop 4) ∷ []) answer.Cut (lost Revoked Revoked Active)
-    ∷ path (fails 7 (stop 4) ∷ []) (answer.Failed 7) (kept Active Active Active)
-    ∷ path (done (stop 4) ∷ cut (stop 3) ∷ []) answer.Cut (lost Revoked Revoked Active)
-    -- Stop 3 fails, as in a claim
-    ∷ path (second_fails (done (resume 4) ∷ [])) (answer.Failed 7) (kept Active Active Active)
-    ∷ path (second_fails (fails 5 (resume 4) ∷ [])) (answer.Failed 5) (kept Active Active Active)
-    ∷ path (second_fails (cut (resume 4) ∷ [])) answer.Cut (lost Revoked Revoked Active)
+    unstopped_paths
     -- Configure fails: both are resumed; its own code is the answer, whether they are or not
-    ∷ path (stopped (cut configure ∷ [])) answer.Cut (lost Revoked Revoked Active)
+    ++ (path (stopped (cut configure ∷ [])) answer.Cut (lost Revoked Revoked Active)
     ∷ path (stopped (fails 7 configure ∷ done (resume 4) ∷ done (resume 3) ∷ [])) (answer.Failed 7) (kept Active Active Active)
     ∷ path (stopped (fails 7 configure ∷ fails 5 (resume 4) ∷ [])) (answer.Failed 7) (kept Revoked Revoked Active)
     ∷ path (stopped (fails 7 configure ∷ cut (resume 4) ∷ [])) answer.Cut (lost Revoked Revoked Active)
@@ -148,7 +147,7 @@ release_paths =
     ∷ path (stopped (fails 7 configure ∷ done (resume 4) ∷ cut (resume 3) ∷ [])) answer.Cut (lost Active Revoked Active)
     -- all done
     ∷ path (configured []) answer.Accepted released
-    ∷ []
+    ∷ [])
 
 -- Of an interface that holds nothing, but has an alternate 0: one Configure, and the record is as it was.
 abbrev pub idle_release_paths : List Path

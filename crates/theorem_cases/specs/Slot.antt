@@ -115,61 +115,13 @@ bare = bare_as true []
 
 -- Where a slot stands, but for the word of a Dci; for the value of record and device; for what the device was told.
 abbrev pub with_word : (dci ring : ℕ) → Standing → Standing
-with_word dci ring s =
-    record {
-      usable = s.usable;
-      up = s.up;
-      speed = s.speed;
-      configured = s.configured;
-      value = s.value;
-      list = s.list;
-      control = s.control;
-      endpoints = s.endpoints;
-      held = s.held;
-      quarantined = s.quarantined;
-      given = s.given;
-      routes = route dci ring ∷ s.routes;
-      device_value = s.device_value;
-      device_alternates = s.device_alternates;
-    }
+with_word dci ring s = record s { routes = route dci ring ∷ s.routes }
 
 abbrev pub with_value : (value : ℕ) → Standing → Standing
-with_value value s =
-    record {
-      usable = s.usable;
-      up = s.up;
-      speed = s.speed;
-      configured = s.configured;
-      value = value;
-      list = s.list;
-      control = s.control;
-      endpoints = s.endpoints;
-      held = s.held;
-      quarantined = s.quarantined;
-      given = s.given;
-      routes = s.routes;
-      device_value = known value;
-      device_alternates = s.device_alternates;
-    }
+with_value value s = record s { value = value; device_value = known value }
 
 abbrev pub telling : (value : Known) → (alternates : List Known) → Standing → Standing
-telling value alternates s =
-    record {
-      usable = s.usable;
-      up = s.up;
-      speed = s.speed;
-      configured = s.configured;
-      value = s.value;
-      list = s.list;
-      control = s.control;
-      endpoints = s.endpoints;
-      held = s.held;
-      quarantined = s.quarantined;
-      given = s.given;
-      routes = s.routes;
-      device_value = value;
-      device_alternates = alternates;
-    }
+telling value alternates s = record s { device_value = value; device_alternates = alternates }
 
 -- Of one interface, 0, 1 or 2, the device's alternate is another.
 abbrev pub with_alternate : (interface : ℕ) → Known → List Known → List Known
