@@ -1,4 +1,5 @@
-/* Random calls, driven by xhci_device_driver.c, leave what the library leaves when it is given everything at once. */
+/* Random calls, driven by xhci_device_driver.c, leave what the library leaves when it is given everything at once, and
+ * have the same reason. */
 #include <inttypes.h>
 #include <stdio.h>
 #include <stdlib.h>
@@ -279,6 +280,20 @@ static void drive(struct xhci_device_pending *call, struct world *w, struct worl
     }
 }
 
+/* Whether a claim or a commit that was driven to its end has the reason of the one-shot call. */
+static bool same_reason(const struct xhci_device_pending *call, const struct world *whole, const struct script *s,
+                        const struct xhci_device_answered *left, const uint32_t *log) {
+    struct xhci_device_reason reason;
+    if ((s->kind != 1 && s->kind != 6) || left->answer == XHCI_DEVICE_CUT) {
+        return true;
+    }
+    reason = xhci_device_why(whole->image, XHCI_DEVICE_RECORD_WORDS, s->kind == 1 ? s->byte1 : s->asked.interface,
+        s->kind == 1 ? s->byte2 : s->asked.alternate, left->answer, log, left->count, s->outcomes, s->outcomes_len);
+    return reason.kind == call->reason.kind && reason.interface == call->reason.interface
+        && reason.alternate == call->reason.alternate && reason.word == call->reason.word
+        && reason.number == call->reason.number && reason.place == call->reason.place;
+}
+
 static bool same(const struct world *a, const struct world *b) {
     return memcmp(a->image, b->image, sizeof a->image) == 0 && memcmp(a->ctx, b->ctx, sizeof a->ctx) == 0
         && memcmp(a->routes, b->routes, sizeof a->routes) == 0;
@@ -316,7 +331,8 @@ int main(void) {
         left = one_shot(&whole, &s, log);
         drive(&call, &now, &whole, &s);
         if (call.answered.answer != left.answer || call.answered.code != left.code || call.answered.count != left.count
-            || memcmp(call.log, log, left.count * sizeof log[0]) != 0 || !same(&now, &whole)) {
+            || memcmp(call.log, log, left.count * sizeof log[0]) != 0 || !same(&now, &whole)
+            || !same_reason(&call, &whole, &s, &left, log)) {
             printf("call %zu, kind %d: answer %" PRIu32 ", one-shot %" PRIu32 "\n", i, s.kind, call.answered.answer,
                 left.answer);
             return EXIT_FAILURE;

@@ -136,6 +136,27 @@ static void play(struct xhci_device_pending *call, uint64_t *routes, size_t rout
     call->answered = played(call, routes, routes_len);
 }
 
+/* Why the call got its answer. */
+static struct xhci_device_reason reason_of(const struct xhci_device_pending *call) {
+    struct xhci_device_reason reason = {0, 0, 0, 0, 0, 0};
+    bool commits = call->call == COMMIT;
+    if (commits || call->call == CLAIM) {
+        return xhci_device_why(call->image, XHCI_DEVICE_RECORD_WORDS, commits ? call->asked.interface : call->byte1,
+            commits ? call->asked.alternate : call->byte2, call->answered.answer, call->log, call->answered.count,
+            call->outcomes, call->told);
+    }
+    if (call->answered.answer != XHCI_DEVICE_ACCEPTED) {
+        reason.kind = XHCI_DEVICE_REASON_NUMBER;
+        reason.number = call->answered.answer;
+    }
+    return reason;
+}
+
+static void end(struct xhci_device_pending *call) {
+    call->state = ENDED;
+    call->reason = reason_of(call);
+}
+
 /* Goes on to the next command or to the end. */
 static void step(struct xhci_device_pending *call, uint64_t *routes, size_t routes_len) {
     play(call, routes, routes_len);
@@ -147,10 +168,11 @@ static void step(struct xhci_device_pending *call, uint64_t *routes, size_t rout
         call->outcomes[call->told - 1] = XHCI_DEVICE_UNREADABLE;
         play(call, routes, routes_len);
     }
-    call->state = ENDED;
     if (call->answered.answer == XHCI_DEVICE_CUT && call->answered.count > call->told) {
         call->state = WAITS;
         call->command = xhci_device_command_of(call->log[call->told]);
+    } else {
+        end(call);
     }
 }
 
@@ -165,8 +187,8 @@ bool xhci_device_next(struct xhci_device_pending *call, uint64_t *routes, size_t
     } else if (call->state == TOLD && routes_len == call->routes_len) {
         step(call, routes, routes_len);
     } else if (call->state == TOLD) {
-        call->state = ENDED;
         call->answered.answer = XHCI_DEVICE_ROUTES_LENGTH;
+        end(call);
     }
     return call->state == WAITS;
 }

@@ -157,6 +157,29 @@ struct xhci_device_asked xhci_device_ask(const uint64_t *image, size_t image_len
     return asked;
 }
 
+struct xhci_device_reason xhci_device_why(const uint64_t *image, size_t image_len, uint8_t interface, uint8_t alternate,
+    uint32_t answer, const uint32_t *log, size_t log_len, const uint8_t *outcomes, size_t outcomes_len) {
+    struct request r = {WHY, {image_len}, {interface, alternate, answer}};
+    void *buffers[BUFFERS] = {(void *)image};
+    struct xhci_device_reason reason;
+    r.count[LOG] = log_len;
+    r.count[OUTCOMES] = outcomes_len;
+    buffers[LOG] = (void *)log;
+    buffers[OUTCOMES] = (void *)outcomes;
+    remote(&r, buffers);
+    get(&reason, sizeof reason);
+    return reason;
+}
+
+struct xhci_device_placed xhci_device_block(size_t input_len, size_t output_len, uint8_t from_output, uint8_t dci) {
+    struct request r = {BLOCK, {0}, {input_len, output_len, from_output, dci}};
+    void *buffers[BUFFERS] = {0};
+    struct xhci_device_placed placed;
+    remote(&r, buffers);
+    get(&placed, sizeof placed);
+    return placed;
+}
+
 struct xhci_device_answered xhci_device_release(LENT, uint8_t interface) {
     CALL(RELEASE);
     r.number[0] = interface;

@@ -1,6 +1,6 @@
 /* How client.c, on this machine, has server.c, on another, make the calls of xhci_device.h. A request is this struct and
  * then the elements of its buffers; a reply is its struct and then, after a function that writes, the first four buffers
- * as they were left, and after an ask what it returned, and the rings. Both machines have 64 bits and the lowest byte first. */
+ * as they were left, after an ask what it returned, and the rings, and after a why or a block what it returned. Both machines have 64 bits and the lowest byte first. */
 #ifndef REMOTE_H
 #define REMOTE_H
 
@@ -9,7 +9,7 @@
 /* Those up to SETTINGS_TO_OLD write. */
 enum function {
     BRING_UP, CLAIM, COMMIT, RELEASE, SET_CONFIGURATION, HUB_UPDATE, DISCONNECT, READ_DESCRIPTORS, WRITE_DESCRIPTORS,
-    SETTINGS_TO_NEW, SETTINGS_TO_OLD, ASK, IS_USABLE, IS_UP, IS_SOUND, RECORD_WORDS, COMMAND_OF
+    SETTINGS_TO_NEW, SETTINGS_TO_OLD, ASK, WHY, BLOCK, IS_USABLE, IS_UP, IS_SOUND, RECORD_WORDS, COMMAND_OF
 };
 
 /* The buffers of a request, of which the first WRITTEN are written. Raw descriptors are read from the outcomes into the log,

@@ -84,11 +84,24 @@ static uint64_t command(struct xhci_device_command c) {
 }
 
 _Static_assert(sizeof(struct xhci_device_asked) == 24, "the size that host/cross/build names");
+_Static_assert(sizeof(struct xhci_device_reason) == 24, "the size that host/cross/build names");
+_Static_assert(sizeof(struct xhci_device_placed) == 24, "the size that host/cross/build names");
 
 static struct xhci_device_asked show(const struct request *r, void *b[BUFFERS]) {
     const uint64_t *n = r->number;
     return xhci_device_ask(b[IMAGE], (size_t)r->count[IMAGE], (size_t)n[0], (size_t)n[1], (size_t)n[2], (uint8_t)n[3],
         (uint8_t)n[4], b[RINGS], (size_t)r->count[RINGS]);
+}
+
+static struct xhci_device_reason why(const struct request *r, void *b[BUFFERS]) {
+    const uint64_t *c = r->count, *n = r->number;
+    return xhci_device_why(b[IMAGE], (size_t)c[IMAGE], (uint8_t)n[0], (uint8_t)n[1], (uint32_t)n[2], b[LOG],
+        (size_t)c[LOG], b[OUTCOMES], (size_t)c[OUTCOMES]);
+}
+
+static struct xhci_device_placed block(const struct request *r) {
+    const uint64_t *n = r->number;
+    return xhci_device_block((size_t)n[0], (size_t)n[1], (uint8_t)n[2], (uint8_t)n[3]);
 }
 
 static uint64_t ask(const struct request *r, void *b[BUFFERS]) {
@@ -112,6 +125,8 @@ int main(void) {
         void *buffers[BUFFERS];
         struct reply reply = {0, 0, 0, 0};
         struct xhci_device_asked asked;
+        struct xhci_device_reason reason;
+        struct xhci_device_placed placed;
         bool writes = r.function <= SETTINGS_TO_OLD;
         get_buffers(&r, buffers);
         if (writes) {
@@ -119,6 +134,10 @@ int main(void) {
             reply = (struct reply){answered.answer, answered.code, answered.count, 0};
         } else if (r.function == ASK) {
             asked = show(&r, buffers);
+        } else if (r.function == WHY) {
+            reason = why(&r, buffers);
+        } else if (r.function == BLOCK) {
+            placed = block(&r);
         } else {
             reply.value = ask(&r, buffers);
         }
@@ -126,6 +145,10 @@ int main(void) {
         if (r.function == ASK) {
             put(&asked, sizeof asked);
             put(buffers[RINGS], (size_t)r.count[RINGS] * size_of[RINGS]);
+        } else if (r.function == WHY) {
+            put(&reason, sizeof reason);
+        } else if (r.function == BLOCK) {
+            put(&placed, sizeof placed);
         }
         for (int i = 0; i < BUFFERS; i++) {
             if (writes && i < WRITTEN) {

@@ -31,17 +31,17 @@ static void print_command(struct xhci_device_command command) {
     switch (command.operation) {
     case XHCI_DEVICE_OP_STOP:
     case XHCI_DEVICE_OP_RESUME:
-        printf("  %s Dci %u", name, command.first);
+        printf("%s Dci %u", name, command.first);
         break;
     case XHCI_DEVICE_OP_SET_INTERFACE:
-        printf("  %s %u, alternate %u", name, command.first, command.second);
+        printf("%s %u, alternate %u", name, command.first, command.second);
         break;
     case XHCI_DEVICE_OP_SET_CONFIGURATION:
     case XHCI_DEVICE_OP_READ_CONFIG:
-        printf("  %s %u", name, command.first);
+        printf("%s %u", name, command.first);
         break;
     default:
-        printf("  %s", name);
+        printf("%s", name);
     }
 }
 
@@ -51,6 +51,7 @@ static void bus_send(struct xhci_device_pending *call, const uint64_t *all_route
     uint8_t dci;
     uint32_t failing = *(const uint32_t *)bus;
     (void)all_routes;
+    printf("  ");
     print_command(call->command);
     for (dci = 1; dci < 32; dci++) {
         if (xhci_device_dropped(call) >> dci & 1) {
@@ -87,6 +88,17 @@ static void bus_send(struct xhci_device_pending *call, const uint64_t *all_route
     }
 }
 
+/* Why a claim or a commit was not accepted, where its answer does not say it all. */
+static void print_reason(const struct xhci_device_reason *reason) {
+    if (reason->kind == XHCI_DEVICE_REASON_COMMAND) {
+        printf("  the command at place %zu of the log failed first: ", reason->place);
+        print_command(xhci_device_command_of(reason->word));
+        printf("\n");
+    } else {
+        printf("  %s\n", xhci_device_reason_name(reason->kind));
+    }
+}
+
 static void run(const char *what, struct xhci_device_pending *call, uint32_t failing) {
     struct xhci_device_answered answered;
     uint8_t dci;
@@ -98,6 +110,9 @@ static void run(const char *what, struct xhci_device_pending *call, uint32_t fai
         printf(", with code %" PRIu32, answered.code);
     }
     printf("\n");
+    if (call->reason.kind != XHCI_DEVICE_REASON_NOTHING && call->reason.kind != XHCI_DEVICE_REASON_NUMBER) {
+        print_reason(&call->reason);
+    }
     for (i = 0; i < image[XHCI_DEVICE_HELD_COUNT]; i++) {
         printf("  interface %" PRIu64 " holds alternate %" PRIu64 "\n", image[XHCI_DEVICE_INTERFACES + i],
             image[XHCI_DEVICE_ALTERNATES + i]);

@@ -1,5 +1,6 @@
-/* The functions of Nuszkadorj: the calls, as libxhci_device.a has them, and those outside a slot, raw descriptors and
- * settings of old boards, as libxhci_functions.a has them (host/archives makes both). Both may be linked.
+/* The functions of Nuszkadorj: the calls, as libxhci_device.a has them, and those outside a slot, raw descriptors,
+ * settings of old boards and an endpoint's block, as libxhci_functions.a has them (host/archives makes both). Both may be
+ * linked.
  *
  * A slice is a pointer and a count of elements. The slices of one call must not overlap, and a pointer
  * may not be null, even with a count of 0. Nothing is kept after a call returns.
@@ -24,6 +25,8 @@ extern "C" {
 /* Sizes. */
 #define XHCI_DEVICE_CONTEXT_BYTES_32 1056       /* of an input context of 33 blocks of 32 bytes, */
 #define XHCI_DEVICE_CONTEXT_BYTES_64 2112       /* and of 64 */
+#define XHCI_DEVICE_OUTPUT_BYTES_32 1024        /* of an output context, which has no control block: 32 blocks of 32 bytes, */
+#define XHCI_DEVICE_OUTPUT_BYTES_64 2048        /* and of 64 */
 #define XHCI_DEVICE_LOG_WORDS 64                /* at least; no call sends more commands */
 #define XHCI_DEVICE_LIST_WORDS 256              /* at most, of descriptor words */
 #define XHCI_DEVICE_HUB_WORDS 256               /* at most */
@@ -66,10 +69,10 @@ struct xhci_device_command xhci_device_command_of(uint32_t word);
 /* Answers. */
 enum {
     XHCI_DEVICE_ACCEPTED = 0,
-    XHCI_DEVICE_CONTEXT_LENGTH = 1,     /* the context is not 33 blocks of the record's spacing */
+    XHCI_DEVICE_CONTEXT_LENGTH = 1,     /* the context is not 33 blocks of the record's spacing; of a block: see there */
     XHCI_DEVICE_ROUTES_LENGTH = 2,      /* the routes are not 32 * (N + 1) words */
     XHCI_DEVICE_LOG_TOO_SHORT = 3,      /* the log has less than LOG_ROOM words; outside a slot: too little is lent */
-    XHCI_DEVICE_DESCRIPTOR_LIST = 4,
+    XHCI_DEVICE_DESCRIPTOR_LIST = 4,    /* of a block: the Dci is not 1 to 31 */
     XHCI_DEVICE_HUB_CHAIN = 5,
     XHCI_DEVICE_SPEED = 6,
     XHCI_DEVICE_THINK_TIME = 7,
@@ -234,6 +237,50 @@ struct xhci_device_answered xhci_device_commit(
     uint32_t *log, size_t log_len, const uint8_t *outcomes, size_t outcomes_len,
     uint8_t interface, uint8_t alternate, uint32_t drops, uint32_t adds, const uint64_t *rings, size_t rings_len);
 
+/* Why a claim or a commit got its answer: the first condition that was not met, or the first command that failed. */
+enum {
+    XHCI_DEVICE_REASON_NOTHING = 0,     /* it is accepted */
+    XHCI_DEVICE_REASON_ALTERNATE = 1,   /* 8: the list has no such alternate: `interface`, `alternate` */
+    XHCI_DEVICE_REASON_ENDPOINT = 2,    /* 9: the first endpoint word whose address another interface owns: `word`, and the
+                                           owner in `interface` */
+    XHCI_DEVICE_REASON_RINGS = 3,       /* 21: fewer free rings than endpoint words */
+    XHCI_DEVICE_REASON_COMMAND = 4,     /* 13 or 14: the first failed command: `place`, and `word`, which
+                                           xhci_device_command_of reads */
+    XHCI_DEVICE_REASON_NUMBER = 5       /* the answer, `number`, says it all: another refusal, a cut, or a 14 without a
+                                           failed command, which the routes gave */
+};
+
+/* What a kind has not is 0. */
+struct xhci_device_reason {
+    uint32_t kind;      /* XHCI_DEVICE_REASON_... */
+    uint8_t interface;  /* asked for, or the owner */
+    uint8_t alternate;
+    uint32_t word;      /* of the list, or of the log */
+    uint32_t number;    /* the answer */
+    size_t place;       /* in the log, from 0: its code is the outcome there; the code of the answer may be that of a later
+                           command, such as a Resume */
+};
+
+/* The kind in words. */
+static inline const char *xhci_device_reason_name(uint32_t kind) {
+    switch (kind) {
+    case XHCI_DEVICE_REASON_NOTHING: return "nothing stood in the way";
+    case XHCI_DEVICE_REASON_ALTERNATE: return "the list has no such alternate";
+    case XHCI_DEVICE_REASON_ENDPOINT: return "an endpoint's address is owned by another interface";
+    case XHCI_DEVICE_REASON_RINGS: return "there are fewer free rings than endpoint words";
+    case XHCI_DEVICE_REASON_COMMAND: return "a command failed";
+    case XHCI_DEVICE_REASON_NUMBER: return "the answer says it all";
+    default: return "a reason without a name";
+    }
+}
+
+/* Why a claim of an interface's alternate setting got its answer; of a commit, of what its ask named. From what the call
+ * left: the image, `answer`, and of the log the words that were logged, `count` of them and no more; and from the outcomes
+ * that it was given. Nothing is changed. */
+struct xhci_device_reason xhci_device_why(
+    const uint64_t *image, size_t image_len, uint8_t interface, uint8_t alternate, uint32_t answer,
+    const uint32_t *log, size_t log_len, const uint8_t *outcomes, size_t outcomes_len);
+
 /* The release of an interface. */
 struct xhci_device_answered xhci_device_release(
     uint64_t *image, size_t image_len, uint8_t *ctx, size_t ctx_len, uint64_t *routes, size_t routes_len,
@@ -284,6 +331,18 @@ struct xhci_device_answered xhci_device_settings_to_new(
  * settings name; if that is not the list's first, 24. */
 struct xhci_device_answered xhci_device_settings_to_old(
     const uint8_t *settings, size_t settings_len, const uint32_t *list, size_t list_len, uint8_t *bytes, size_t bytes_len);
+
+/* Where an endpoint's block stands. */
+struct xhci_device_placed {
+    uint32_t answer;    /* 0, or the first of 1 and 4 */
+    size_t offset;      /* in the context that is shown; 0 where it is refused */
+    size_t length;      /* 32 or 64, by the spacing; 0 where it is refused */
+};
+
+/* The block of a Dci (xHCI 1.2 section 6.2.3) in the input context, or, where from_output is not 0, in the output context, of
+ * which only the lengths are given: 0; 1, if these are not XHCI_DEVICE_CONTEXT_BYTES_32 and XHCI_DEVICE_OUTPUT_BYTES_32, nor
+ * both of 64; 4, if the Dci is not 1 to 31. */
+struct xhci_device_placed xhci_device_block(size_t input_len, size_t output_len, uint8_t from_output, uint8_t dci);
 
 #ifdef __cplusplus
 }

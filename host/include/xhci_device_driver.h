@@ -10,7 +10,7 @@
  *         ... send call.command, then one of
  *         xhci_device_done(&call); xhci_device_failed(&call, code); xhci_device_read_bytes(...); xhci_device_read_words(...);
  *     }
- *     ... call.answered
+ *     ... call.answered, and of a claim or a commit call.reason
  *
  * After each step image, context and routes are as the call leaves them when it is cut there: to give a pending
  * call up is to cut it. From its begin to its end nobody else may write image, context or the slot's own 32
@@ -60,6 +60,8 @@ struct xhci_device_pending {
     /* To be read by the caller. */
     struct xhci_device_command command;     /* to be sent, where xhci_device_next says true */
     struct xhci_device_answered answered;   /* where it says false; `count` counts the log's words always */
+    struct xhci_device_reason reason;       /* where it says false: why a claim or a commit got its answer; of any other call
+                                               its number, or nothing where it is accepted */
     uint32_t log[XHCI_DEVICE_LOG_WORDS];
     uint8_t outcomes[XHCI_DEVICE_LOG_WORDS];
     size_t told;                            /* outcomes known */
@@ -105,8 +107,8 @@ void xhci_device_begin_hub_update(struct xhci_device_pending *call, uint64_t *im
                                   uint8_t ports, bool multi, uint32_t ns);
 void xhci_device_begin_disconnect(struct xhci_device_pending *call, uint64_t *image, uint8_t *ctx, size_t ctx_len);
 
-/* Whether a command is to be sent, `command`; otherwise the call has ended with `answered`. Asked twice, it says
- * the same. Routes of another length than at the first step end the call with 2, and it stays cut. */
+/* Whether a command is to be sent, `command`; otherwise the call has ended with `answered`, for `reason`. Asked twice, it
+ * says the same. Routes of another length than at the first step end the call with 2, and it stays cut. */
 bool xhci_device_next(struct xhci_device_pending *call, uint64_t *routes, size_t routes_len);
 
 /* The outcome of the command that was to be sent; where none was, it is not taken.

@@ -2,13 +2,15 @@
 use Rattle.std.specs.Prelude.{ℕ, ◌≤◌, ◌≡◌, Bool, cond, ⊤, List, length, get_or, Result, Ok, Err}
 use Rattle.std.proofs.lemmas.List.Edits.{sets}
 use Rattle.function_answer.specs.declared.Refusal.{Refusal}
-use Rattle.function_answer.specs.declared.Refusal.TheVariants.{TooShort, DescriptorList, Malformed, Settings, OtherConfiguration}
+use Rattle.function_answer.specs.declared.Refusal.TheVariants.{ContextLength, TooShort, DescriptorList, NoEndpoint, Malformed, Settings, OtherConfiguration}
 
 -- The numbers of 01 and 02.
 unfoldable pub number : Result ℕ Refusal → ℕ
 number (Ok count) = 0
+number (Err ContextLength) = 1
 number (Err TooShort) = 3
 number (Err DescriptorList) = 4
+number (Err NoEndpoint) = 4
 number (Err Malformed) = 20
 number (Err Settings) = 23
 number (Err OtherConfiguration) = 24

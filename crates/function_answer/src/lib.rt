@@ -4,11 +4,14 @@
 ghost use Rattle.std.specs.Prelude.{◌≡◌, Err};
 ghost use Rattle.function_answer.specs.Answer.{number};
 
-// Why such a function refuses; accepted, it says how many words or bytes it wrote.
+// Why such a function refuses; accepted, one that writes says how many words or bytes it wrote.
 #[derive(Clone, Copy, PartialEq, Eq)]
 pub enum Refusal {
+    ContextLength,
     TooShort,
     DescriptorList,
+    // a Dci outside 1 to 31
+    NoEndpoint,
     Malformed,
     Settings,
     OtherConfiguration,
@@ -21,8 +24,9 @@ impl Refusal {
         ensures { result ≡ number (Err self) }
     {
         match self {
+            Refusal::ContextLength => 1,
             Refusal::TooShort => 3,
-            Refusal::DescriptorList => 4,
+            Refusal::DescriptorList | Refusal::NoEndpoint => 4,
             Refusal::Malformed => 20,
             Refusal::Settings => 23,
             Refusal::OtherConfiguration => 24,

@@ -8,4 +8,6 @@ mod sizes;
 
 pub use frame::replay;
 pub use read::{byte, list, next, read_record, word};
-pub use sizes::{HUBS_ROOM, LIST_ROOM, RINGS_ROOM};
+pub use sizes::{
+    CONTEXT_ROOM, HUBS_ROOM, LIST_ROOM, LOG_ROOM, OUTCOMES_ROOM, RINGS_ROOM, ROUTES_ROOM,
+};

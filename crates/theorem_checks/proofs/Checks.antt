@@ -61,7 +61,7 @@ use Rattle.theorem_slot.proofs.Returned.{sound_returned}
 use Rattle.theorem_ask.proofs.Promises.{same_ask_self, same_ask_told}
 use Rattle.theorem_checks.specs.Descriptors.{address_of, ValidList, Listed}
 use Rattle.theorem_checks.specs.Hubs.{ChainFits}
-use Rattle.theorem_checks.specs.Record.{words_in, EndpointRing, IsFree, RingsFit, FreeRings}
+use Rattle.theorem_checks.specs.Record.{words_in, EndpointAt, EndpointRing, IsFree, RingsFit, FreeRings}
 use Rattle.theorem_checks.specs.Checks.{Condition, asked, AllHold, FirstFails, Gives, Fit, ContextFits, RoutesFit, fit_conditions, IsListed, NoneOwned, EnoughFree, claim_conditions, WouldReturn, Releasable, release_conditions, ThinkFits, hub_conditions, SlotFits, bring_up_conditions, conditions, Judged, PassExactly, AskJudged, AskPasses}
 use Rattle.theorem_checks.proofs.Descriptors.{valid_tells, lookup_tells}
 use Rattle.theorem_checks.proofs.Endpoints.{ring_elem, elem_ring}
@@ -159,33 +159,72 @@ module _ (d : Device) (i a : ℕ) where
   unfolding list_of
   found_read e = record { words = words; listed = (lookup_tells (list_of d) i a).found e }
 
-  listed_is : (ws : List ℕ) → Listed (words_in d) i a ws → (is_found (find_endpoints (list_of d) i a) ≡ true) × (words ≡ ws)
+  pub listed_is : (ws : List ℕ) → Listed (words_in d) i a ws → (is_found (find_endpoints (list_of d) i a) ≡ true) × (words ≡ ws)
   unfolding list_of
   listed_is ws l = (lookup_tells (list_of d) i a).listed ws l
 
-  listed_words : IsListed d i a → Listed (words_in d) i a words
+  pub listed_words : IsListed d i a → Listed (words_in d) i a words
   listed_words l = rw (listed_is l.words l.listed).1 l.listed
 
   module _ (is_sound : sound d ≡ true) where
-    small : (k : ℕ) → k < length words → place_of (endpoint_descriptor (get_or words k 0)).address < 30
-    small k h = setting_place (list_of d) (sound_facts d is_sound).list i a k h
+    pub word_place : (k : ℕ) → k < length words → place_of (endpoint_descriptor (get_or words k 0)).address < 30
+    word_place k h = setting_place (list_of d) (sound_facts d is_sound).list i a k h
 
-    free_read : addresses_free words i (endpoint_map_in d) ≡ true → NoneOwned d i a
-    free_read e ws l k h j owner ring t =
-        let same : words ≡ ws = (listed_is ws l).1 in
-        let inside : k < length words = rw same h in
-        let w = get_or words k 0 in
+    -- What it says of an endpoint word that no other interface owns its address, and that one does.
+    pub word_free : (w j owner ring : ℕ) → address_free w i (endpoint_map_in d) ≡ true → EndpointAt d j (address_of w) owner ring → owner ≡ i
+    unfolding address_free
+    word_free w j owner ring free t =
         let p = place_of (endpoint_descriptor w).address in
         let en = entry d (sound_facts d is_sound).addresses_fit_lem j t.counted t.inside in
-        let at : place_of (get_or d.eps j blank).address ≡ p =
-        ap place_of (t.address_is ∙ ap (λ x. address_of (get_or x k 0)) (sym same) ∙ sym (word_address w)) in
-        let free : (eqb (get_or (endpoint_map_in d).rings p 0) 0 || eqb (get_or (endpoint_map_in d).owners p 0) i) ≡ true =
-        free_at words i (endpoint_map_in d) p e (has_place_lem words k inside) in
+        let at : place_of (get_or d.eps j blank).address ≡ p = ap place_of (t.address_is ∙ sym (word_address w)) in
         let some : get_or (endpoint_map_in d).rings p 0 ≡ 0 → ⊥ =
         λ z. (((sound_tells d).0 is_sound).rings _ (inl (inl (record { at = j; address = _; owner = _; there = t })))).nonzero (sym t.ring_is ∙ sym (rw at at en.rings) ∙ z) in
         sym ((rw at at en.owners) ∙ t.owner_is)
         ∙ ⊎_elim (λ z. absurd (some (eqb-true (get_or (endpoint_map_in d).rings p 0) 0 z))) (λ z. eqb-true (get_or (endpoint_map_in d).owners p 0) i z)
         (or_cases (eqb (get_or (endpoint_map_in d).rings p 0) 0) (eqb (get_or (endpoint_map_in d).owners p 0) i) free)
+
+    -- the endpoint that another interface has at the word's address
+    pub record OwnedByOther (w : ℕ) : Type 0 where
+      pub at : ℕ
+      pub ring : ℕ
+      pub there : EndpointAt d at (address_of w) (get_or (endpoint_map_in d).owners (place_of (endpoint_descriptor w).address) 0) ring
+      pub other : get_or (endpoint_map_in d).owners (place_of (endpoint_descriptor w).address) 0 ≡ i → ⊥
+
+    pub word_owned : (w : ℕ) → place_of (endpoint_descriptor w).address < 30 → address_free w i (endpoint_map_in d) ≡ false → OwnedByOther w
+    unfolding address_free
+    word_owned w low e = go (at_or_none d (place_of (endpoint_descriptor w).address) low)
+      where
+        ring : ℕ
+        ring = get_or (endpoint_map_in d).rings (place_of (endpoint_descriptor w).address) 0
+
+        owner : ℕ
+        owner = get_or (endpoint_map_in d).owners (place_of (endpoint_descriptor w).address) 0
+
+        go : At d (place_of (endpoint_descriptor w).address) ⊎ (get_or (endpoint_map_in d).rings (place_of (endpoint_descriptor w).address) 0 ≡ 0) → OwnedByOther w
+        go (inr z) = not_both (eqb ring 0 || eqb owner i) (or_left (eqb ring 0) (eqb owner i) (eq-eqb ring 0 z)) e
+        go (inl t) =
+            let en = entry d (sound_facts d is_sound).addresses_fit_lem t.at t.counted t.inside in
+            record {
+              at = t.at;
+              ring = (get_or d.eps t.at blank).ring;
+              there =
+                  record {
+                    counted = t.counted;
+                    inside = t.inside;
+                    address_is = place_same (get_or d.eps t.at blank).address (endpoint_descriptor w).address (rw t.placed low) t.placed ∙ word_address w;
+                    owner_is = sym (rw t.placed at en.owners);
+                    ring_is = refl;
+                  };
+              other = λ o. not_both (eqb ring 0 || eqb owner i) (or_right (eqb ring 0) (eqb owner i) (eq-eqb owner i o)) e;
+            }
+
+    free_read : addresses_free words i (endpoint_map_in d) ≡ true → NoneOwned d i a
+    unfolding address_free
+    free_read e ws l k h j owner ring t =
+        let same : words ≡ ws = (listed_is ws l).1 in
+        let w = get_or words k 0 in
+        let p = place_of (endpoint_descriptor w).address in
+        word_free w j owner ring (free_at words i (endpoint_map_in d) p e (has_place_lem words k (rw same h))) (rw (← same) at t)
 
     free_each : (ws : List ℕ) → ((k : ℕ) → k < length ws → address_free (get_or ws k 0) i (endpoint_map_in d) ≡ true) →
         addresses_free ws i (endpoint_map_in d) ≡ true
@@ -196,26 +235,14 @@ module _ (d : Device) (i a : ℕ) where
         (free_each ws (λ k h. f (suc k) (omega arith)))
 
     free_made : IsListed d i a → NoneOwned d i a → addresses_free words i (endpoint_map_in d) ≡ true
-    unfolding address_free
-    free_made l f = free_each words (λ k h. go k h (at_or_none d (place_of (endpoint_descriptor (get_or words k 0)).address) (small k h)))
+    free_made l f = free_each words (λ k h. go k h (decided (address_free (get_or words k 0) i (endpoint_map_in d))))
       where
-        go : (k : ℕ) → k < length words →
-            At d (place_of (endpoint_descriptor (get_or words k 0)).address)
-            ⊎ (get_or (endpoint_map_in d).rings (place_of (endpoint_descriptor (get_or words k 0)).address) 0 ≡ 0) →
-            (eqb (get_or (endpoint_map_in d).rings (place_of (endpoint_descriptor (get_or words k 0)).address) 0) 0
-            || eqb (get_or (endpoint_map_in d).owners (place_of (endpoint_descriptor (get_or words k 0)).address) 0) i) ≡ true
-        go k h (inr z) = or_left (eqb (get_or (endpoint_map_in d).rings (place_of (endpoint_descriptor (get_or words k 0)).address) 0) 0) _ (eq-eqb _ 0 z)
-        go k h (inl t) =
-            let w = get_or words k 0 in
-            let p = place_of (endpoint_descriptor w).address in
-            let en = entry d (sound_facts d is_sound).addresses_fit_lem t.at t.counted t.inside in
-            let address : (get_or d.eps t.at blank).address ≡ address_of w =
-            place_same (get_or d.eps t.at blank).address (endpoint_descriptor w).address (rw t.placed (small k h)) t.placed ∙ word_address w in
-            let owner : get_or d.ep_interfaces t.at 0 ≡ i =
-            f words (listed_words l) k h t.at (get_or d.ep_interfaces t.at 0) (get_or d.eps t.at blank).ring
-            (record { counted = t.counted; inside = t.inside; address_is = address; owner_is = refl; ring_is = refl }) in
-            or_right (eqb (get_or (endpoint_map_in d).rings p 0) 0) (eqb (get_or (endpoint_map_in d).owners p 0) i)
-            (eq-eqb (get_or (endpoint_map_in d).owners p 0) i ((rw t.placed at en.owners) ∙ owner))
+        go : (k : ℕ) → k < length words → Decided (address_free (get_or words k 0) i (endpoint_map_in d)) →
+            address_free (get_or words k 0) i (endpoint_map_in d) ≡ true
+        go k h (inl e) = e
+        go k h (inr e) =
+            let t = word_owned (get_or words k 0) (word_place k h) e in
+            absurd (t.other (f words (listed_words l) k h t.at _ t.ring t.there))
 
 -- Free rings.
 module _ (d : Device) where

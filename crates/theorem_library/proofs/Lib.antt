@@ -1,3 +1,4 @@
 pub mod Ask
 pub mod Checks
 pub mod Library
+mod Why

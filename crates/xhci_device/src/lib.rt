@@ -13,6 +13,7 @@ mod release;
 mod returned;
 mod set_configuration;
 mod sound;
+mod why;
 
 pub use answer::Answered;
 pub use ask::{Shown, xhci_device_ask, xhci_device_commit};
@@ -26,3 +27,4 @@ pub use record::{xhci_device_is_up, xhci_device_is_usable, xhci_device_record_wo
 pub use release::xhci_device_release;
 pub use set_configuration::xhci_device_set_configuration;
 pub use sound::xhci_device_is_sound;
+pub use why::{Why, xhci_device_why};

@@ -5,3 +5,4 @@
 mod ask;
 mod calls;
 mod record;
+mod why;

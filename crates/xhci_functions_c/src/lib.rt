@@ -2,13 +2,14 @@
 // since no crate can use an archive.
 #![tactic(auto)]
 
-ghost use Rattle.std.specs.Prelude.{◌≡◌};
+ghost use Rattle.std.specs.Prelude.{◌≡◌, ltb};
 ghost use Rattle.descriptor_raw.specs.Read.{read_descriptors};
 ghost use Rattle.descriptor_raw.specs.Write.{write_descriptors};
 ghost use Rattle.settings_form.specs.Convert.{to_new, to_old};
-ghost use Rattle.xhci_functions.specs.Crossed.{crosses, crossed};
+ghost use Rattle.context_part.specs.Part.{placed_block};
+ghost use Rattle.xhci_functions.specs.Crossed.{crosses, crossed, placed_of};
 
-use xhci_functions::Answered;
+use xhci_functions::{Answered, Placed};
 
 #[unsafe(no_mangle)]
 pub extern "C" fn xhci_device_read_descriptors(bytes: &[u8], words: &mut [u32]) -> Answered
@@ -44,4 +45,12 @@ pub extern "C" fn xhci_device_settings_to_old(
     ensures { crosses result bytes.new ≡ crossed (to_old settings.now list.now bytes.old) }
 {
     xhci_functions::xhci_device_settings_to_old(settings, list, bytes)
+}
+
+// The block of a Dci in an input or an output context of these lengths. A reference cannot cross, so C gets numbers.
+#[unsafe(no_mangle)]
+pub extern "C" fn xhci_device_block(input: usize, output: usize, from_output: u8, dci: u8) -> Placed
+    ensures { result ≡ placed_of (placed_block input output (ltb 0 from_output) dci) }
+{
+    xhci_functions::xhci_device_block(input, output, from_output, dci)
 }

@@ -1,4 +1,4 @@
-//! Each call of library and original over the same inputs, and the library's functions outside a slot: instructions,
+//! Each call of library and original over the same inputs, and the library's functions that send no command: instructions,
 //! counted by callgrind, and time.
 #![forbid(unsafe_code)]
 
@@ -14,7 +14,7 @@ const HELP: &str = "\
 usage: bench [--functions | --calls LAYER NAME TIMES]
 
 Prints a table of each call of library and original over the inputs of host/bench/inputs.txt: instructions, counted by
-valgrind where it is there, and time; then a table of the library's functions outside a slot.
+valgrind where it is there, and time; then a table of the library's functions outside a slot, and of the reasons of claims.
 
   --functions                print the second table only
   --calls LAYER NAME TIMES   only run the last call, or the function, of the input NAME so many times
@@ -88,7 +88,7 @@ fn row(scenario: &Scenario) -> Result<String, Cannot> {
     Ok(format!("| {name} | {} | {} | {counts} {times}", answer.number, answer.count))
 }
 
-/// The table of the functions outside a slot, which the original has not, as long as somebody reads it.
+/// The table of the functions that send no command, which the original has not, as long as somebody reads it.
 fn functions() -> Result<(), Cannot> {
     let title = "| function | bytes | answer | instructions | a byte | ns | a byte |";
     let mut read = print(&format!("{title}\n|---|---|---|---|---|---|---|\n"));

@@ -1,13 +1,32 @@
-//! Functions outside a slot: raw descriptors at three lengths, what a byte costs, and settings of old boards.
+//! Functions that send no command: raw descriptors at three lengths, what a byte costs; settings of old boards; an endpoint's
+//! block; and the reasons of claims.
 
-use scenario::{BYTES_ROOM, Conversion, Form, RawRead, RawWrite, Reply, WORDS_ROOM, start_clock, stop_clock};
+use scenario::{
+    Answer, BYTES_ROOM, Block, Buffers, Call, Conversion, Form, Made, RawRead, RawWrite, Record, Reply, Session, Side,
+    WORDS_ROOM, parse, start_clock, stop_clock,
+};
 
-use crate::{TIMED, instructions};
+use crate::{TIMED, completed, instructions};
+
+/// A claim with the record that it is given, for each kind of reason that has to be looked for.
+const CLAIMS: &str = include_str!("../claims.txt");
 
 pub enum Question {
     Read(RawRead),
     Write(RawWrite),
     Convert(Conversion),
+    Show(Block),
+    Why(Box<Claimed>),
+}
+
+/// A claim, what it was given, and what it left.
+pub struct Claimed {
+    call: Call,
+    record: Record,
+    buffers: Buffers,
+    left: Record,
+    answer: Answer,
+    log: Vec<u32>,
 }
 
 /// The word of an alternate; 32 interfaces in turn.
@@ -54,6 +73,25 @@ fn convert(to: Form, pairs: usize, last: bool) -> Option<Question> {
     Some(Question::Convert(Conversion { to, settings, ..old }))
 }
 
+/// The block of Dci 31 at a spacing.
+fn show(from: Side, spacing: usize) -> Question {
+    Question::Show(Block { input: vec![0; 33 * spacing], output: vec![0; 32 * spacing], from, dci: 31 })
+}
+
+/// The claims of claims.txt, by name, with what the model says that they leave.
+fn claimed() -> Option<Vec<(String, Question)>> {
+    let mut layer = runner::layer("model")?;
+    let mut claims = Vec::new();
+    for scenario in parse(CLAIMS).ok()?.scenarios {
+        let (call, record, buffers) = Session::new().prepare(&completed(scenario.steps.first()?));
+        let mut lent = buffers.clone();
+        let (left, answer) = layer.call(&record, &call, &mut lent).ok()?;
+        let claimed = Claimed { call, record, buffers, left, answer, log: lent.log };
+        claims.push((scenario.name, Question::Why(Box::new(claimed))));
+    }
+    Some(claims)
+}
+
 /// By name. A list has at most 256 words, so that of two of the interfaces alone the last two are refused (4).
 pub fn inputs() -> Vec<(String, Question)> {
     let lengths = [256, 512, 1024];
@@ -68,12 +106,16 @@ pub fn inputs() -> Vec<(String, Question)> {
         };
         [of(0, false), of(32, false), of(32, true)]
     });
-    interfaces.into_iter().chain(quarter).chain(written).chain(converted.into_iter().flatten()).collect()
+    let sides = [(Side::Input, "input"), (Side::Output, "output")];
+    let shown =
+        sides.map(|(from, side)| [32, 64].map(|spacing| (format!("block-{side}-{spacing}"), show(from, spacing))));
+    let outside = interfaces.into_iter().chain(quarter).chain(written).chain(converted.into_iter().flatten());
+    outside.chain(shown.into_iter().flatten()).chain(claimed().expect("claims.txt")).collect()
 }
 
 /// Asks so many times. The reply, and nanoseconds for each.
 pub fn repeat(layer: &str, question: &Question, times: u32) -> Option<(Reply, f64)> {
-    let functions = runner::functions(layer)?;
+    let (functions, mut layer) = (runner::functions(layer)?, runner::layer(layer)?);
     let mut reply = Reply::default();
     start_clock();
     for _ in 0..times {
@@ -81,6 +123,16 @@ pub fn repeat(layer: &str, question: &Question, times: u32) -> Option<(Reply, f6
             Question::Read(read) => read.ask(&*functions).0,
             Question::Write(write) => write.ask(&*functions).0,
             Question::Convert(conversion) => conversion.ask(&*functions).0,
+            Question::Show(block) => {
+                let part = block.ask(&*functions);
+                Reply { number: part.number, count: part.bytes.len() }
+            }
+            Question::Why(claimed) => {
+                let Claimed { call, record, buffers, left, answer, log } = &**claimed;
+                let made = Made { call, record, buffers, left, answer: *answer, log };
+                layer.why(&made).ok()?;
+                Reply { number: answer.number, count: 4 * answer.count }
+            }
         };
     }
     Some((reply, stop_clock().as_nanos() as f64 / f64::from(times.max(1))))
@@ -93,6 +145,9 @@ pub fn row(name: &str, question: &Question) -> Option<String> {
         Question::Write(_) => (reply.count, true),
         // Most of its cost is the list's.
         Question::Convert(conversion) => (conversion.settings.len(), false),
+        Question::Show(_) => (reply.count, false),
+        // Of the log; most of its cost is the record's.
+        Question::Why(_) => (reply.count, false),
     };
     let each = |cost: f64| if goes_by_bytes { format!("{:.2}", cost / bytes as f64) } else { String::new() };
     let counts = instructions("library", name)
@@ -104,12 +159,16 @@ pub fn row(name: &str, question: &Question) -> Option<String> {
 mod tests {
     use super::*;
 
-    /// Two inputs have more words than a list; everything else is accepted.
+    /// Two inputs have more words than a list, and two claims are not accepted; everything else is.
     #[test]
     fn inputs_are_answered() {
         for (name, question) in inputs() {
-            let too_long = ["read-interfaces-4608", "read-interfaces-9216"].contains(&name.as_str());
-            let expected = if too_long { 4 } else { 0 };
+            let expected = match name.as_str() {
+                "read-interfaces-4608" | "read-interfaces-9216" => 4,
+                "why-endpoint-30" => 9,
+                "why-command-59" => 13,
+                _ => 0,
+            };
             for layer in ["library", "model"] {
                 let (reply, _) = repeat(layer, &question, 1).expect("a layer");
                 assert_eq!(reply.number, expected, "{name}, {layer}");

@@ -23,6 +23,7 @@ impl Case {
             Call::Claim(_) => "claim",
             Call::Ask(_) => "ask",
             Call::Commit(_) => "commit",
+            Call::Why(_) => "why",
             Call::Release { .. } => "release",
             Call::SetConfiguration { .. } => "setconfig",
             Call::HubUpdate(_) => "hubupdate",

@@ -1,7 +1,8 @@
 //! Two layers on one case, and the listed differences between them.
 
 use scenario::{
-    Answer, Asked, BringUp, Buffers, Call, Called, Cannot, Claim, Layer, Left, Record, left_text, scenario_text,
+    Answer, Asked, BringUp, Buffers, Call, Called, Cannot, Claim, Layer, Left, Made, Reason, Record, left_text,
+    scenario_text,
 };
 
 use crate::case::Case;
@@ -31,6 +32,8 @@ pub struct Done {
     pub returned: Record,
     /// What an accepted ask returned.
     pub asked: Option<Asked>,
+    /// Why a claim, an ask or a commit got its answer, where both layers say it.
+    pub reason: Option<Reason>,
 }
 
 impl Done {
@@ -48,9 +51,9 @@ pub struct Pair {
 }
 
 fn done(called: Result<Called, Cannot>, buffers: Buffers) -> Result<Done, Cannot> {
-    let done = |Called { record: returned, answer, asked }| {
+    let done = |Called { record: returned, answer, asked, .. }| {
         let record = Record::sorted(&returned);
-        Done { record, answer, buffers, returned, asked }
+        Done { record, answer, buffers, returned, asked, reason: None }
     };
     called.map(done)
 }
@@ -63,10 +66,14 @@ impl Pair {
     }
 
     pub fn judge(&mut self, case: &Case) -> (Result<Done, Cannot>, Verdict) {
-        let subject = Self::ask(&mut *self.subject, case);
-        let verdict = match &subject {
+        let mut subject = Self::ask(&mut *self.subject, case);
+        let verdict = match &mut subject {
             Err(_) => Verdict::Different("the subject does not answer"),
-            Ok(subject) => self.judge_answer(case, subject),
+            Ok(subject) => {
+                // The original has no reasons.
+                subject.reason = if self.listed { None } else { why(&mut *self.subject, case, subject) };
+                self.judge_answer(case, subject)
+            }
         };
         (subject, verdict)
     }
@@ -95,10 +102,16 @@ impl Pair {
         }
         let reference = self.ask_reference(case);
         match &reference {
-            Ok(reference) if reference.same(subject) => Verdict::Same,
+            Ok(reference) if reference.same(subject) => self.judge_reason(case, reference, subject.reason),
             _ if !self.listed => Verdict::Different("the layers"),
             _ => rule(case, subject, &reference),
         }
+    }
+
+    /// The reason is the reference's own.
+    fn judge_reason(&mut self, case: &Case, reference: &Done, reason: Option<Reason>) -> Verdict {
+        let expected = if self.listed { None } else { why(&mut *self.reference, case, reference) };
+        if reason == expected { Verdict::Same } else { Verdict::Different("the reason") }
     }
 
     /// Whether the subject's ask of a claim is refused as the claim is, or its commit leaves what the claim left.
@@ -118,6 +131,9 @@ impl Pair {
         let (subject, verdict) = self.judge(case);
         let number = subject.as_ref().map_or(0, |done| done.answer.number);
         tally.count(case, number, &verdict);
+        if let Some(reason) = subject.as_ref().ok().and_then(|done| done.reason) {
+            tally.reason(reason, number);
+        }
         if let (Ok(done), Verdict::Same) = (&subject, verdict)
             && let Some(mut store) = tally.store.take()
         {
@@ -149,7 +165,10 @@ impl Pair {
 
     pub fn report(&mut self, case: &Case) -> String {
         let (subject, verdict) = self.judge(case);
-        let reference = self.ask_reference(case);
+        let mut reference = self.ask_reference(case);
+        if let Ok(done) = &mut reference {
+            done.reason = why(&mut *self.reference, case, done);
+        }
         let mut text = String::from("DIFFERENT");
         if let Verdict::Different(what) = verdict {
             text.push_str(": ");
@@ -176,6 +195,7 @@ fn unlike(subject: &Done, reference: &Done) -> Vec<&'static str> {
         ("routes", subject.buffers.routes == reference.buffers.routes),
         ("record", subject.record == reference.record),
         ("what is asked", subject.asked == reference.asked),
+        ("reason", subject.reason == reference.reason),
     ];
     parts.iter().filter(|part| !part.1).map(|part| part.0).collect()
 }
@@ -183,11 +203,22 @@ fn unlike(subject: &Done, reference: &Done) -> Vec<&'static str> {
 fn describe(text: &mut String, done: Result<Done, Cannot>) {
     match done {
         Err(cannot) => text.push_str(&format!("no answer: {cannot:?}\n")),
-        Ok(Done { record, answer, buffers, asked, .. }) => {
+        Ok(Done { record, answer, buffers, asked, reason, .. }) => {
             let Buffers { ctx, routes, log, .. } = buffers;
-            left_text(text, &Left { answer, record, log, ctx, table: routes, asked: asked.map(Some) });
+            left_text(text, &Left { answer, record, log, ctx, table: routes, asked: asked.map(Some), reason: None });
+            if let Some(reason) = reason {
+                text.push_str(&format!("reason {reason}\n"));
+            }
         }
     }
+}
+
+/// Why a claim, an ask or a commit got its answer, by a layer that says it.
+fn why(layer: &mut dyn Layer, case: &Case, done: &Done) -> Option<Reason> {
+    let Case { call, record, buffers, .. } = case;
+    call.claimed()?;
+    let made = Made { call, record, buffers, left: &done.returned, answer: done.answer, log: &done.buffers.log };
+    layer.why(&made).ok()
 }
 
 /// A refusal has changed nothing, logged no word and shown nothing; no ask has, but that an accepted one has shown
@@ -367,4 +398,145 @@ fn once(record: &Record) -> Record {
         }
     }
     Record { quarantined, ..record.clone() }
+}
+
+#[cfg(test)]
+mod tests {
+    use std::time::Duration;
+
+    use scenario::{HubUpdate, Outcome, Shown};
+
+    use super::*;
+    use crate::random;
+
+    /// The model, but for one thing that it says of reasons.
+    #[derive(Clone, Copy, Debug)]
+    enum Wrong {
+        /// The last failed command.
+        Last,
+        /// The command that failed with the answer's code.
+        Code,
+        /// A failed command before a cut.
+        Cut,
+        /// 14 without a failed command names the last one.
+        Routes,
+        /// The first endpoint word that anybody owns.
+        Own,
+        /// The alternate that is held, of one that is missing.
+        Held,
+        /// The rings, where an owner is missing too.
+        Rings,
+        /// 22 is the ring check.
+        Outdated,
+        /// The place is counted from 1.
+        FromOne,
+    }
+
+    impl Wrong {
+        const ALL: [Wrong; 9] = [
+            Wrong::Last,
+            Wrong::Code,
+            Wrong::Cut,
+            Wrong::Routes,
+            Wrong::Own,
+            Wrong::Held,
+            Wrong::Rings,
+            Wrong::Outdated,
+            Wrong::FromOne,
+        ];
+
+        fn spoil(self, reason: Reason, made: &Made) -> Reason {
+            let Made { record, buffers, log, answer, .. } = made;
+            let outcome = |place: usize| buffers.outcomes.get(place).copied().unwrap_or(0);
+            let command = |place: usize| Reason::Command { place, word: log[place] };
+            let failed = || (0..answer.count).filter(|place| outcome(*place) != 0);
+            let claim = made.call.claimed().unwrap_or_default();
+            match (self, reason) {
+                (Wrong::Last, Reason::Command { .. }) => failed().last().map_or(reason, command),
+                (Wrong::Code, Reason::Command { .. }) if answer.number == 13 => {
+                    failed().find(|place| outcome(*place) == answer.code).map_or(reason, command)
+                }
+                (Wrong::Cut, Reason::Number(15)) => failed().next().map_or(reason, command),
+                (Wrong::Routes, Reason::Number(14)) => command(answer.count - 1),
+                (Wrong::Own, Reason::Endpoint { .. }) => {
+                    let address = |word: u32| ((word >> 29 & 1) << 7 | word >> 25 & 15) as u8;
+                    let owner = |word: u32| record.endpoints.iter().find(|e| e.address == address(word));
+                    let words = record.list.iter().copied();
+                    let sought = 1 << 30 | u32::from(claim.interface) << 22 | u32::from(claim.alternate) << 14;
+                    let mut after = words.skip_while(|word| *word != sought).skip(1).take_while(|word| word >> 30 == 2);
+                    let found = after.find_map(|word| Some(Reason::Endpoint { word, owner: owner(word)?.owner }));
+                    found.unwrap_or(reason)
+                }
+                (Wrong::Held, Reason::Alternate { interface, .. }) => {
+                    let held = record.held.iter().find(|held| held.0 == interface);
+                    held.map_or(reason, |(interface, alternate)| Reason::Alternate {
+                        interface: *interface,
+                        alternate: *alternate,
+                    })
+                }
+                (Wrong::Rings, Reason::Endpoint { .. }) if record.free().is_empty() => Reason::Rings,
+                (Wrong::Outdated, Reason::Number(22)) => Reason::Rings,
+                (Wrong::FromOne, Reason::Command { place, word }) => Reason::Command { place: place + 1, word },
+                _ => reason,
+            }
+        }
+    }
+
+    impl Layer for Wrong {
+        fn bring_up(&mut self, args: &BringUp, buffers: &mut Buffers) -> Outcome {
+            model::Model.bring_up(args, buffers)
+        }
+        fn claim(&mut self, record: &Record, args: &Claim, buffers: &mut Buffers) -> Outcome {
+            model::Model.claim(record, args, buffers)
+        }
+        fn ask(&mut self, record: &Record, args: &Claim, buffers: &Buffers) -> Shown {
+            model::Model.ask(record, args, buffers)
+        }
+        fn commit(&mut self, record: &Record, asked: &Asked, buffers: &mut Buffers) -> Outcome {
+            model::Model.commit(record, asked, buffers)
+        }
+        fn release(&mut self, record: &Record, interface: u8, buffers: &mut Buffers) -> Outcome {
+            model::Model.release(record, interface, buffers)
+        }
+        fn set_configuration(&mut self, record: &Record, value: u8, buffers: &mut Buffers) -> Outcome {
+            model::Model.set_configuration(record, value, buffers)
+        }
+        fn hub_update(&mut self, record: &Record, args: &HubUpdate, buffers: &mut Buffers) -> Outcome {
+            model::Model.hub_update(record, args, buffers)
+        }
+        fn disconnect(&mut self, record: &Record, buffers: &mut Buffers) -> Outcome {
+            model::Model.disconnect(record, buffers)
+        }
+        fn why(&mut self, made: &Made) -> Result<Reason, Cannot> {
+            Ok(self.spoil(model::Model.why(made)?, made))
+        }
+    }
+
+    #[test]
+    fn a_wrong_reason_is_found() {
+        for wrong in Wrong::ALL {
+            let reference = runner::layer("model").expect("the model");
+            let mut pair = Pair { reference, subject: Box::new(wrong), listed: false };
+            let mut found = |seed: u64| {
+                let mut tally = Tally::default();
+                random::run(&mut pair, &mut tally, seed, 1_000);
+                !tally.text(Duration::ZERO).contains(" 0 different\n")
+            };
+            assert!((1..=20).any(&mut found), "{wrong:?}");
+        }
+    }
+
+    /// Why is asked of whatever the calls leave, and the library says what the model says.
+    #[test]
+    fn each_reason_is_met() {
+        let [reference, subject] = ["model", "library"].map(|name| runner::layer(name).expect("a layer"));
+        let mut pair = Pair { reference, subject, listed: false };
+        let mut tally = Tally::default();
+        random::run(&mut pair, &mut tally, 1, 10_000);
+        assert_eq!(tally.first_difference(&mut pair), None);
+        let numbers = [1, 2, 3, 12, 14, 15, 22].map(|number| ("number", number));
+        let named = [("none", 0), ("alternate", 8), ("endpoint", 9), ("rings", 21), ("command", 13), ("command", 14)];
+        let missing: Vec<_> = numbers.into_iter().chain(named).filter(|of| !tally.has_reason(*of)).collect();
+        assert_eq!(missing, []);
+    }
 }

@@ -1,6 +1,7 @@
 //! Holds two layers against each other, call by call, and their functions outside a slot.
 #![forbid(unsafe_code)]
 
+mod block;
 mod build;
 mod case;
 mod compare;
@@ -41,9 +42,9 @@ original.
   --subject LAYER     what is judged (library)
   --seed N            of the random calls (1)
   --calls N           how many of them (600000)
-  --cases N           how many random cases of raw descriptors, and of settings (2000000)
+  --cases N           how many random cases of raw descriptors, and of settings (2000000); a twentieth of blocks
   --part PART         one part instead of all: refusals, records, routes, outcomes, store, asks, intervals, ports,
-                      packets, think, slots, random; raw or settings (which the original has not)
+                      packets, think, slots, random; raw, settings or block (which the original has not)
   --sample            print a small scenario for each call and answer, or case for each function and answer, instead
                       of the counts
   --store FOLDER      draw a sample of the reference's answers by path, from calls of its own, and write it to
@@ -59,7 +60,7 @@ struct Options {
     subject: String,
     seed: u64,
     calls: u64,
-    /// Random cases of the parts raw and settings.
+    /// Random cases of the parts raw and settings, and twenty times those of block.
     cases: u64,
     part: Option<String>,
     /// Print a small scenario for each call and answer, or case for each function and answer, instead of the counts.
@@ -99,7 +100,8 @@ fn options() -> Result<Options, String> {
         }
     }
     let is_part = |name: &String| {
-        ["random", "raw", "settings"].contains(&name.as_str()) || exhaustive::PARTS.iter().any(|part| part.0 == name)
+        ["random", "raw", "settings", "block"].contains(&name.as_str())
+            || exhaustive::PARTS.iter().any(|part| part.0 == name)
     };
     match options.part.as_ref().filter(|name| !is_part(name)) {
         Some(name) => Err(format!("there is no part '{name}'")),
@@ -118,6 +120,7 @@ fn main() -> ExitCode {
     let done = match options.part.as_deref() {
         Some("raw") => functions(&options, raw::run),
         Some("settings") => functions(&options, settings::run),
+        Some("block") => functions(&options, block::run),
         Some(_) => calls(&options),
         None => calls(&options).and_then(|passed| Ok(functions_if_there(&options)? && passed)),
     };
@@ -202,7 +205,7 @@ fn functions_if_there(options: &Options) -> Result<bool, String> {
         return Ok(true);
     }
     let (raw, settings) = (functions(options, raw::run)?, functions(options, settings::run)?);
-    Ok(raw && settings)
+    Ok(functions(options, block::run)? && raw && settings)
 }
 
 fn write(folder: &Path, store: &Store, pair: &mut Pair) -> std::io::Result<()> {

@@ -21,6 +21,8 @@ pub trait Question: Clone {
     /// The grounds, and the answer that they are of.
     const GROUNDS: &'static [Self::Ground];
     const MALFORMED: u8;
+    /// What `returned` means.
+    const RETURNED: &'static str = "there and back";
 
     /// How many grounds there are at least where this one is.
     fn fewest(_: Self::Ground) -> usize {
@@ -50,7 +52,7 @@ pub struct Judged<Ground> {
     pub number: u8,
     /// Why what was given is malformed, by the model.
     pub grounds: BTreeSet<Ground>,
-    /// Whether the question was accepted, and its output brought back.
+    /// Whether the question was accepted, and its output brought back (of a block: is the memory that was lent).
     pub returned: bool,
     /// What is not as it should be.
     pub fault: Option<&'static str>,

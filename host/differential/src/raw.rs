@@ -17,7 +17,7 @@ pub fn run(pair: &Pair, tally: &mut Tally<Raw>, seed: u64, cases: u64) {
 
 #[cfg(test)]
 mod tests {
-    use scenario::{Functions, Reply};
+    use scenario::{Functions, Reply, Side};
 
     use super::*;
 
@@ -80,6 +80,10 @@ mod tests {
 
         fn settings_to_old(&self, settings: &[u8], list: &[u32], bytes: &mut [u8]) -> Reply {
             functions("model").settings_to_old(settings, list, bytes)
+        }
+
+        fn endpoint_block<'a>(&self, input: &'a [u8], output: &'a [u8], from: Side, dci: u8) -> (u8, &'a [u8]) {
+            model::Model.endpoint_block(input, output, from, dci)
         }
     }
 

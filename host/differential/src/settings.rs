@@ -18,7 +18,7 @@ pub fn run(pair: &Pair, tally: &mut Tally<Conversion>, seed: u64, cases: u64) {
 
 #[cfg(test)]
 mod tests {
-    use scenario::{Functions, Reply};
+    use scenario::{Functions, Reply, Side};
 
     use super::*;
 
@@ -118,6 +118,10 @@ mod tests {
                 _ => model.settings_to_old(settings, list, bytes),
             };
             self.left(reply, bytes)
+        }
+
+        fn endpoint_block<'a>(&self, input: &'a [u8], output: &'a [u8], from: Side, dci: u8) -> (u8, &'a [u8]) {
+            model::Model.endpoint_block(input, output, from, dci)
         }
     }
 

@@ -216,7 +216,7 @@ impl Numbers {
                 numbers.into_iter().for_each(|number| self.put(number));
             }
             Call::Disconnect => {}
-            Call::Ask(_) | Call::Commit(_) => unreachable!("not kept"),
+            Call::Ask(_) | Call::Commit(_) | Call::Why(_) => unreachable!("not kept"),
         }
     }
 }

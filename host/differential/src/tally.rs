@@ -5,7 +5,7 @@ use std::collections::btree_map::Entry;
 use std::fmt::Write;
 use std::time::{Duration, Instant};
 
-use scenario::scenario_text;
+use scenario::{Reason, scenario_text};
 
 use crate::case::Case;
 use crate::compare::{Pair, Verdict};
@@ -24,6 +24,8 @@ pub struct Tally {
     calls: u64,
     same: u64,
     answers: BTreeMap<u8, u64>,
+    /// By kind and answer.
+    reasons: BTreeMap<(&'static str, u8), u64>,
     listed: BTreeMap<&'static str, u64>,
     uncompared: BTreeMap<&'static str, u64>,
     different: u64,
@@ -63,6 +65,16 @@ impl Tally {
         }
     }
 
+    pub fn reason(&mut self, reason: Reason, number: u8) {
+        *self.reasons.entry((reason.kind(), number)).or_default() += 1;
+    }
+
+    /// Whether a kind of reason of an answer was met.
+    #[cfg(test)]
+    pub fn has_reason(&self, of: (&'static str, u8)) -> bool {
+        self.reasons.contains_key(&of)
+    }
+
     fn keep_first(&mut self, case: &Case, number: u8) {
         if let Entry::Vacant(entry) = self.sample.entry((case.name(), number)) {
             entry.insert(case.clone());
@@ -88,6 +100,12 @@ impl Tally {
         let seconds = elapsed.as_secs_f64();
         let _ = writeln!(text, "{calls} calls in {seconds:.1} s: {same} the same, {different} different");
         let _ = writeln!(text, "answers: {}", counts(self.answers.iter()));
+        if !self.reasons.is_empty() {
+            text.push_str("reasons, and the answers that they are of:\n");
+        }
+        for ((kind, number), count) in &self.reasons {
+            let _ = writeln!(text, "  {count:>8}  {kind}, {number}");
+        }
         text.push_str("listed differences met:\n");
         for row in rows::ALL {
             let _ = writeln!(text, "  {:>8}  {row}", self.listed.get(row).unwrap_or(&0));

@@ -4,9 +4,10 @@
 pub mod words;
 
 use scenario::{
-    Answer, Asked, BringUp, Buffers, Cannot, Claim, Functions, HubUpdate, Layer, Outcome, Record, Reply, Shown, proper,
+    Answer, Asked, BringUp, Buffers, Cannot, Claim, Functions, HubUpdate, Layer, Made, Outcome, Reason, Record, Reply,
+    Shown, Side, proper,
 };
-use xhci_device::{Memory, RawRefusal, Setting, SettingsRefusal, SlotId};
+use xhci_device::{BlockRefusal, Context, Dci, Memory, RawRefusal, Setting, SettingsRefusal, SlotId};
 
 pub struct Library;
 
@@ -33,6 +34,17 @@ fn asked(shown: xhci_device::Asked) -> Asked {
         drops: shown.drop_flags(),
         adds: shown.add_flags(),
         rings: shown.rings().to_vec(),
+    }
+}
+
+fn reason(reason: xhci_device::Reason) -> Reason {
+    match reason {
+        xhci_device::Reason::Nothing => Reason::Nothing,
+        xhci_device::Reason::Alternate { interface, alternate } => Reason::Alternate { interface, alternate },
+        xhci_device::Reason::Endpoint { word, owner } => Reason::Endpoint { word, owner },
+        xhci_device::Reason::Rings => Reason::Rings,
+        xhci_device::Reason::Command { place, word } => Reason::Command { place, word },
+        xhci_device::Reason::Number(number) => Reason::Number(number),
     }
 }
 
@@ -89,6 +101,16 @@ impl Layer for Library {
     fn disconnect(&mut self, record: &Record, buffers: &mut Buffers) -> Outcome {
         on(record, |r| r.disconnect(memory(buffers)))
     }
+
+    /// From what the call left, and from the outcomes that it was given.
+    fn why(&mut self, made: &Made) -> Result<Reason, Cannot> {
+        let Answer { number, code, count } = made.answer;
+        let record = words::image(made.left).ok_or(Cannot::NoSuchInput)?;
+        let answer = xhci_device::Answer::of(number, code).ok_or(Cannot::NoSuchInput)?;
+        let Claim { interface, alternate } = made.call.claimed().ok_or(Cannot::NoSuchInput)?;
+        let why = || record.why(interface, alternate, (answer, count), made.log, &made.buffers.outcomes);
+        Ok(reason(proper(why)))
+    }
 }
 
 fn replied<Refusal>(result: Result<usize, Refusal>, number: fn(Refusal) -> u8) -> Reply {
@@ -113,5 +135,15 @@ impl Functions for Library {
 
     fn settings_to_old(&self, settings: &[u8], list: &[u32], bytes: &mut [u8]) -> Reply {
         replied(proper(|| xhci_device::settings_to_old(settings, list, bytes)), SettingsRefusal::number)
+    }
+    fn endpoint_block<'a>(&self, input: &'a [u8], output: &'a [u8], from: Side, dci: u8) -> (u8, &'a [u8]) {
+        let from = match from {
+            Side::Input => Context::Input,
+            Side::Output => Context::Output,
+        };
+        match proper(|| xhci_device::endpoint_block(input, output, from, Dci(dci))) {
+            Ok(block) => (0, block),
+            Err(refusal) => (BlockRefusal::number(refusal), &[]),
+        }
     }
 }

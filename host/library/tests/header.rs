@@ -1,6 +1,9 @@
 //! The header for C says what the binding says.
 
-use xhci_device::{Answer, Command, READ_WORDS, RawRefusal, Record, SETTINGS_BYTES, SettingsRefusal, WRITE_BYTES};
+use xhci_device::{
+    Answer, Command, Context, Dci, READ_WORDS, RawRefusal, Reason, Record, SETTINGS_BYTES, SettingsRefusal,
+    WRITE_BYTES, endpoint_block,
+};
 
 const HEADER: &str = include_str!("../../include/xhci_device.h");
 
@@ -39,6 +42,9 @@ fn answers_have_their_numbers_and_names() {
         else {
             continue;
         };
+        if name.starts_with("XHCI_DEVICE_REASON_") {
+            continue;
+        }
         let number = number(name) as u8;
         let words = match Answer::of(number, 0) {
             Some(answer) => answer.to_string(),
@@ -78,6 +84,32 @@ fn the_version_and_the_sizes_are_the_binding_s() {
     assert_eq!(number("XHCI_DEVICE_RECORD_WORDS"), Record::WORDS);
     let rooms = ["READ_WORDS", "WRITE_BYTES", "SETTINGS_BYTES"].map(|name| number(&format!("XHCI_DEVICE_{name}")));
     assert_eq!(rooms, [READ_WORDS, WRITE_BYTES, SETTINGS_BYTES]);
+}
+
+/// The kinds of reasons, by the numbers that the archive gives: the binding's variants in their order.
+#[test]
+fn reasons_have_their_kinds() {
+    let names = ["NOTHING", "ALTERNATE", "ENDPOINT", "RINGS", "COMMAND", "NUMBER"];
+    for (kind, name) in names.iter().enumerate() {
+        assert_eq!(number(&format!("XHCI_DEVICE_REASON_{name}")), kind);
+        assert!(HEADER.contains(&format!("case XHCI_DEVICE_REASON_{name}: return \"")), "{name}");
+    }
+    assert_eq!(HEADER.lines().filter(|line| line.trim().starts_with("XHCI_DEVICE_REASON_")).count(), names.len());
+    for (reason, name) in [(Reason::Nothing, "NOTHING"), (Reason::Rings, "RINGS")] {
+        assert!(HEADER.contains(&format!("case XHCI_DEVICE_REASON_{name}: return \"{reason}\";")), "{name}");
+    }
+}
+
+/// An output context has no control block.
+#[test]
+fn contexts_have_their_lengths() {
+    for spacing in [32, 64] {
+        let lengths = ["CONTEXT", "OUTPUT"].map(|name| number(&format!("XHCI_DEVICE_{name}_BYTES_{spacing}")));
+        assert_eq!(lengths, [33 * spacing, 32 * spacing]);
+        let (input, output) = (vec![0; lengths[0]], vec![0; lengths[1]]);
+        let block = endpoint_block(&input, &output, Context::Output, Dci(1)).expect("a block");
+        assert_eq!(block.len(), spacing);
+    }
 }
 
 /// The binding can be taken alone.

@@ -45,22 +45,28 @@ const DISABLE: u32 = 12;
 pub struct Course<'a> {
     pub record: Record,
     pub count: usize,
+    /// The place and the word of the first command with an outcome other than 0.
+    pub first_failed: Option<(usize, u32)>,
     buffers: &'a mut Buffers,
 }
 
 impl<'a> Course<'a> {
     pub fn new(record: Record, buffers: &'a mut Buffers) -> Course<'a> {
-        Course { record, count: 0, buffers }
+        Course { record, count: 0, first_failed: None, buffers }
     }
 
     /// Logs a command and takes its outcome; without one the call is cut.
     fn send(&mut self, operation: u32, first: u8, second: u8) -> Run {
-        self.buffers.log[self.count] = operation << 28 | u32::from(first) << 20 | u32::from(second) << 12;
+        let (place, word) = (self.count, operation << 28 | u32::from(first) << 20 | u32::from(second) << 12);
+        self.buffers.log[place] = word;
         self.count += 1;
-        match self.buffers.outcomes.get(self.count - 1) {
+        match self.buffers.outcomes.get(place) {
             None => Err(CUT),
             Some(0) => Ok(()),
-            Some(code) => Err(Ended { number: 13, code: *code }),
+            Some(code) => {
+                self.first_failed.get_or_insert((place, word));
+                Err(Ended { number: 13, code: *code })
+            }
         }
     }
 

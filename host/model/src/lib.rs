@@ -3,6 +3,7 @@
 //! The functions outside a slot are read from 02.
 #![forbid(unsafe_code)]
 
+mod block;
 mod check;
 mod context;
 mod course;
@@ -10,8 +11,12 @@ mod list;
 mod raw;
 mod settings;
 mod topology;
+mod why;
 
-use scenario::{Answer, Asked, BringUp, Buffers, Claim, Functions, HubUpdate, Layer, Outcome, Record, Reply, Shown};
+use scenario::{
+    Answer, Asked, BringUp, Buffers, Cannot, Claim, Functions, HubUpdate, Layer, Made, Outcome, Reason, Record, Reply,
+    Shown, Side,
+};
 
 use course::{Course, Ended};
 
@@ -106,6 +111,11 @@ impl Layer for Model {
         let result = course.disconnect();
         ended(course, result)
     }
+
+    /// From what the call was given, not from what it left.
+    fn why(&mut self, made: &Made) -> Result<Reason, Cannot> {
+        Ok(why::why(made.call, made.record, made.buffers))
+    }
 }
 
 /// "What is lent past the output, here and later, keeps its contents." Refusals act as 1 to 12 do.
@@ -134,5 +144,9 @@ impl Functions for Model {
 
     fn settings_to_old(&self, settings: &[u8], list: &[u32], bytes: &mut [u8]) -> Reply {
         replied(settings::to_old(settings, list, bytes.len()), bytes)
+    }
+
+    fn endpoint_block<'a>(&self, input: &'a [u8], output: &'a [u8], from: Side, dci: u8) -> (u8, &'a [u8]) {
+        block::endpoint_block(input, output, from, dci)
     }
 }

@@ -10,6 +10,8 @@ pub const BULK: u32 = 2;
 
 #[derive(Clone, Copy)]
 pub struct EndpointWord {
+    /// As the list has it.
+    pub word: u32,
     pub input: bool,
     pub number: u8,
     pub kind: u32,
@@ -50,6 +52,7 @@ pub fn word(word: u32) -> Option<Word> {
         1 => (Word::Alternate(bits(word, 2, 8) as u8, bits(word, 10, 8) as u8), 18),
         2 => {
             let endpoint = EndpointWord {
+                word,
                 input: bits(word, 2, 1) == 1,
                 number: bits(word, 3, 4) as u8,
                 kind: bits(word, 7, 2),

@@ -1,9 +1,9 @@
-//! What is printed for people: the refusals with their word, owner, ring or number of rings.
+//! What is printed for people: the refusals with their word or ring, and the reasons of claims.
 
 use std::process::Command;
 
 use runner::{functions, layer};
-use scenario::{BringUp, Buffers, Call, Claim, Conversion, Endpoint, Form, Record, reason, settings_fault};
+use scenario::{BringUp, Buffers, Call, Conversion, Form, Record, fault, settings_fault};
 
 #[test]
 fn the_refusals_are_explained() {
@@ -60,7 +60,7 @@ fn a_word_is_named_exactly_where_the_list_is_refused() {
         let args = BringUp { slot: 1, n: 1, speed: 3, rings: vec![16], list, ..BringUp::default() };
         let call = Call::BringUp(args);
         let number = answer(&call, &Record::default());
-        assert_eq!(reason(4, &call, &Record::default()).is_some(), number == 4, "{call:?}");
+        assert_eq!(fault(4, &call, &Record::default()).is_some(), number == 4, "{call:?}");
         refused += u32::from(number == 4);
     }
     assert!((2_000..18_000).contains(&refused), "{refused}");
@@ -79,53 +79,10 @@ fn a_given_ring_is_named_exactly_where_one_is_refused() {
         }
         let call = Call::BringUp(BringUp { slot: 1, n: 1, speed: 3, rings, ..BringUp::default() });
         let number = answer(&call, &Record::default());
-        assert_eq!(reason(10, &call, &Record::default()).is_some(), number == 10, "{call:?}");
+        assert_eq!(fault(10, &call, &Record::default()).is_some(), number == 10, "{call:?}");
         refused += u32::from(number == 10);
     }
     assert!((500..4_500).contains(&refused), "{refused}");
-}
-
-/// A record that holds 0x81 for interface 0, and claims of interface 1, which has 0x81 and 0x02, or 0x02 alone.
-#[test]
-fn an_owner_or_the_rings_are_named_exactly_where_a_claim_is_refused() {
-    let record = Record {
-        usable: true,
-        up: true,
-        slot: 1,
-        n: 1,
-        spacing: 32,
-        speed: 3,
-        control: 0x1000,
-        list: vec![
-            0x0040_0000,
-            0x4000_0000,
-            0xA384_0410,
-            0x4040_0000,
-            0x8520_0000,
-            0xA384_0410,
-            0x4040_4000,
-            0x8520_0000,
-        ],
-        endpoints: vec![Endpoint { address: 0x81, ring: 0x2000, owner: 0, active: true }],
-        held: vec![(0, 0)],
-        ..Record::default()
-    };
-    let mut met = [0; 256];
-    for free in 0..3 {
-        let given = (1..=2 + free).map(|at| 0x1000 * at).collect();
-        let record = Record { given, ..record.clone() };
-        for place in 0..4 {
-            let call = Call::Claim(Claim { interface: place / 2, alternate: place % 2 });
-            let number = answer(&call, &record);
-            assert_eq!(reason(9, &call, &record).is_some(), number == 9, "{call:?}");
-            // 8 and 9 come before it.
-            if !matches!(number, 8 | 9) {
-                assert_eq!(reason(21, &call, &record).is_some(), number == 21, "{call:?}");
-            }
-            met[usize::from(number)] += 1;
-        }
-    }
-    assert!(met[8] > 0 && met[9] > 0 && met[21] > 0 && met[15] > 0, "{met:?}");
 }
 
 /// What is wrong with settings is told exactly where they are refused with 23.
@@ -166,4 +123,57 @@ fn a_ground_is_named_exactly_where_settings_are_refused() {
         met[usize::from(number)] += 1;
     }
     assert!(met[0] > 1_000 && met[23] > 1_000 && met[24] > 100, "{met:?}");
+}
+
+/// A device that holds 81 for interface 0; interface 1 has 02 and 81 in alternate 0, 02 alone in alternate 1.
+const DEVICE: &str = "  record usable=1 up=1 slot=1 n=1 spacing=32 speed=3 config=1 control=1000/active
+  reclist 00400000 40000000 a3840410 40400000 85200000 a3840410 40404000 85200000
+  eps 81:2000:0:active
+  held 0:0
+  routes 33=1000 35=2000
+  routeslen 64";
+
+/// The line of the reason that is told of a call on the device.
+fn told(call: &str, given: &str, outcomes: &str, layer: &str) -> Option<String> {
+    let zeros = "00".repeat(1056);
+    let text =
+        format!("scenario a\n{call}\n{DEVICE}\n  given {given}\n  ctx {zeros}\n  outcomes {outcomes}\ngo\nend\n");
+    let path = std::env::temp_dir().join(format!("explain-{}-{layer}.txt", std::process::id()));
+    std::fs::write(&path, text).expect("room");
+    let run = Command::new(env!("CARGO_BIN_EXE_scenario")).args(["--explain", "--layer", layer]).arg(&path).output();
+    std::fs::remove_file(&path).expect("the file");
+    let run = String::from_utf8(run.expect("the program").stdout).expect("text");
+    let mut lines = run.lines().filter_map(|line| line.strip_prefix("    reason: "));
+    let found = lines.next().map(str::to_string);
+    assert_eq!(lines.next(), None, "{run}");
+    found
+}
+
+#[test]
+fn the_reason_is_told_of_claims_asks_and_commits() {
+    let first = "command 2, SetInterface 1, alternate 1, failed first, with code 9 (place 1 of the log, word 60101000)";
+    for layer in ["library", "model"] {
+        let claim =
+            |setting: &str, given: &str, outcomes: &str| told(&format!("claim\n{setting}"), given, outcomes, layer);
+        let free = "1000 2000 3000";
+        for (setting, given, outcomes, expected) in [
+            ("interface 1\nalternate 1", free, "0000", "none"),
+            ("interface 1\nalternate 1", free, "000905", first),
+            ("interface 1\nalternate 1", free, "0009", "the number says it all"),
+            ("interface 1\nalternate 1", free, "", "the number says it all"),
+            ("interface 1\nalternate 2", free, "", "the list has no alternate 2 of interface 1"),
+            ("interface 1", free, "", "word a3840410: endpoint 81 is owned by interface 0"),
+            ("interface 1\nalternate 1", "1000 2000", "", "free rings: 0 of 2, endpoint words: 1"),
+        ] {
+            assert_eq!(claim(setting, given, outcomes).as_deref(), Some(expected), "{layer}");
+        }
+        let asked = |ask: &str| told(ask, free, "0000", layer);
+        assert_eq!(asked("ask\ninterface 1\nalternate 1"), None);
+        let owned = Some("word a3840410: endpoint 81 is owned by interface 0".to_string());
+        assert_eq!(asked("ask\ninterface 1"), owned);
+        assert_eq!(asked("commit\nasked 1 0 0 0"), owned);
+        assert_eq!(asked("commit\nasked 1 1 0 10 3000"), Some("none".to_string()));
+        assert_eq!(asked("commit\nasked 1 1 0 18 3000"), Some("the number says it all".to_string()));
+        assert_eq!(asked("release\ninterface 0"), None);
+    }
 }

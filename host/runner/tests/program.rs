@@ -1,4 +1,4 @@
-//! The program: the shipped scenario and cases, and lines that are not of the form.
+//! The program: the shipped scenarios and cases, and lines that are not of the form.
 
 use std::io::Write;
 use std::process::{Command, Output, Stdio};
@@ -71,6 +71,25 @@ fn the_shipped_cases() {
     shipped(include_str!("../scenarios/descriptors.txt"), include_str!("../scenarios/descriptors.out"), told);
     let told = include_str!("../scenarios/settings.explained");
     shipped(include_str!("../scenarios/settings.txt"), include_str!("../scenarios/settings.out"), told);
+    let told = include_str!("../scenarios/block.explained");
+    shipped(include_str!("../scenarios/block.txt"), include_str!("../scenarios/block.out"), told);
+}
+
+/// The original has no reasons. Each kind of reason is there.
+#[test]
+fn the_shipped_reasons() {
+    let (printed, told) = (include_str!("../scenarios/why.out"), include_str!("../scenarios/why.explained"));
+    shipped(include_str!("../scenarios/why.txt"), printed, told);
+    for kind in ["none", "alternate 2 0", "endpoint a3840410 0", "rings", "command 2 60001000", "number 15"] {
+        assert!(printed.contains(&format!("\nreason {kind}\n.\n")), "{kind}");
+    }
+    // 01's log: as the why says it, the claim behind it goes.
+    let answers: Vec<&str> = printed.lines().filter(|line| line.starts_with("answer 13 7 5")).collect();
+    assert_eq!((answers.len(), printed.matches("reason ").count()), (2, 14));
+    if runner::layer("original").is_some() {
+        let asked = run(&["--layer", "original", "-"], "scenario a\nwhy\ngo\nend\n");
+        assert_eq!(String::from_utf8_lossy(&asked.stdout), "no answer: NoSuchInput\n.\n");
+    }
 }
 
 /// What docs/SCENARIOS.md has as an example of settings.

@@ -4,7 +4,7 @@ use std::fmt::Write;
 
 use crate::call::{Asked, Record};
 use crate::descriptors::endpoint_text;
-use crate::reason::{address, alternate_words};
+use crate::fault::{address, alternate_words};
 
 /// The endpoint words of the setting that an interface holds.
 fn held_words(record: &Record, interface: u8) -> &[u32] {

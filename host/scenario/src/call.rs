@@ -109,6 +109,8 @@ pub enum Call {
     Ask(Claim),
     /// None: what the last accepted ask of the scenario returned, and without one nothing at all.
     Commit(Option<Asked>),
+    /// A claim that is asked for its reason only.
+    Why(Claim),
     Release {
         interface: u8,
     },
@@ -120,10 +122,10 @@ pub enum Call {
 }
 
 impl Call {
-    /// What a claim, an ask or a commit is about.
+    /// What a claim, an ask, a commit or a why is about.
     pub fn claimed(&self) -> Option<Claim> {
         match self {
-            Call::Claim(args) | Call::Ask(args) => Some(args.clone()),
+            Call::Claim(args) | Call::Ask(args) | Call::Why(args) => Some(args.clone()),
             Call::Commit(asked) => {
                 let (interface, alternate) = asked.as_ref().map_or((0, 0), |asked| (asked.interface, asked.alternate));
                 Some(Claim { interface, alternate })

@@ -4,6 +4,7 @@
 
 use std::fmt::{Debug, Write};
 
+use crate::block::{Block, Side};
 use crate::explain;
 use crate::raw::{RawRead, RawWrite};
 use crate::settings::{Conversion, Form};
@@ -29,6 +30,10 @@ pub trait Functions {
 
     /// And back.
     fn settings_to_old(&self, settings: &[u8], list: &[u32], bytes: &mut [u8]) -> Reply;
+
+    /// An endpoint's block in the input or the output context: the number, and the part of that context, empty where it is
+    /// refused.
+    fn endpoint_block<'a>(&self, input: &'a [u8], output: &'a [u8], from: Side, dci: u8) -> (u8, &'a [u8]);
 }
 
 /// A function with what it is given.
@@ -55,6 +60,7 @@ pub fn kind(name: &str) -> Option<Box<dyn Kind>> {
         RawWrite::NAME => Box::new(RawWrite::default()),
         Conversion::TO_NEW => Box::new(Conversion::to(Form::New)),
         Conversion::TO_OLD => Box::new(Conversion::to(Form::Old)),
+        Block::NAME => Box::new(Block::default()),
         _ => return None,
     })
 }

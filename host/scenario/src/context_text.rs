@@ -1,4 +1,4 @@
-//! An input context (xHCI 1.2, section 6.2) for people.
+//! Contexts (xHCI 1.2, section 6.2) for people: what a command reads of an input context, and an endpoint's block.
 
 use std::fmt::Write;
 
@@ -7,11 +7,12 @@ use std::fmt::Write;
 enum Told {
     Number,
     Hexadecimal,
+    EndpointState,
     EndpointType,
     /// The upper 60 bits of an address.
     Address,
 }
-use Told::{Address, EndpointType, Hexadecimal, Number};
+use Told::{Address, EndpointState, EndpointType, Hexadecimal, Number};
 
 /// A field of a context block: its name, doubleword, lowest bit and width.
 type Field = (&'static str, usize, u32, u32, Told);
@@ -41,19 +42,29 @@ const SLOT: [Field; 12] = [
     ("interrupter target", 2, 22, 10, Number),
 ];
 
-const ENDPOINT: [Field; 11] = [
-    ("type", 1, 3, 3, EndpointType),
+const TYPE: Field = ("type", 1, 3, 3, EndpointType);
+const INTERVAL: Field = ("interval", 0, 16, 8, Number);
+
+const ENDPOINT: [Field; 15] = [
+    ("state", 0, 0, 3, EndpointState),
+    TYPE,
     ("ring", 2, 4, 60, Address),
     ("cycle state", 2, 0, 1, Number),
     ("max packet size", 1, 16, 16, Number),
     ("max burst size", 1, 8, 8, Number),
     ("mult", 0, 8, 2, Number),
-    ("interval", 0, 16, 8, Number),
+    INTERVAL,
     ("average TRB length", 4, 0, 16, Number),
     ("max ESIT payload low", 4, 16, 16, Number),
+    ("max ESIT payload high", 0, 24, 8, Number),
     ("error count", 1, 1, 2, Number),
     ("max primary streams", 0, 10, 5, Number),
+    ("linear stream array", 0, 15, 1, Number),
+    ("host initiate disable", 1, 7, 1, Number),
 ];
+
+const STATES: [&str; 8] =
+    ["disabled", "running", "halted", "stopped", "error", "reserved (5)", "reserved (6)", "reserved (7)"];
 
 const TYPES: [&str; 8] =
     ["none", "isochronous OUT", "bulk OUT", "interrupt OUT", "control", "isochronous IN", "bulk IN", "interrupt IN"];
@@ -80,13 +91,14 @@ fn value(value: u64, told: Told) -> String {
     match told {
         Number => value.to_string(),
         Hexadecimal => format!("{value:x}"),
+        EndpointState => STATES[value as usize & 7].to_string(),
         EndpointType => TYPES[value as usize & 7].to_string(),
         Address => format!("{:x}", value << 4),
     }
 }
 
 /// An endpoint by its address.
-fn endpoint(dci: usize) -> String {
+pub fn endpoint(dci: usize) -> String {
     match dci {
         1 => "control".to_string(),
         _ => format!("endpoint {:02x} (Dci {dci})", (dci & 1) << 7 | dci >> 1),
@@ -142,5 +154,41 @@ pub fn explain_changes(out: &mut String, before: &[u8], after: &[u8]) {
     changed(out, "slot", &SLOT, before, after, spacing);
     for dci in 1..32 {
         changed(out, &endpoint(dci), &ENDPOINT, before, after, (1 + dci) * spacing);
+    }
+}
+
+/// How often an endpoint is served, where its type has a period: the interval counts in powers of two of 125 us.
+fn period(block: &[u8]) -> Option<String> {
+    let periodic = [1, 3, 5, 7].contains(&read(block, 0, TYPE));
+    let interval = read(block, 0, INTERVAL);
+    (periodic && interval <= 18).then(|| format!(", every {} us", 125u64 << interval))
+}
+
+/// The bits of a doubleword that no field names.
+fn unnamed(block: &[u8], dword: usize) -> u32 {
+    let named = |bit: &u32| {
+        let at = 32 * dword as u32 + bit;
+        ENDPOINT
+            .iter()
+            .any(|(_, of, low, width, _)| (32 * *of as u32 + low..32 * *of as u32 + low + width).contains(&at))
+    };
+    let rest = (0..32).filter(|bit| !named(bit)).fold(0, |bits, bit| bits | 1 << bit);
+    read(block, 0, ("", dword, 0, 32, Hexadecimal)) as u32 & rest
+}
+
+/// An endpoint's block of 32 or 64 bytes, a line for each field; then the doublewords that are reserved and not 0.
+pub fn explain_block(out: &mut String, block: &[u8]) {
+    for field in &ENDPOINT {
+        let value = value(read(block, 0, *field), field.4);
+        let period = if field.0 == INTERVAL.0 { period(block) } else { None };
+        // In the output context it is where the controller stands on it.
+        let name = if matches!(field.4, Address) { "ring (dequeue pointer)" } else { field.0 };
+        let _ = writeln!(out, "    {name:<22} {value}{}", period.unwrap_or_default());
+    }
+    for dword in 0..block.len() / 4 {
+        let rest = unnamed(block, dword);
+        if rest != 0 {
+            let _ = writeln!(out, "    reserved, doubleword {dword}: {rest:08x}");
+        }
     }
 }

@@ -6,8 +6,9 @@ use crate::asked_text::{explain_asked, explain_outdated};
 use crate::call::*;
 use crate::context_text::{explain_changes, explain_flags};
 use crate::descriptors::explain_words;
-use crate::layer::Layer;
-use crate::reason::reason;
+use crate::fault::fault;
+use crate::layer::{Layer, Made};
+use crate::reason::Named;
 use crate::record_text::explain_record;
 use crate::session::Left;
 
@@ -42,7 +43,8 @@ pub fn answer(number: u8) -> &'static str {
     }
 }
 
-fn command(word: u32) -> String {
+/// A command by its log word.
+pub fn command(word: u32) -> String {
     let (first, second) = (word >> 20 & 0xFF, word >> 12 & 0xFF);
     match word >> 28 {
         1 => "Address".to_string(),
@@ -74,6 +76,7 @@ fn title(call: &Call) -> String {
         Call::SetConfiguration { value } => format!("set configuration {value}"),
         Call::HubUpdate(args) => format!("hub update: {} ports, think time {} ns", args.ports, args.think),
         Call::Disconnect => "unplugging".to_string(),
+        Call::Why(args) => format!("why: a claim of interface {}, alternate {}", args.interface, args.alternate),
     }
 }
 
@@ -125,7 +128,41 @@ fn asked(out: &mut String, layer: &mut dyn Layer, given: &Given, left: &Left) {
     }
 }
 
+/// The answer in words, and why: of a claim, an ask or a commit the reason that the layer gives.
+fn answered(out: &mut String, layer: &mut dyn Layer, given: &Given, left: &Left) {
+    let Answer { number, code, .. } = left.answer;
+    let _ = write!(out, "  answer {number}: {}", answer(number));
+    let _ = if number == 13 { writeln!(out, ", with code {code}") } else { writeln!(out) };
+    if let Some(fault) = fault(number, given.call, given.record) {
+        let _ = writeln!(out, "    {fault}");
+    }
+    let Given { call, record, buffers } = *given;
+    let is_shown = matches!(call, Call::Ask(_)) && number == 0;
+    let made = Made { call, record, buffers, left: &left.record, answer: left.answer, log: &left.log };
+    if let Some(claim) = call.claimed().filter(|_| !is_shown)
+        && let Ok(reason) = layer.why(&made)
+    {
+        let named = Named { record, claim: &claim, outcomes: &buffers.outcomes };
+        let _ = writeln!(out, "    reason: {}", named.words(reason));
+    }
+}
+
+/// Why a claim gets its answer: the claim, made on copies, up to its reason.
+fn explain_why(out: &mut String, layer: &mut dyn Layer, given: &Given, args: &Claim) {
+    let (call, mut buffers) = (Call::Claim(args.clone()), given.buffers.clone());
+    let Ok((record, answer)) = layer.call(given.record, &call, &mut buffers) else {
+        return;
+    };
+    let Buffers { ctx, routes: table, log, .. } = buffers;
+    let left = Left { answer, record, log, ctx, table, asked: None, reason: None };
+    let given = Given { call: &call, ..*given };
+    commands(out, layer, &given, &left);
+    answered(out, layer, &given, &left);
+    out.push('\n');
+}
+
 /// What a call was given.
+#[derive(Clone, Copy)]
 pub struct Given<'a> {
     pub call: &'a Call,
     pub record: &'a Record,
@@ -135,17 +172,14 @@ pub struct Given<'a> {
 /// What a call did: its commands with their outcomes and what they read of the context, its answer, the routes that
 /// changed, and the record it returned. Of a bring-up also the list.
 pub fn explain_text(out: &mut String, layer: &mut dyn Layer, given: &Given, left: &Left) {
-    let Answer { number, code, .. } = left.answer;
     let _ = writeln!(out, "{}", title(given.call));
-    if let Call::BringUp(args) = given.call {
-        explain_words(out, &args.list);
+    match given.call {
+        Call::Why(args) => return explain_why(out, layer, given, args),
+        Call::BringUp(args) => explain_words(out, &args.list),
+        _ => {}
     }
     commands(out, layer, given, left);
-    let _ = write!(out, "  answer {number}: {}", answer(number));
-    let _ = if number == 13 { writeln!(out, ", with code {code}") } else { writeln!(out) };
-    if let Some(reason) = reason(number, given.call, given.record) {
-        let _ = writeln!(out, "    {reason}");
-    }
+    answered(out, layer, given, left);
     asked(out, layer, given, left);
     routes(out, &given.buffers.routes, &left.table);
     let was = (!matches!(given.call, Call::BringUp(_))).then_some(given.record);

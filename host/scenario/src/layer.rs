@@ -1,6 +1,7 @@
 //! Whoever answers calls: the proved library, the model, the original.
 
 use crate::call::*;
+use crate::reason::Reason;
 
 /// Why a layer gives no answer to a call. The library and the model always answer.
 #[derive(Clone, Copy, Debug, PartialEq, Eq, PartialOrd, Ord)]
@@ -18,12 +19,25 @@ pub type Outcome = Result<(Record, Answer), Cannot>;
 /// What an ask answers and, where it is accepted, returns. The record stays as it came.
 pub type Shown = Result<(Answer, Option<Asked>), Cannot>;
 
-/// What a call returns; of an accepted ask also what it shows.
+/// What a call returns; of an accepted ask also what it shows, and the reason where it is asked for.
 #[derive(Clone, Debug, PartialEq, Eq)]
 pub struct Called {
     pub record: Record,
     pub answer: Answer,
     pub asked: Option<Asked>,
+    pub reason: Option<Reason>,
+}
+
+/// A claim, an ask or a commit that was made.
+pub struct Made<'a> {
+    pub call: &'a Call,
+    /// The record and the memory that it was given.
+    pub record: &'a Record,
+    pub buffers: &'a Buffers,
+    /// What it left: its record, its answer, and its log.
+    pub left: &'a Record,
+    pub answer: Answer,
+    pub log: &'a [u32],
 }
 
 /// One method for each call. What a call leaves in the buffers it leaves in place.
@@ -37,13 +51,35 @@ pub trait Layer {
     fn hub_update(&mut self, record: &Record, args: &HubUpdate, buffers: &mut Buffers) -> Outcome;
     fn disconnect(&mut self, record: &Record, buffers: &mut Buffers) -> Outcome;
 
+    /// Why a claim, an ask or a commit got its answer. Nothing is changed.
+    fn why(&mut self, _made: &Made) -> Result<Reason, Cannot> {
+        Err(Cannot::NoSuchInput)
+    }
+
     fn called(&mut self, record: &Record, call: &Call, buffers: &mut Buffers) -> Result<Called, Cannot> {
-        if let Call::Ask(args) = call {
-            let (answer, asked) = self.ask(record, args, buffers)?;
-            return Ok(Called { record: record.clone(), answer, asked });
+        match call {
+            Call::Ask(args) => {
+                let (answer, asked) = self.ask(record, args, buffers)?;
+                Ok(Called { record: record.clone(), answer, asked, reason: None })
+            }
+            Call::Why(args) => {
+                let (answer, reason) = self.reason(record, args, buffers)?;
+                Ok(Called { record: record.clone(), answer, asked: None, reason: Some(reason) })
+            }
+            _ => {
+                let (record, answer) = self.call(record, call, buffers)?;
+                Ok(Called { record, answer, asked: None, reason: None })
+            }
         }
-        let (record, answer) = self.call(record, call, buffers)?;
-        Ok(Called { record, answer, asked: None })
+    }
+
+    /// What a claim would answer, and why. Nothing is changed: it is made on copies.
+    fn reason(&mut self, record: &Record, args: &Claim, buffers: &Buffers) -> Result<(Answer, Reason), Cannot> {
+        let mut lent = buffers.clone();
+        let (left, answer) = self.claim(record, args, &mut lent)?;
+        let call = &Call::Claim(args.clone());
+        let reason = self.why(&Made { call, record, buffers, left: &left, answer, log: &lent.log })?;
+        Ok((answer, reason))
     }
 
     fn call(&mut self, record: &Record, call: &Call, buffers: &mut Buffers) -> Outcome {
@@ -51,6 +87,7 @@ pub trait Layer {
             Call::BringUp(args) => self.bring_up(args, buffers),
             Call::Claim(args) => self.claim(record, args, buffers),
             Call::Ask(args) => Ok((record.clone(), self.ask(record, args, buffers)?.0)),
+            Call::Why(args) => Ok((record.clone(), self.reason(record, args, buffers)?.0)),
             Call::Commit(asked) => self.commit(record, asked.as_ref().unwrap_or(&Asked::default()), buffers),
             Call::Release { interface } => self.release(record, *interface, buffers),
             Call::SetConfiguration { value } => self.set_configuration(record, *value, buffers),

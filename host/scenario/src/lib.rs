@@ -3,12 +3,14 @@
 #![forbid(unsafe_code)]
 
 mod asked_text;
+mod block;
 mod call;
 mod case;
 mod clock;
 mod context_text;
 mod descriptors;
 mod explain;
+mod fault;
 mod layer;
 mod memory;
 mod parse;
@@ -20,15 +22,17 @@ mod session;
 mod settings;
 mod value;
 
+pub use block::{Block, Part, Side};
 pub use call::*;
 pub use case::{Case, Functions, Kind, Reply};
 pub use clock::{proper, start_clock, stop_clock};
 pub use explain::{Given, explain_text};
-pub use layer::{Called, Cannot, Layer, Outcome, Shown};
+pub use fault::fault;
+pub use layer::{Called, Cannot, Layer, Made, Outcome, Shown};
 pub use memory::{filled_bytes, filled_words};
 pub use parse::{Contents, Event, Malformed, Reader, parse};
 pub use print::{left_text, scenario_text, step_text};
 pub use raw::{BYTES_ROOM, RawRead, RawWrite, WORDS_ROOM};
-pub use reason::reason;
+pub use reason::Reason;
 pub use session::{Left, Session};
 pub use settings::{Conversion, Form, SETTINGS_ROOM, settings_fault};

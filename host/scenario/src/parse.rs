@@ -137,7 +137,7 @@ impl Building {
     fn argument(&mut self, key: &str, words: &mut Words) -> Parsed<bool> {
         match &mut self.step.call {
             Call::BringUp(args) => bring_up(args, key, words),
-            Call::Claim(args) | Call::Ask(args) => claim(args, key, words),
+            Call::Claim(args) | Call::Ask(args) | Call::Why(args) => claim(args, key, words),
             Call::Commit(asked) if key == "asked" => {
                 *asked = Some(what_was_asked(words)?);
                 Ok(true)
@@ -365,6 +365,7 @@ fn named(key: &str) -> Option<Call> {
         "claim" => Call::Claim(Claim::default()),
         "ask" => Call::Ask(Claim::default()),
         "commit" => Call::Commit(None),
+        "why" => Call::Why(Claim::default()),
         "release" => Call::Release { interface: 0 },
         "setconfig" => Call::SetConfiguration { value: 0 },
         "hubupdate" => Call::HubUpdate(HubUpdate::default()),

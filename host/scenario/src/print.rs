@@ -103,6 +103,15 @@ fn rings(out: &mut String, key: &str, rings: &[u64]) {
 pub fn left_text(out: &mut String, left: &Left) {
     let Answer { number, code, count } = left.answer;
     let _ = writeln!(out, "answer {number} {code} {count}");
+    match &left.reason {
+        None => memory(out, left),
+        Some(reason) => _ = writeln!(out, "reason {reason}"),
+    }
+    out.push_str(".\n");
+}
+
+/// What a call leaves beside its answer.
+fn memory(out: &mut String, left: &Left) {
     words(out, "log", &left.log);
     bytes(out, "ctx", &left.ctx);
     nonzero(out, "routes", left.table.iter().copied().enumerate());
@@ -112,7 +121,6 @@ pub fn left_text(out: &mut String, left: &Left) {
         Some(None) => out.push_str("asked\n"),
         Some(Some(returned)) => asked(out, returned),
     }
-    out.push_str(".\n");
 }
 
 fn bring_up(out: &mut String, args: &BringUp) {
@@ -149,6 +157,9 @@ pub fn step_text(out: &mut String, step: &Step) {
         }
         Call::Ask(args) => {
             let _ = writeln!(out, "ask\ninterface {}\nalternate {}", args.interface, args.alternate);
+        }
+        Call::Why(args) => {
+            let _ = writeln!(out, "why\ninterface {}\nalternate {}", args.interface, args.alternate);
         }
         Call::Commit(given) => {
             out.push_str("commit\n");

@@ -1,124 +1,95 @@
-//! What exactly is refused where the answer's number leaves it open: 4, 9, 10 and 21; and what an unplugging came to.
+//! Why a claim got its answer: as a value, as text, and in words.
 
-use crate::call::{BringUp, Call, Claim, GIVEN_ROOM, Record};
+use std::fmt;
 
-const CONFIGURATION: u32 = 0;
-const ALTERNATE: u32 = 1;
-const ENDPOINT: u32 = 2;
+use crate::call::{Claim, Record};
+use crate::explain::command;
+use crate::fault::{address, alternate_words};
 
-fn kind(word: u32) -> u32 {
-    word >> 30
+/// Why a claim got its answer; an ask and a commit too.
+#[derive(Clone, Copy, Debug, PartialEq, Eq, PartialOrd, Ord)]
+pub enum Reason {
+    /// It is accepted.
+    Nothing,
+    /// The missing alternate.
+    Alternate { interface: u8, alternate: u8 },
+    /// The first endpoint word whose address another interface owns, and that interface.
+    Endpoint { word: u32, owner: u8 },
+    /// The ring check.
+    Rings,
+    /// The first failed command: its place in the log, from 0, and its log word.
+    Command { place: usize, word: u32 },
+    /// The answer's number says it all.
+    Number(u8),
 }
 
-pub fn address(word: u32) -> u8 {
-    ((word >> 29 & 1) << 7 | word >> 25 & 15) as u8
-}
-
-/// What is wrong with a descriptor word by itself.
-fn word_fault(word: u32) -> Option<&'static str> {
-    let unused = match kind(word) {
-        CONFIGURATION => 22,
-        ALTERNATE => 14,
-        ENDPOINT => 2,
-        _ => return Some("its kind is 3"),
-    };
-    let endpoint = kind(word) == ENDPOINT;
-    let faults = [
-        (word & ((1 << unused) - 1) != 0, "unused bits are set"),
-        (endpoint && address(word) & 15 == 0, "its endpoint number is 0"),
-        (endpoint && word >> 23 & 3 == 0, "its endpoint type is 0"),
-    ];
-    faults.iter().find(|fault| fault.0).map(|fault| fault.1)
-}
-
-/// What is wrong with the last word of a list of which the words before are in order.
-fn place_fault(list: &[u32]) -> Option<&'static str> {
-    let (last, before) = list.split_last()?;
-    let count = |sought: u32| list.iter().filter(|word| kind(**word) == sought).count();
-    let mut interfaces: Vec<u32> = list.iter().filter(|w| kind(**w) == ALTERNATE).map(|w| w >> 22 & 0xFF).collect();
-    interfaces.sort();
-    interfaces.dedup();
-    let run = list.iter().rev().take_while(|word| kind(**word) == ENDPOINT).count();
-    let after_configuration = before.last().is_some_and(|word| kind(*word) == CONFIGURATION);
-    let faults = [
-        (before.is_empty() && kind(*last) != CONFIGURATION, "the list does not begin with a configuration"),
-        (kind(*last) == ENDPOINT && after_configuration, "an endpoint without an alternate"),
-        (run > 30, "the alternate's endpoint 31, and 30 are allowed"),
-        (interfaces.len() > 32, "the list's interface 33, and 32 are allowed"),
-        (count(CONFIGURATION) > 8, "the list's configuration 9, and 8 are allowed"),
-        (list.len() > 256, "256 words are allowed"),
-    ];
-    faults.iter().find(|fault| fault.0).map(|fault| fault.1)
-}
-
-/// The first word with which a list is not valid.
-fn list_fault(list: &[u32]) -> Option<String> {
-    let fault = |at: usize| word_fault(list[at]).or_else(|| place_fault(&list[..=at]));
-    let (at, what) = (0..list.len()).find_map(|at| Some((at, fault(at)?)))?;
-    Some(format!("word {} of {}, {:08x}: {what}", at + 1, list.len(), list[at]))
-}
-
-/// The endpoint words of the first matching alternate.
-pub fn alternate_words(list: &[u32], interface: u8, alternate: u8) -> &[u32] {
-    let sought = ALTERNATE << 30 | u32::from(interface) << 22 | u32::from(alternate) << 14;
-    let after = list.iter().position(|word| *word == sought).map_or(list.len(), |at| at + 1);
-    let count = list[after..].iter().take_while(|word| kind(**word) == ENDPOINT).count();
-    &list[after..after + count]
-}
-
-/// The first endpoint word whose address another interface owns.
-fn owner(record: &Record, args: &Claim) -> Option<String> {
-    let words = alternate_words(&record.list, args.interface, args.alternate);
-    let owner = |word: u32| record.endpoints.iter().find(|e| e.address == address(word) && e.owner != args.interface);
-    let (word, endpoint) = words.iter().find_map(|word| Some((word, owner(*word)?)))?;
-    Some(format!("word {word:08x}: endpoint {:02x} is owned by interface {}", endpoint.address, endpoint.owner))
-}
-
-/// Why a ring cannot be given after others.
-fn ring_fault(before: &[u64], ring: u64) -> Option<String> {
-    match ring {
-        0 => Some("ring 0 is none".to_string()),
-        _ if !ring.is_multiple_of(16) => Some(format!("ring {ring:x} is not a multiple of 16")),
-        _ if before.contains(&ring) => Some(format!("ring {ring:x} is given twice")),
-        _ => None,
+impl Reason {
+    pub fn kind(&self) -> &'static str {
+        match self {
+            Reason::Nothing => "none",
+            Reason::Alternate { .. } => "alternate",
+            Reason::Endpoint { .. } => "endpoint",
+            Reason::Rings => "rings",
+            Reason::Command { .. } => "command",
+            Reason::Number(_) => "number",
+        }
     }
 }
 
-/// The first ring that cannot be given, unless their number does not fit.
-fn given_fault(rings: &[u64]) -> Option<String> {
-    if !(1..=GIVEN_ROOM).contains(&rings.len()) {
-        return Some(format!("rings given: {}, and 1 to {GIVEN_ROOM} are allowed", rings.len()));
+/// What stands behind `reason` in the text of a scenario.
+impl fmt::Display for Reason {
+    fn fmt(&self, f: &mut fmt::Formatter<'_>) -> fmt::Result {
+        f.write_str(self.kind())?;
+        match self {
+            Reason::Nothing | Reason::Rings => Ok(()),
+            Reason::Alternate { interface, alternate } => write!(f, " {interface} {alternate}"),
+            Reason::Endpoint { word, owner } => write!(f, " {word:08x} {owner}"),
+            Reason::Command { place, word } => write!(f, " {place} {word:08x}"),
+            Reason::Number(number) => write!(f, " {number}"),
+        }
     }
-    (0..rings.len()).find_map(|at| ring_fault(&rings[..at], rings[at]))
 }
 
-/// How many rings are free, and how many are wanted.
-fn too_few(record: &Record, args: &Claim) -> Option<String> {
-    let (free, given) = (record.free().len(), record.given.len());
-    let wanted = alternate_words(&record.list, args.interface, args.alternate).len();
-    (free < wanted).then(|| format!("free rings: {free} of {given}, endpoint words: {wanted}"))
+/// What the words of a reason name beside it.
+pub struct Named<'a> {
+    pub record: &'a Record,
+    pub claim: &'a Claim,
+    pub outcomes: &'a [u8],
 }
 
-/// What Disable decided, or why it was not sent.
-fn unplugging(number: u8, record: &Record) -> Option<String> {
-    let text = match number {
-        0 => "Disable was done: every held setting has ended, and the slot has no route any more",
-        12 if !record.up => "the record is not up: its bring-up was not accepted, or it was unplugged before",
-        14 => "Disable failed: the routes stay, control's ring and every live one are in quarantine",
-        15 => "Disable has not been answered: routes and rings stay as they are",
-        _ => return None,
-    };
-    Some(text.to_string())
-}
+impl Named<'_> {
+    /// A reason for people.
+    pub fn words(&self, reason: Reason) -> String {
+        match reason {
+            Reason::Nothing => "none".to_string(),
+            Reason::Alternate { interface, alternate } => {
+                format!("the list has no alternate {alternate} of interface {interface}")
+            }
+            Reason::Endpoint { word, owner } => {
+                format!("word {word:08x}: endpoint {:02x} is owned by interface {owner}", address(word))
+            }
+            Reason::Rings => self.rings(),
+            Reason::Command { place, word } => self.command(place, word),
+            Reason::Number(14) => "no command failed: a route is not as it should be".to_string(),
+            Reason::Number(_) => "the number says it all".to_string(),
+        }
+    }
 
-/// The word, the owner or the ring that a call was refused for. None where the number says it all.
-pub fn reason(number: u8, call: &Call, record: &Record) -> Option<String> {
-    match (number, call) {
-        (4, Call::BringUp(BringUp { list, .. })) => list_fault(list),
-        (10, Call::BringUp(BringUp { rings, .. })) => given_fault(rings),
-        (9, _) => owner(record, &call.claimed()?),
-        (21, _) => too_few(record, &call.claimed()?),
-        (_, Call::Disconnect) => unplugging(number, record),
-        _ => None,
+    /// How many rings are free, and how many are wanted.
+    fn rings(&self) -> String {
+        let (free, given) = (self.record.free().len(), self.record.given.len());
+        let Claim { interface, alternate } = *self.claim;
+        let wanted = alternate_words(&self.record.list, interface, alternate).len();
+        format!("free rings: {free} of {given}, endpoint words: {wanted}")
+    }
+
+    /// The list of commands counts from 1, the log from 0.
+    fn command(&self, place: usize, word: u32) -> String {
+        let code = self.outcomes.get(place).map_or(String::new(), |code| format!(", with code {code}"));
+        format!(
+            "command {}, {}, failed first{code} (place {place} of the log, word {word:08x})",
+            place + 1,
+            command(word)
+        )
     }
 }

@@ -3,6 +3,7 @@
 use crate::call::*;
 use crate::layer::{Called, Cannot, Layer};
 use crate::memory::filled_words;
+use crate::reason::Reason;
 
 /// What a call leaves: its answer, the record, the log and context it was given, the whole table.
 #[derive(Clone, Debug, PartialEq, Eq)]
@@ -14,6 +15,8 @@ pub struct Left {
     pub table: Vec<u64>,
     /// Of an ask: what it returned, if it was accepted.
     pub asked: Option<Option<Asked>>,
+    /// Of a why.
+    pub reason: Option<Reason>,
 }
 
 #[derive(Clone, Debug, Default)]
@@ -30,8 +33,15 @@ impl Session {
         Session::default()
     }
 
-    /// A step's call, and the record and buffers that it is given.
+    /// A step's call, and the record and buffers that it is given. What a why is given no later call is.
     pub fn prepare(&mut self, step: &Step) -> (Call, Record, Buffers) {
+        match step.call {
+            Call::Why(_) => self.clone().prepared(step),
+            _ => self.prepared(step),
+        }
+    }
+
+    fn prepared(&mut self, step: &Step) -> (Call, Record, Buffers) {
         if let Call::BringUp(args) = &step.call {
             self.n = args.n;
         }
@@ -60,14 +70,18 @@ impl Session {
 
     /// Takes over what a call left.
     pub fn settle(&mut self, call: &Call, called: Called, buffers: Buffers) -> Left {
-        let Called { record, answer, asked } = called;
+        let Called { record, answer, asked, reason } = called;
+        if reason.is_some() {
+            let Buffers { ctx, routes: table, log, .. } = buffers;
+            return Left { answer, record, log, ctx, table, asked: None, reason };
+        }
         self.table[..buffers.routes.len()].copy_from_slice(&buffers.routes);
         self.record = record.clone();
         if asked.is_some() {
             self.asked.clone_from(&asked);
         }
         let asked = matches!(call, Call::Ask(_)).then_some(asked);
-        Left { answer, record, log: buffers.log, ctx: buffers.ctx, table: self.table.clone(), asked }
+        Left { answer, record, log: buffers.log, ctx: buffers.ctx, table: self.table.clone(), asked, reason }
     }
 
     pub fn run(&mut self, layer: &mut dyn Layer, step: &Step) -> Result<Left, Cannot> {

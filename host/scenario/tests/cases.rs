@@ -27,6 +27,16 @@ go
 case no settings
 tonew
 go
+case shown
+block
+ dci 3
+from output
+  output 0aFF
+input 00
+go
+case nothing shown
+block
+go
 ";
 
 /// Writes into all it is given: the count is the first byte's, or the words'.
@@ -53,6 +63,11 @@ impl Functions for Scribe {
     fn settings_to_old(&self, settings: &[u8], list: &[u32], bytes: &mut [u8]) -> Reply {
         self.settings_to_new(&settings[1..], list, bytes)
     }
+
+    fn endpoint_block<'a>(&self, input: &'a [u8], output: &'a [u8], from: Side, dci: u8) -> (u8, &'a [u8]) {
+        let shown = if from == Side::Input { input } else { output };
+        (0, &shown[usize::from(dci)..])
+    }
 }
 
 /// Refuses everything with one number.
@@ -73,6 +88,10 @@ impl Functions for Refuses {
 
     fn settings_to_old(&self, _: &[u8], _: &[u32], _: &mut [u8]) -> Reply {
         Reply { number: self.0, count: 0 }
+    }
+
+    fn endpoint_block<'a>(&self, _: &'a [u8], _: &'a [u8], _: Side, _: u8) -> (u8, &'a [u8]) {
+        (self.0, &[])
     }
 }
 
@@ -118,6 +137,8 @@ fn cases_and_scenarios_stand_in_one_file() {
         "case none\nrawread\nbytes\ngo\n".to_string(),
         "case settings\ntoold\nlist 00400000 40000000\nsettings 010800040c00\nroom 70\ngo\n".to_string(),
         "case no settings\ntonew\nlist\nsettings\ngo\n".to_string(),
+        "case shown\nblock\ninput 00\noutput 0aff\nfrom output\ndci 3\ngo\n".to_string(),
+        "case nothing shown\nblock\ninput\noutput\nfrom input\ndci 0\ngo\n".to_string(),
     ];
     assert_eq!(texts(&read.cases), expected);
     let again = parse(&texts(&read.cases).concat()).expect("the same");
@@ -141,6 +162,11 @@ fn the_first_bad_line_is_named() {
     assert_eq!(error("case a\ntonew\nbytes 00\n"), (3, "'tonew' has no 'bytes'".to_string()));
     assert_eq!(error("case a\ntoold\nsettings 00 01\n"), (3, "'01' is too much".to_string()));
     assert_eq!(error("case a\ntoold\nsettings 0\n").0, 3);
+    assert_eq!(error("case a\nblock\nroom 1\n"), (3, "'block' has no 'room'".to_string()));
+    assert_eq!(error("case a\nblock\nfrom both\n"), (3, "'both' is neither input nor output".to_string()));
+    assert_eq!(error("case a\nblock\nfrom\n"), (3, "the context is missing".to_string()));
+    assert_eq!(error("case a\nblock\ndci 256\n").0, 3);
+    assert_eq!(error("case a\nblock\ninput 0\n").0, 3);
     assert_eq!(error("case a\nrawread now\n").0, 2);
     assert_eq!(error("case a\nrawread\ngo now\n").0, 3);
     assert_eq!(error("case a\nrawread\ngo\nrawread\n").0, 4);
@@ -309,4 +335,87 @@ fn the_ground_of_a_23_is_told() {
     }
     let empty = explained(&Refuses(23), "tonew");
     assert!(empty.ends_with("not found\n    the list has no configuration\n\n"));
+}
+
+/// Where the part stands is worked out from its address.
+#[test]
+fn a_block_is_printed_with_its_place() {
+    let shown = |keys: &str| run(&Scribe, &format!("block\n{keys}"));
+    assert_eq!(shown("dci 1\ninput 0a0b0c\noutput 00"), "answer 0\npart 1 2\nbytes 0b0c\n.\n");
+    assert_eq!(shown("dci 2\nfrom input\ninput 0a0b0c"), "answer 0\npart 2 1\nbytes 0c\n.\n");
+    assert_eq!(shown("from output\ninput 0a0b0c\noutput 0d"), "answer 0\npart 0 1\nbytes 0d\n.\n");
+    assert_eq!(shown("dci 1\ninput 0a"), "answer 0\npart 0 0\nbytes\n.\n");
+    assert_eq!(run(&Refuses(4), "block\ninput 0a0b"), "answer 4\npart 0 0\nbytes\n.\n");
+}
+
+/// Each field of the block, by itself, and no other is told otherwise than where all is 0.
+#[test]
+fn a_block_is_told_field_by_field() {
+    let told = |bytes: &[u8]| -> Vec<String> {
+        let digits: String = bytes.iter().map(|byte| format!("{byte:02x}")).collect();
+        let text = explained(&Scribe, &format!("block\nfrom output\noutput {digits}"));
+        text.lines().skip(4).filter(|line| !line.is_empty()).map(|line| line.trim().to_string()).collect()
+    };
+    let none = told(&[0; 32]);
+    let names = ["state", "type", "ring (dequeue pointer)", "cycle state", "max packet size", "max burst size", "mult"];
+    let more = ["interval", "average TRB length", "max ESIT payload low", "max ESIT payload high", "error count"];
+    let last = ["max primary streams", "linear stream array", "host initiate disable"];
+    let starts: Vec<&str> = names.into_iter().chain(more).chain(last).collect();
+    assert_eq!(none.len(), starts.len());
+    assert!(none.iter().zip(&starts).all(|(line, name)| line.starts_with(name)), "{none:?}");
+    // Bits of xHCI 1.2, section 6.2.3: from, width, and what their greatest value reads.
+    for (from, width, line) in [
+        (0, 3, "state                  reserved (7)"),
+        (8, 2, "mult                   3"),
+        (10, 5, "max primary streams    31"),
+        (15, 1, "linear stream array    1"),
+        (16, 8, "interval               255"),
+        (24, 8, "max ESIT payload high  255"),
+        (33, 2, "error count            3"),
+        (35, 3, "type                   interrupt IN"),
+        (39, 1, "host initiate disable  1"),
+        (40, 8, "max burst size         255"),
+        (48, 16, "max packet size        65535"),
+        (64, 1, "cycle state            1"),
+        (68, 60, "ring (dequeue pointer) fffffffffffffff0"),
+        (128, 16, "average TRB length     65535"),
+        (144, 16, "max ESIT payload low   65535"),
+        (3, 5, "reserved, doubleword 0: 000000f8"),
+        (32, 1, "reserved, doubleword 1: 00000001"),
+        (38, 1, "reserved, doubleword 1: 00000040"),
+        (65, 3, "reserved, doubleword 2: 0000000e"),
+        (160, 32, "reserved, doubleword 5: ffffffff"),
+        (255, 1, "reserved, doubleword 7: 80000000"),
+        (256, 1, "reserved, doubleword 8: 00000001"),
+        (511, 1, "reserved, doubleword 15: 80000000"),
+    ] {
+        let mut bytes = [0; 64];
+        (from..from + width).for_each(|bit| bytes[bit / 8] |= 1 << (bit % 8));
+        let lines = told(&bytes);
+        let other: Vec<&String> = lines.iter().filter(|line| !none.contains(line)).collect();
+        // An interrupt endpoint has a period.
+        let expected = if from == 35 { vec![line, "interval               0, every 125 us"] } else { vec![line] };
+        assert_eq!(other, expected);
+    }
+    let states: Vec<String> = (0..6).map(|state| told(&[&[state][..], &[0; 31]].concat())[0].clone()).collect();
+    let named = ["disabled", "running", "halted", "stopped", "error", "reserved (5)"];
+    assert!(
+        states.iter().zip(named).all(|(line, name)| *line == format!("state                  {name}")),
+        "{states:?}"
+    );
+}
+
+#[test]
+fn a_block_is_told_with_what_is_lent() {
+    let text = explained(&Refuses(1), "block\ndci 31\ninput 0000");
+    let expected = "case one
+
+the block of endpoint 8f (Dci 31) in the input context; lent: input 2 bytes, output 0
+  answer 1: refused: lent must be 1056 bytes of input and 1024 of output, or 2112 and 2048
+
+";
+    assert_eq!(text, expected);
+    let text = explained(&Refuses(4), "block\nfrom output\ndci 32");
+    assert!(text.contains("the block of Dci 32 in the output context"), "{text}");
+    assert!(text.ends_with("  answer 4: refused: a Dci is 1 to 31\n\n"), "{text}");
 }

@@ -72,6 +72,7 @@ fn what_is_left_out_is_zero_or_empty() {
     assert_eq!(one("disconnect"), Step::new(Call::Disconnect));
     assert_eq!(one("ask\nalternate 2").call, Call::Ask(Claim { interface: 0, alternate: 2 }));
     assert_eq!(one("commit").call, Call::Commit(None));
+    assert_eq!(one("why\ninterface 9").call, Call::Why(Claim { interface: 9, alternate: 0 }));
     let asked = Asked { interface: 3, alternate: 255, drops: 8, adds: 0xFFFF_FFFC, rings: vec![0x2000, 16] };
     assert_eq!(one("commit\nasked 3 255 00000008 fffffffc 2000 10").call, Call::Commit(Some(asked)));
 }
@@ -152,6 +153,8 @@ fn the_first_bad_line_is_named() {
     assert_eq!(error("scenario a\ncommit\nasked 0 1 0 123456789\n").0, 3);
     assert_eq!(error("scenario a\ncommit\ninterface 1\n").0, 3);
     assert_eq!(error("scenario a\nask\nasked 0 1 0 0\n").0, 3);
+    assert_eq!(error("scenario a\nwhy\nasked 0 1 0 0\n").0, 3);
+    assert_eq!(error("scenario a\nwhy\nvalue 0\n").0, 3);
     assert_eq!(error("scenario a\nclaim\ngo\n").0, 3);
     assert_eq!(error("scenario\n").0, 1);
 }
@@ -182,8 +185,26 @@ impl Layer for Scribe {
         };
         Ok((record, Answer { number: 13, code: 9, count: 1 }))
     }
-    fn claim(&mut self, record: &Record, _: &Claim, _: &mut Buffers) -> Outcome {
-        Ok((record.clone(), Answer::default()))
+    fn claim(&mut self, record: &Record, args: &Claim, buffers: &mut Buffers) -> Outcome {
+        if args.interface != 77 {
+            return Ok((record.clone(), Answer::default()));
+        }
+        buffers.routes[0] = 7;
+        buffers.ctx.fill(7);
+        buffers.log[0] = 7;
+        Ok((Record { slot: record.slot + 1, ..Record::default() }, Answer { number: 13, code: 5, count: 1 }))
+    }
+    /// The slot of the record, and words and outcomes, so that it shows what is given.
+    fn why(&mut self, made: &Made) -> Result<Reason, Cannot> {
+        let claim = made.call.claimed().expect("a claim");
+        Ok(match claim.alternate {
+            0 => Reason::Endpoint { word: made.log[0], owner: made.left.slot },
+            1 => Reason::Command { place: made.answer.count, word: made.buffers.outcomes.len() as u32 },
+            2 => Reason::Number(made.answer.number),
+            3 => Reason::Alternate { interface: claim.interface, alternate: made.record.slot },
+            4 => Reason::Rings,
+            _ => Reason::Nothing,
+        })
     }
     fn ask(&mut self, _: &Record, args: &Claim, _: &Buffers) -> Shown {
         let Claim { interface, alternate } = *args;
@@ -263,4 +284,32 @@ fn what_an_ask_returned_is_printed_and_committed() {
     step_text(&mut text, &one("commit\nasked 5 1 8 18 30 20"));
     assert!(text.starts_with("commit\nasked 5 1 00000008 00000018 30 20\n"), "{text}");
     assert_eq!(one(text.trim_end().trim_end_matches("go")), one("commit\nasked 5 1 8 18 30 20"));
+}
+
+/// A why prints the claim's answer and its reason; no later call is lent or given anything of it.
+#[test]
+fn a_why_prints_a_reason_and_changes_nothing() {
+    let mut session = Session::new();
+    let up = one("bringup\nslot 1\nn 1\nrings 16\nctx 0a\nloglen 1\nroutes 60=7");
+    session.run(&mut Scribe, &up).expect("an answer");
+    let before = session.clone();
+    let mut why = |keys: &str| {
+        let step = one(&format!("why\ninterface 77\nctx 0b\nloglen 1\noutcomes 0005\n{keys}"));
+        let left = session.run(&mut Scribe, &step).expect("an answer");
+        assert_eq!(format!("{session:?}"), format!("{before:?}"));
+        let mut text = String::new();
+        left_text(&mut text, &left);
+        text
+    };
+    assert_eq!(why(""), "answer 13 5 1\nreason endpoint 00000007 2\n.\n");
+    assert_eq!(why("alternate 1"), "answer 13 5 1\nreason command 1 00000002\n.\n");
+    assert_eq!(why("alternate 2\nroutes 3=4\nrouteslen 100"), "answer 13 5 1\nreason number 13\n.\n");
+    assert_eq!(why("alternate 3\nrecord usable=1 slot=9"), "answer 13 5 1\nreason alternate 77 9\n.\n");
+    assert_eq!(why("alternate 4"), "answer 13 5 1\nreason rings\n.\n");
+    assert_eq!(why("alternate 5"), "answer 13 5 1\nreason none\n.\n");
+
+    let mut text = String::new();
+    step_text(&mut text, &one("why\ninterface 3\nalternate 255"));
+    assert!(text.starts_with("why\ninterface 3\nalternate 255\n"), "{text}");
+    assert_eq!(one(text.trim_end().trim_end_matches("go")), one("why\ninterface 3\nalternate 255"));
 }

@@ -4,7 +4,7 @@
 use std::num::NonZeroU8;
 
 use xhci_device::{
-    Asked, Attached, Bus, Call, Command, Dci, Due, Outcome, Pending, Read, Record, Setting, SlotId, route_index,
+    Asked, Attached, Bus, Call, Command, Dci, Due, Outcome, Pending, Read, Reason, Record, Setting, SlotId, route_index,
 };
 
 const SLOT: SlotId = SlotId(1);
@@ -70,6 +70,11 @@ impl Slot {
         let mut pending = Pending::new(&mut self.record, &mut self.ctx, call);
         let answer = pending.run(&mut self.routes, &mut Controller { failing });
         println!("  answer {}: {answer}", answer.number());
+        match pending.why() {
+            // The answer says it all.
+            None | Some(Reason::Nothing | Reason::Number(_)) => {}
+            Some(reason) => println!("  {reason}"),
+        }
         for Setting { interface, alternate } in self.record.held() {
             println!("  interface {interface} holds alternate {alternate}");
         }

@@ -5,7 +5,7 @@
 //! first. Where it is cut, the last command it logged is the next one to send, over the context that it left.
 
 use crate::learned::Learned;
-use crate::{Answer, Asked, BringUp, Bus, Command, Due, Memory, Outcome, Record, SlotId, UNREADABLE};
+use crate::{Answer, Asked, BringUp, Bus, Command, Due, Memory, Outcome, Reason, Record, SlotId, UNREADABLE};
 
 /// How many commands a call may send.
 const COMMANDS: usize = 64;
@@ -279,6 +279,33 @@ impl<'a> Pending<'a> {
     /// The outcomes so far.
     pub fn outcomes(&self) -> &[u8] {
         &self.outcomes[..self.told]
+    }
+
+    /// Why a claim or a commit that has ended got its answer. None before its end, and of any other call.
+    ///
+    /// ```
+    /// use xhci_device::{Answer, Call, Next, Pending, Reason, Record};
+    ///
+    /// # let (mut ctx, mut routes, mut log) = ([0; 1056], [0; 64], [0; 64]);
+    /// # let memory = xhci_device::Memory { ctx: &mut ctx, routes: &mut routes, log: &mut log, outcomes: &[0; 64] };
+    /// # let args = xhci_device::BringUp { slot: xhci_device::SlotId(1), n: 1, speed: 3, parent: None, port: 1,
+    /// #     root_port: 1, rings: &[0x1000], header: 8, packet: 64, value: 0, hubs: &[], list: &[0x0040_0000, 0x4000_0000] };
+    /// # let (mut record, _, _) = Record::bring_up(memory, &args);
+    /// let mut pending = Pending::new(&mut record, &mut ctx, Call::Claim { interface: 0, alternate: 0 });
+    /// assert!(matches!(pending.next(&mut routes), Next::Send(_)) && pending.why().is_none());
+    /// pending.outcome(Err(19.try_into().unwrap()));
+    /// assert!(matches!(pending.next(&mut routes), Next::Answer(Answer::Failed(19))));
+    /// let reason = pending.why().unwrap();
+    /// assert_eq!(reason, Reason::Command { place: 0, word: 0x3000_0000 });
+    /// assert_eq!(reason.to_string(), "the command at place 0 of the log failed first: Configure");
+    /// ```
+    pub fn why(&self) -> Option<Reason> {
+        let (interface, alternate) = match (self.state, &self.call) {
+            (State::Ended, Call::Claim { interface, alternate }) => (*interface, *alternate),
+            (State::Ended, Call::Commit(asked)) => (asked.interface(), asked.alternate()),
+            _ => return None,
+        };
+        Some(self.record.why(interface, alternate, (self.answer, self.count), &self.log, self.outcomes()))
     }
 
     /// Gives record and context back. Before the end this cuts the call.

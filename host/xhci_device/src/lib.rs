@@ -4,6 +4,7 @@
 
 mod answer;
 mod asked;
+mod block;
 mod bus;
 mod call;
 mod command;
@@ -13,17 +14,20 @@ pub mod layout;
 mod learned;
 mod library;
 mod raw;
+mod reason;
 mod record;
 mod settings;
 
 pub use answer::Answer;
 pub use asked::Asked;
+pub use block::{BlockRefusal, Context, endpoint_block};
 pub use bus::{Bus, Due, Outcome, Read, UNREADABLE};
 pub use call::{BringUp, Memory};
 pub use command::Command;
 pub use driver::{Attached, Call, Next, Pending};
 pub use hub::Hub;
 pub use raw::{READ_WORDS, RawRefusal, WRITE_BYTES, read_descriptors, write_descriptors};
+pub use reason::Reason;
 pub use record::{Configuration, Endpoint, Record, Setting};
 pub use settings::{SETTINGS_BYTES, SettingsRefusal, settings_to_new, settings_to_old};
 

@@ -2,8 +2,10 @@
 //! nothing else, and keeps no pointer; a `&mut` slice overlaps no other.
 #![allow(unsafe_code)]
 
+use core::ops::Range;
+
 use crate::layout::EP_ROOM;
-use crate::{Answer, Asked, BringUp, Memory, RawRefusal, SettingsRefusal};
+use crate::{Answer, Asked, BlockRefusal, BringUp, Dci, Memory, RawRefusal, SettingsRefusal};
 
 #[repr(C)]
 struct Answered {
@@ -28,6 +30,24 @@ struct Shown {
     drops: u32,
     adds: u32,
     count: usize,
+}
+
+/// A reason, by numbers.
+#[repr(C)]
+pub struct Why {
+    pub kind: u32,
+    pub interface: u8,
+    pub alternate: u8,
+    pub word: u32,
+    pub number: u32,
+    pub place: usize,
+}
+
+#[repr(C)]
+struct Placed {
+    answer: u32,
+    offset: usize,
+    length: usize,
 }
 
 unsafe extern "C" {
@@ -161,6 +181,17 @@ unsafe extern "C" {
         outcomes: *const u8,
         outcomes_len: usize,
     ) -> Answered;
+    fn xhci_device_why(
+        image: *const u64,
+        image_len: usize,
+        interface: u8,
+        alternate: u8,
+        answer: u32,
+        log: *const u32,
+        log_len: usize,
+        outcomes: *const u8,
+        outcomes_len: usize,
+    ) -> Why;
     fn xhci_device_read_descriptors(bytes: *const u8, bytes_len: usize, words: *mut u32, words_len: usize) -> Answered;
     fn xhci_device_write_descriptors(list: *const u32, list_len: usize, bytes: *mut u8, bytes_len: usize) -> Answered;
     fn xhci_device_settings_to_new(
@@ -179,6 +210,7 @@ unsafe extern "C" {
         bytes: *mut u8,
         bytes_len: usize,
     ) -> Answered;
+    fn xhci_device_block(input_len: usize, output_len: usize, from_output: u8, dci: u8) -> Placed;
 }
 
 fn told(answered: Answered) -> (Answer, usize) {
@@ -415,6 +447,25 @@ pub fn disconnect(image: &mut [u64], memory: Memory<'_>) -> (Answer, usize) {
     })
 }
 
+/// Of the answer's number, the words logged and the outcomes.
+pub fn why(image: &[u64], setting: (u8, u8), number: u8, log: &[u32], outcomes: &[u8]) -> Why {
+    let (interface, alternate) = setting;
+    // SAFETY: reads slices, of which pointer and length are given.
+    unsafe {
+        xhci_device_why(
+            image.as_ptr(),
+            image.len(),
+            interface,
+            alternate,
+            number.into(),
+            log.as_ptr(),
+            log.len(),
+            outcomes.as_ptr(),
+            outcomes.len(),
+        )
+    }
+}
+
 pub fn read_descriptors(bytes: &[u8], words: &mut [u32]) -> Result<usize, RawRefusal> {
     // SAFETY: each pointer comes with its slice's length, and the words are borrowed for this call alone.
     let answered =
@@ -456,6 +507,17 @@ pub fn settings_to_old(settings: &[u8], list: &[u32], bytes: &mut [u8]) -> Resul
         )
     };
     counted(answered, SettingsRefusal::of)
+}
+
+/// Lengths of input and output. Where the block stands in the one that is shown.
+pub fn block(lengths: [usize; 2], from_output: bool, dci: Dci) -> Result<Range<usize>, BlockRefusal> {
+    let [input, output] = lengths;
+    // SAFETY: takes numbers and returns numbers.
+    let placed = unsafe { xhci_device_block(input, output, from_output.into(), dci.0) };
+    match placed.answer {
+        0 => Ok(placed.offset..placed.offset + placed.length),
+        number => Err(BlockRefusal::of(number).expect("an answer of the function")),
+    }
 }
 
 #[cfg(test)]

@@ -6,7 +6,7 @@ use crate::layout::{
     LIST_ROOM, MAX_SLOTS, PORT_SPEED, QUARANTINED, QUARANTINED_COUNT, RING_ROOM, SLOT, SPACING, WORDS,
 };
 use crate::library::{self, Parts};
-use crate::{Answer, Asked, BringUp, Dci, Memory, SlotId};
+use crate::{Answer, Asked, BringUp, Dci, Memory, Reason, SlotId};
 
 /// A record: the image that the library reads and writes. A bring-up makes it.
 ///
@@ -170,6 +170,36 @@ impl Record {
     pub(crate) fn commit_shown(&mut self, memory: Memory<'_>, asked: &Asked) -> (Answer, usize) {
         let Asked { interface, alternate, drops, adds, .. } = *asked;
         library::commit(&mut self.words, memory, &Parts { interface, alternate, drops, adds, rings: asked.rings() })
+    }
+
+    /// Why a claim of an interface's alternate setting got its answer, or a commit of an ask for it: from the record, the
+    /// answer and count, and the log that it left, and from the outcomes that it was given. Nothing is changed.
+    ///
+    /// ```
+    /// use xhci_device::{Answer, BringUp, Memory, Reason, Record, SlotId};
+    ///
+    /// # let (mut ctx, mut routes, mut log) = ([0; 1056], [0; 64], [0; 64]);
+    /// # let memory = Memory { ctx: &mut ctx, routes: &mut routes, log: &mut log, outcomes: &[0; 64] };
+    /// # let args = BringUp { slot: SlotId(1), n: 1, speed: 3, parent: None, port: 1, root_port: 1,
+    /// #     rings: &[0x1000, 0x2000], header: 8, packet: 64, value: 0, hubs: &[],
+    /// #     list: &[0x0040_0000, 0x4000_0000, 0xA384_0410] };
+    /// # let (mut record, _, _) = Record::bring_up(memory, &args);
+    /// let outcomes = [0, 7, 0];
+    /// let memory = Memory { ctx: &mut ctx, routes: &mut routes, log: &mut log, outcomes: &outcomes };
+    /// let left = record.claim(memory, 0, 0);
+    /// assert_eq!(left, (Answer::Failed(7), 3));
+    /// let reason = record.why(0, 0, left, &log, &outcomes);
+    /// assert_eq!(reason, Reason::Command { place: 1, word: 0x6000_0000 });
+    ///
+    /// let memory = Memory { ctx: &mut ctx, routes: &mut routes, log: &mut log, outcomes: &[] };
+    /// let left = record.claim(memory, 0, 5);
+    /// let reason = record.why(0, 5, left, &log, &[]);
+    /// assert_eq!(reason.to_string(), "the list has no alternate 5 of interface 0");
+    /// ```
+    pub fn why(&self, interface: u8, alternate: u8, left: (Answer, usize), log: &[u32], outcomes: &[u8]) -> Reason {
+        let (answer, count) = left;
+        let logged = &log[..count.min(log.len())];
+        Reason::of(&library::why(&self.words, (interface, alternate), answer.number(), logged, outcomes))
     }
 
     /// The release of an interface.

@@ -7,8 +7,8 @@ use std::num::NonZeroU8;
 
 use random::{Device, N, ROUTES, Rng, World};
 use xhci_device::{
-    Answer, Attached, BringUp, Bus, Call, Command, Dci, Due, Memory, Next, Outcome, Pending, Read, Record, SlotId,
-    UNREADABLE, WRITE_BYTES, route_index, write_descriptors,
+    Answer, Attached, BringUp, Bus, Call, Command, Dci, Due, Memory, Next, Outcome, Pending, Read, Reason, Record,
+    SlotId, UNREADABLE, WRITE_BYTES, route_index, write_descriptors,
 };
 
 /// The most commands that a call sends.
@@ -153,8 +153,11 @@ impl Bus for Script<'_> {
     }
 }
 
+/// What a driven call told, why where it has ended, and what was written in between.
+type Driven = (Told, Option<Reason>, Vec<(usize, u64)>);
+
 /// Drives a call and drops it where no outcome is left. Words of other slots are written in between.
-fn drive(world: &mut World, call: &Call<'_>, mut script: Script<'_>, rng: &mut Rng) -> (Told, Vec<(usize, u64)>) {
+fn drive(world: &mut World, call: &Call<'_>, mut script: Script<'_>, rng: &mut Rng) -> Driven {
     let own = match call {
         Call::BringUp(attached) => attached.slot,
         _ => world.record.slot(),
@@ -164,15 +167,15 @@ fn drive(world: &mut World, call: &Call<'_>, mut script: Script<'_>, rng: &mut R
     let mut pending = Pending::new(record, ctx, call.clone());
     if script.outcomes.len() == COMMANDS && rng.once_in(2) {
         let answer = pending.run(routes, &mut script);
-        return ((answer, pending.log().to_vec()), written);
+        return ((answer, pending.log().to_vec()), pending.why(), written);
     }
     loop {
         let outcome = match pending.next(routes) {
-            Next::Answer(answer) => return ((answer, pending.log().to_vec()), written),
+            Next::Answer(answer) => return ((answer, pending.log().to_vec()), pending.why(), written),
             Next::Send(due) => script.outcome(&due),
         };
         let Some(outcome) = outcome else {
-            return ((Answer::Cut, pending.log().to_vec()), written);
+            return ((Answer::Cut, pending.log().to_vec()), pending.why(), written);
         };
         pending.outcome(outcome);
         let at = rng.below(ROUTES);
@@ -181,6 +184,17 @@ fn drive(world: &mut World, call: &Call<'_>, mut script: Script<'_>, rng: &mut R
             written.push((at, routes[at]));
         }
     }
+}
+
+/// Why the one-shot call got its answer, of a claim or a commit that a driver would have brought to its end.
+fn why(world: &World, call: &Call<'_>, (answer, log): &Told, outcomes: &[u8]) -> Option<Reason> {
+    let (interface, alternate) = match call {
+        Call::Claim { interface, alternate } => (*interface, *alternate),
+        Call::Commit(asked) => (asked.interface(), asked.alternate()),
+        _ => return None,
+    };
+    let reason = || world.record.why(interface, alternate, (*answer, log.len()), log, outcomes);
+    (*answer != Answer::Cut).then(reason)
 }
 
 #[test]
@@ -203,9 +217,10 @@ fn driven_calls_equal_one_shot_calls() {
 
         let (mut whole, mut steps) = (world.clone(), world.clone());
         let left = expected(&mut whole, &call, &device, &outcomes);
-        let (got, written) = drive(&mut steps, &call, Script::new(&device, &outcomes, &world.routes), &mut rng);
+        let (got, reason, written) = drive(&mut steps, &call, Script::new(&device, &outcomes, &world.routes), &mut rng);
         written.iter().for_each(|&(at, word)| whole.routes[at] = word);
         assert_eq!(got, left, "{call:?}");
+        assert_eq!(reason, why(&whole, &call, &left, &outcomes), "{call:?}");
         assert!(steps.record == whole.record, "{call:?}: the record");
         assert!(steps.ctx == whole.ctx, "{call:?}: the context");
         assert!(steps.routes == whole.routes, "{call:?}: the routes");

@@ -68,7 +68,7 @@ impl<Q: Question> Tally<Q> {
             let unmet = answers.iter().filter(|number| !self.answers.contains_key(&(kind, **number)));
             missing.extend(unmet.map(|number| format!("{kind} {number}")));
             if self.returned.get(kind).is_none_or(|count| *count == 0) {
-                missing.push(format!("{kind} and back"));
+                missing.push(format!("{kind}, {}", Q::RETURNED));
             }
         }
         let alone = |ground: &Q::Ground| self.grounds.get(ground).is_some_and(|(_, alone)| *alone > 0);
@@ -90,7 +90,7 @@ impl<Q: Question> Tally<Q> {
             let met = self.answers.iter().filter(|((of, _), _)| of == kind);
             let met: Vec<String> = met.map(|((_, number), count)| format!("{number}: {count}")).collect();
             let returned = self.returned.get(kind).unwrap_or(&0);
-            let _ = writeln!(text, "  {kind}: answers {}; there and back: {returned}", met.join(", "));
+            let _ = writeln!(text, "  {kind}: answers {}; {}: {returned}", met.join(", "), Q::RETURNED);
         }
         let _ = writeln!(text, "  grounds of {}:", Q::MALFORMED);
         for ground in Q::GROUNDS {

@@ -11,9 +11,10 @@ mod picture;
 mod records;
 mod settings;
 mod values;
+mod why;
 
 /// What the modules read, by its mark.
-const CHECKED: [&str; 39] = [
+const CHECKED: [&str; 41] = [
     "picture configuration",
     "picture alternate",
     "picture endpoint",
@@ -30,6 +31,7 @@ const CHECKED: [&str; 39] = [
     "operations",
     "outcomes",
     "fields",
+    "blocks",
     "image",
     "example image",
     "speeds",
@@ -45,6 +47,7 @@ const CHECKED: [&str; 39] = [
     "course claim",
     "course first claim",
     "asks",
+    "reasons",
     "course release",
     "course release of the idle interface 1",
     "course set configuration",

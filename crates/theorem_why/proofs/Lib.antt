@@ -1,0 +1,3 @@
+mod Owner
+pub mod Promises
+mod Said

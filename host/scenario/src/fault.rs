@@ -1,0 +1,107 @@
+//! What exactly a bring-up is refused for where the answer's number leaves it open, 4 and 10; and what an unplugging came to.
+
+use crate::call::{BringUp, Call, GIVEN_ROOM, Record};
+
+const CONFIGURATION: u32 = 0;
+const ALTERNATE: u32 = 1;
+const ENDPOINT: u32 = 2;
+
+fn kind(word: u32) -> u32 {
+    word >> 30
+}
+
+pub fn address(word: u32) -> u8 {
+    ((word >> 29 & 1) << 7 | word >> 25 & 15) as u8
+}
+
+/// What is wrong with a descriptor word by itself.
+fn word_fault(word: u32) -> Option<&'static str> {
+    let unused = match kind(word) {
+        CONFIGURATION => 22,
+        ALTERNATE => 14,
+        ENDPOINT => 2,
+        _ => return Some("its kind is 3"),
+    };
+    let endpoint = kind(word) == ENDPOINT;
+    let faults = [
+        (word & ((1 << unused) - 1) != 0, "unused bits are set"),
+        (endpoint && address(word) & 15 == 0, "its endpoint number is 0"),
+        (endpoint && word >> 23 & 3 == 0, "its endpoint type is 0"),
+    ];
+    faults.iter().find(|fault| fault.0).map(|fault| fault.1)
+}
+
+/// What is wrong with the last word of a list of which the words before are in order.
+fn place_fault(list: &[u32]) -> Option<&'static str> {
+    let (last, before) = list.split_last()?;
+    let count = |sought: u32| list.iter().filter(|word| kind(**word) == sought).count();
+    let mut interfaces: Vec<u32> = list.iter().filter(|w| kind(**w) == ALTERNATE).map(|w| w >> 22 & 0xFF).collect();
+    interfaces.sort();
+    interfaces.dedup();
+    let run = list.iter().rev().take_while(|word| kind(**word) == ENDPOINT).count();
+    let after_configuration = before.last().is_some_and(|word| kind(*word) == CONFIGURATION);
+    let faults = [
+        (before.is_empty() && kind(*last) != CONFIGURATION, "the list does not begin with a configuration"),
+        (kind(*last) == ENDPOINT && after_configuration, "an endpoint without an alternate"),
+        (run > 30, "the alternate's endpoint 31, and 30 are allowed"),
+        (interfaces.len() > 32, "the list's interface 33, and 32 are allowed"),
+        (count(CONFIGURATION) > 8, "the list's configuration 9, and 8 are allowed"),
+        (list.len() > 256, "256 words are allowed"),
+    ];
+    faults.iter().find(|fault| fault.0).map(|fault| fault.1)
+}
+
+/// The first word with which a list is not valid.
+fn list_fault(list: &[u32]) -> Option<String> {
+    let fault = |at: usize| word_fault(list[at]).or_else(|| place_fault(&list[..=at]));
+    let (at, what) = (0..list.len()).find_map(|at| Some((at, fault(at)?)))?;
+    Some(format!("word {} of {}, {:08x}: {what}", at + 1, list.len(), list[at]))
+}
+
+/// The endpoint words of the first matching alternate.
+pub fn alternate_words(list: &[u32], interface: u8, alternate: u8) -> &[u32] {
+    let sought = ALTERNATE << 30 | u32::from(interface) << 22 | u32::from(alternate) << 14;
+    let after = list.iter().position(|word| *word == sought).map_or(list.len(), |at| at + 1);
+    let count = list[after..].iter().take_while(|word| kind(**word) == ENDPOINT).count();
+    &list[after..after + count]
+}
+
+/// Why a ring cannot be given after others.
+fn ring_fault(before: &[u64], ring: u64) -> Option<String> {
+    match ring {
+        0 => Some("ring 0 is none".to_string()),
+        _ if !ring.is_multiple_of(16) => Some(format!("ring {ring:x} is not a multiple of 16")),
+        _ if before.contains(&ring) => Some(format!("ring {ring:x} is given twice")),
+        _ => None,
+    }
+}
+
+/// The first ring that cannot be given, unless their number does not fit.
+fn given_fault(rings: &[u64]) -> Option<String> {
+    if !(1..=GIVEN_ROOM).contains(&rings.len()) {
+        return Some(format!("rings given: {}, and 1 to {GIVEN_ROOM} are allowed", rings.len()));
+    }
+    (0..rings.len()).find_map(|at| ring_fault(&rings[..at], rings[at]))
+}
+
+/// What Disable decided, or why it was not sent.
+fn unplugging(number: u8, record: &Record) -> Option<String> {
+    let text = match number {
+        0 => "Disable was done: every held setting has ended, and the slot has no route any more",
+        12 if !record.up => "the record is not up: its bring-up was not accepted, or it was unplugged before",
+        14 => "Disable failed: the routes stay, control's ring and every live one are in quarantine",
+        15 => "Disable has not been answered: routes and rings stay as they are",
+        _ => return None,
+    };
+    Some(text.to_string())
+}
+
+/// The word or the ring that a bring-up was refused for, or how an unplugging went. None where the number says it all.
+pub fn fault(number: u8, call: &Call, record: &Record) -> Option<String> {
+    match (number, call) {
+        (4, Call::BringUp(BringUp { list, .. })) => list_fault(list),
+        (10, Call::BringUp(BringUp { rings, .. })) => given_fault(rings),
+        (_, Call::Disconnect) => unplugging(number, record),
+        _ => None,
+    }
+}
