@@ -8,6 +8,7 @@
 #include "xhci_device_driver.h"
 
 enum { CALLS = 100000, N = 3, ROUTES = XHCI_DEVICE_ROUTES_OF_SLOT * (N + 1), MOST_CONFIGURATIONS = 12, OUTCOMES = 64 };
+enum { ANSWERS = XHCI_DEVICE_NOT_CLAIMED + 1 };
 
 /* What one slot and the table hold. */
 struct world {
@@ -308,7 +309,7 @@ static void begin_anew(struct world *w) {
 int main(void) {
     static struct world now, whole;
     static struct xhci_device_pending call;
-    size_t i, sent = 0, unplugged = 0, answers[23] = {0};
+    size_t i, sent = 0, unplugged = 0, answers[ANSWERS] = {0};
     begin_anew(&now);
     for (i = 0; i < CALLS; i++) {
         uint32_t log[XHCI_DEVICE_LOG_WORDS];
@@ -342,12 +343,12 @@ int main(void) {
         unplugged += s.kind == 5 && left.answer == XHCI_DEVICE_ACCEPTED;
     }
     printf("%d calls, %zu commands: each driven call leaves what the one-shot call leaves\n", (int)CALLS, sent);
-    if (unplugged == 0) {
-        printf("no unplugging was accepted\n");
+    if (unplugged == 0 || answers[XHCI_DEVICE_NOT_CLAIMED] == 0) {
+        printf("no unplugging was accepted, or no release refused\n");
         return EXIT_FAILURE;
     }
     printf("answers:");
-    for (i = 0; i < 23; i++) {
+    for (i = 0; i < ANSWERS; i++) {
         printf(" %zu: %zu", i, answers[i]);
     }
     printf("\n");

@@ -76,7 +76,7 @@ enum {
     XHCI_DEVICE_HUB_CHAIN = 5,
     XHCI_DEVICE_SPEED = 6,
     XHCI_DEVICE_THINK_TIME = 7,
-    XHCI_DEVICE_NOT_FOUND = 8,
+    XHCI_DEVICE_NOT_FOUND = 8,          /* a claim: the list has no such alternate */
     XHCI_DEVICE_INVALID_PARAMETER = 9,  /* an address that another interface owns */
     XHCI_DEVICE_RINGS = 10,             /* bring-up: not 1 to 64 rings, or one is no nonzero multiple of 16 or twice there */
     XHCI_DEVICE_SLOT_LIMIT_REACHED = 11,
@@ -92,7 +92,8 @@ enum {
     XHCI_DEVICE_TOO_FEW_RINGS = 21,     /* a claim: fewer free rings than endpoint words */
     XHCI_DEVICE_OUTDATED_ASK = 22,      /* a commit: an ask would now return something else */
     XHCI_DEVICE_SETTINGS = 23,          /* settings of old boards: malformed, or not found in their configuration */
-    XHCI_DEVICE_OTHER_CONFIGURATION = 24    /* the same, going back: of another configuration than the list's first */
+    XHCI_DEVICE_OTHER_CONFIGURATION = 24,   /* the same, going back: of another configuration than the list's first */
+    XHCI_DEVICE_NOT_CLAIMED = 25        /* a release: the interface holds no setting */
 };
 
 /* The answer in words. */
@@ -123,6 +124,7 @@ static inline const char *xhci_device_answer_name(uint32_t answer) {
     case XHCI_DEVICE_OUTDATED_ASK: return "the ask is outdated";
     case XHCI_DEVICE_SETTINGS: return "the settings are malformed or not found";
     case XHCI_DEVICE_OTHER_CONFIGURATION: return "the settings are of another configuration than the first";
+    case XHCI_DEVICE_NOT_CLAIMED: return "the interface is not claimed";
     default: return "an answer without a name";
     }
 }
@@ -281,7 +283,7 @@ struct xhci_device_reason xhci_device_why(
     const uint64_t *image, size_t image_len, uint8_t interface, uint8_t alternate, uint32_t answer,
     const uint32_t *log, size_t log_len, const uint8_t *outcomes, size_t outcomes_len);
 
-/* The release of an interface. */
+/* The release of an interface: it gives up the setting that it holds. 25, and nothing is changed, if it holds none. */
 struct xhci_device_answered xhci_device_release(
     uint64_t *image, size_t image_len, uint8_t *ctx, size_t ctx_len, uint64_t *routes, size_t routes_len,
     uint32_t *log, size_t log_len, const uint8_t *outcomes, size_t outcomes_len, uint8_t interface);

@@ -1,7 +1,7 @@
 -- Answers by their numbers.
-use Prim.Native.Nat.{ℕ, ◌+◌}
+use Prim.Native.Nat.{ℕ, ◌+◌, ◌≤◌, ◌<◌}
 use mathlib.Core.Path.{◌≡◌, refl, sym, ap, ◌∙◌}
-use mathlib.Core.Logic.{inl, inr}
+use mathlib.Core.Logic.{◌⊎◌, inl, inr}
 use mathlib.Core.Bool.{true, false, cond}
 use mathlib.Core.List.{List}
 use native.Mathlib.Omega.{arith}
@@ -16,9 +16,9 @@ use Rattle.answer.specs.contracts.Answer.{enum, the_type}
 use Rattle.answer.specs.declared.Answer.{Answer}
 use Rattle.answer.specs.Answer.{number}
 
--- The number of the answer at a place of the enum: 20 is no answer of a call.
+-- The number of the answer at a place of the enum: 20, 23 and 24 are no answers of a call.
 abbrev pub number_at : ℕ → ℕ
-number_at place = cond (ltb place 20) place (place + 1)
+number_at place = cond (ltb place 20) place (cond (ltb place 22) (place + 1) (place + 3))
 
 -- an answer's place says its number
 pub tag_number : (a : Answer) (place : ℕ) → tag_of the_type a ≡ place → number a ≡ number_at place
@@ -27,14 +27,31 @@ tag_number a place e =
     sym (eqb-true (number_at (tag_of the_type a)) (number a) (each_value enum (λ x. eqb (number_at (tag_of the_type x)) (number x)) refl (λ v. refl, tt) a))
     ∙ ap number_at e
 
-number_once : (i j : ℕ) → number_at i ≡ number_at j → i ≡ j
-number_once i j = go (decided (ltb i 20)) (decided (ltb j 20))
+-- what it is
+abbrev Is : ℕ → ℕ → Type 0
+Is i n = ((i < 20) × (n ≡ i)) ⊎ (((20 ≤ i) × (i < 22) × (n ≡ i + 1)) ⊎ ((22 ≤ i) × (n ≡ i + 3)))
+
+number_is : (i : ℕ) → Is i (number_at i)
+number_is i = go (decided (ltb i 20)) (decided (ltb i 22))
   where
-    go : Decided (ltb i 20) → Decided (ltb j 20) → number_at i ≡ number_at j → i ≡ j
-    go (inl p) (inl q) e = rw (p, q) at e
-    go (inl p) (inr q) e = let z : i ≡ j + 1 = rw (p, q) at e in absurd (omega (arith, z, ltb-true i 20 p, ltb-false j 20 q))
-    go (inr p) (inl q) e = let z : i + 1 ≡ j = rw (p, q) at e in absurd (omega (arith, z, ltb-false i 20 p, ltb-true j 20 q))
-    go (inr p) (inr q) e = let z : i + 1 ≡ j + 1 = rw (p, q) at e in omega (arith, z)
+    go : Decided (ltb i 20) → Decided (ltb i 22) → Is i (number_at i)
+    go (inl p) q = inl (ltb-true i 20 p, rw p refl)
+    go (inr p) (inl q) = inr (inl (ltb-false i 20 p, ltb-true i 22 q, rw (p, q) refl))
+    go (inr p) (inr q) = inr (inr (ltb-false i 22 q, rw (p, q) refl))
+
+number_once : (i j : ℕ) → number_at i ≡ number_at j → i ≡ j
+number_once i j e = go (number_at i) (number_at j) e (number_is i) (number_is j)
+  where
+    go : (n m : ℕ) → n ≡ m → Is i n → Is j m → i ≡ j
+    go n m z (inl p) (inl q) = omega (arith, p.1, q.1)
+    go n m z (inl p) (inr (inl q)) = absurd (omega (arith, p.0, p.1, q.0, q.2))
+    go n m z (inl p) (inr (inr q)) = absurd (omega (arith, p.0, p.1, q.0, q.1))
+    go n m z (inr (inl p)) (inl q) = absurd (omega (arith, p.0, p.2, q.0, q.1))
+    go n m z (inr (inl p)) (inr (inl q)) = omega (arith, p.2, q.2)
+    go n m z (inr (inl p)) (inr (inr q)) = absurd (omega (arith, p.1, p.2, q.0, q.1))
+    go n m z (inr (inr p)) (inl q) = absurd (omega (arith, p.0, p.1, q.0, q.1))
+    go n m z (inr (inr p)) (inr (inl q)) = absurd (omega (arith, p.0, p.1, q.1, q.2))
+    go n m z (inr (inr p)) (inr (inr q)) = omega (arith, p.1, q.1)
 
 -- An answer of an arm for all but those of ks.
 abbrev pub AnyBut : List ℕ → Answer → Type 0

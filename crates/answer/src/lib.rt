@@ -30,6 +30,7 @@ pub enum Answer {
     PacketExponent,
     TooFewRings,
     OutdatedAsk,
+    NotClaimed,
 }
 
 // The documents' number of an answer. Not a `From`: an answer has two numbers, this one and its code.
@@ -60,6 +61,7 @@ pub fn answer_number(a: Answer) -> u8
         Answer::PacketExponent => 19,
         Answer::TooFewRings => 21,
         Answer::OutdatedAsk => 22,
+        Answer::NotClaimed => 25,
     }
 }
 

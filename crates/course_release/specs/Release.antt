@@ -12,7 +12,7 @@ use Rattle.course_steps.specs.End.{End, settings_kept, move_routes, configure_fa
 use Rattle.course_steps.specs.Arrays.{dcis_in, queues_in}
 use Rattle.course_release.specs.declared.ReleaseArgs.{ReleaseArgs}
 
--- What a release works on: the interface's setting, alternate 0 where none is held.
+-- What a release works on: the interface's setting.
 pub record Release : Type 0 where
   pub slot : ℕ
   pub spacing : ℕ

@@ -13,7 +13,7 @@ use course_steps::CourseEnd;
 use def::SlotId;
 use record_endpoint::Queues;
 
-// The interface's setting (alternate 0 where it holds none), its endpoints, and all endpoints of the record. Copies alone: its words
+// The interface's setting, its endpoints, and all endpoints of the record. Copies alone: its words
 // are lent beside it, so that no lifetime stands in its type.
 #[derive(Clone, Copy)]
 pub struct ReleaseArgs {

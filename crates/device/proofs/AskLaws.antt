@@ -12,7 +12,7 @@ use lib.ListN.{length, take}
 use lib.Seq.{length-take-le}
 use Rattle.answer.specs.declared.Answer.{Answer}
 use Rattle.answer.specs.declared.Answer.TheVariants as answer
-use Rattle.answer.specs.Check.{Check, Pass, Refuse}
+use Rattle.answer.specs.Check.{Check, Pass, Refuse, check_of, CheckedAs}
 use Rattle.context_block.specs.Flags.{flags_of}
 use Rattle.descriptor_list.specs.declared.EndpointWords.{EndpointWords}
 use Rattle.descriptor_list.specs.Lookup.{find_endpoints}
@@ -23,7 +23,7 @@ use Rattle.record_endpoint.specs.Endpoint.{padded}
 use Rattle.record_settings.specs.Held.{is_held, is_found, alternate_of, setting_words}
 use Rattle.record_settings.specs.Match.{addresses_free}
 use Rattle.record_settings.proofs.Laws.{setting_length}
-use Rattle.record_checks.specs.Draw.{check_of, CheckedAs, same_rings}
+use Rattle.record_checks.specs.Draw.{same_rings}
 use Rattle.device.specs.declared.record.Device.{Device}
 use Rattle.device.specs.declared.ask.Preview.{Preview}
 use Rattle.device.specs.Device.{list_of, endpoint_map_in, held_of, given_of, free_of}
@@ -169,7 +169,7 @@ module _ (d : Device) (ctx routes log : ℕ) (p : Ask) (found : Option EndpointW
 
   pub commit_refused : (z : Answer) → claims (Err z) → commits (Err z)
   unfolding check_of
-  commit_refused z e = record { check = ask_refused d ctx routes log p.interface p.alternate (Refuse z) _ e.check z refl; words = e.words }
+  commit_refused z e = record { check = ask_refused d ctx routes log p.interface p.alternate (Refuse z) _ e.check z refl; value = e.value }
 
   module _ (words : EndpointWords) (e : claims (Ok words)) (b : Bool) (same : b ≡ same_ask p (ask_of d p.interface p.alternate)) where
     last_as : current_check d p ≡ ask_check d ctx routes log p.interface p.alternate (current_check d p)
@@ -179,11 +179,11 @@ module _ (d : Device) (ctx routes log : ℕ) (p : Ask) (found : Option EndpointW
     pub commit_outdated : b ≡ false → commits (Err answer.OutdatedAsk)
     unfolding check_of
     commit_outdated h =
-        record { check = outdated d p b same h ∙ last_as; words = λ w q. let z : ◌≡◌ {A = ℕ} 0 1 = cc in absurd (omega arith) }
+        record { check = outdated d p b same h ∙ last_as; value = λ w q. let z : ◌≡◌ {A = ℕ} 0 1 = cc in absurd (omega arith) }
 
     pub commit_current : b ≡ true → commits (Ok words)
     unfolding check_of
-    commit_current h = record { check = current d p b same h ∙ last_as; words = e.words }
+    commit_current h = record { check = current d p b same h ∙ last_as; value = e.value }
 
 -- What a claim goes on from: the checks of a claim, whatever followed them.
 pub passed_first : (d : Device) (ctx routes log i a : ℕ) (next : Check) → ask_check d ctx routes log i a next ≡ Pass → ask_check d ctx routes log i a Pass ≡ Pass
@@ -198,4 +198,4 @@ pub ready : (d : Device) (ctx routes log i a : ℕ) (next : Check) (r : Result E
     CheckedAs r (ask_check d ctx routes log i a next) (find_endpoints (list_of d) i a) → (words : EndpointWords) → r ≡ Ok words →
     (ask_check d ctx routes log i a Pass ≡ Pass) × (find_endpoints (list_of d) i a ≡ Some words)
 unfolding check_of
-ready d ctx routes log i a next r e words h = (passed_first d ctx routes log i a next (sym e.check ∙ rw h), e.words words h)
+ready d ctx routes log i a next r e words h = (passed_first d ctx routes log i a next (sym e.check ∙ rw h), e.value words h)

@@ -13,7 +13,7 @@ use Rattle.answer.specs.declared.Answer.{Answer}
 use Rattle.answer.specs.declared.Answer.TheVariants as answer
 use Rattle.answer.specs.Answer.{is_broken}
 use Rattle.answer.specs.contracts.AnswerPartialEq.TheImpl as answers
-use Rattle.answer.specs.Check.{Check, Pass, Refuse}
+use Rattle.answer.specs.Check.{Check, Pass, Refuse, check_of, CheckedAs}
 use Rattle.descriptor_list.specs.declared.EndpointWords.{EndpointWords}
 use Rattle.descriptor_list.specs.Lookup.{find_endpoints}
 use Rattle.command.specs.Course.{played}
@@ -30,7 +30,7 @@ use Rattle.record_endpoint.specs.declared.queues.Queues.{Queues}
 use Rattle.record_endpoint.specs.EndpointMap.{owned_rings, pending_rings, claimed_endpoints, with_active, QueuesAs}
 use Rattle.record_settings.specs.Held.{Held, is_held, alternate_of, held_alternate, found_words, setting_words, with_setting}
 use Rattle.record_settings.proofs.Laws.{held_alternate_is}
-use Rattle.record_checks.specs.Draw.{draw_check, check_of, CheckedAs}
+use Rattle.record_checks.specs.Draw.{draw_check}
 use Rattle.course_steps.specs.declared.CourseEnd.{CourseEnd}
 use Rattle.course_steps.specs.Arrays as arrays
 use Rattle.course_steps.proofs.Laws.{queues_as}
@@ -106,7 +106,7 @@ module _ (d : Device) (i alt : ℕ) where
     claim_refused a p =
         record {
           check = sym p ∙ refused_first d ctx routes log x (claim_check d i alt Pass) k a p;
-          words = λ found q. let z : ◌≡◌ {A = ℕ} 0 1 = cc in absurd (omega arith);
+          value = λ found q. let z : ◌≡◌ {A = ℕ} 0 1 = cc in absurd (omega arith);
         }
 
     -- the call's own, after them
@@ -118,7 +118,7 @@ module _ (d : Device) (i alt : ℕ) where
     claim_checked c free r p h f e =
         record {
           check = own_check d ctx routes log x (claim_check d i alt Pass) k p (check_of r) (e.check ∙ rw (h, f));
-          words = e.words;
+          value = e.value;
         }
 
 -- the free rings of a record without quarantined ones

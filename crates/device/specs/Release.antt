@@ -1,12 +1,12 @@
 -- The release of an interface.
 use Rattle.std.specs.Prelude.{ℕ, cond, List, length, replicate}
-use Rattle.answer.specs.Check.{Check}
+use Rattle.answer.specs.declared.Answer.TheVariants as answer
+use Rattle.answer.specs.Check.{Check, Pass, unless}
 use Rattle.command.specs.Course.{played}
 use Rattle.record_endpoint.specs.Order.{PLACES}
 use Rattle.record_endpoint.specs.declared.endpoint_map.Owner.TheVariants.{Interface}
 use Rattle.record_endpoint.specs.EndpointMap.{owned_rings, queues_of, queue_dcis, claimed_endpoints, with_active}
-use Rattle.record_settings.specs.Held.{alternate_of, setting_words, without_setting}
-use Rattle.record_checks.specs.Draw.{held_check}
+use Rattle.record_settings.specs.Held.{is_held, alternate_of, setting_words, without_setting}
 use Rattle.course_steps.specs.End.{End}
 use Rattle.course_release.specs.Release.{Release, release_course}
 use Rattle.device.specs.declared.record.Device.{Device}
@@ -15,11 +15,11 @@ use Rattle.device.specs.Left.{Left, refused, marked, ended}
 use Rattle.device.specs.Check.{record_check}
 use Rattle.device.specs.Calls.{on_check}
 
--- 8, for an unclaimed interface without alternate 0 only.
+-- 25: the interface holds no setting.
 unfoldable pub release_check : Device → ℕ → Check
-release_check d interface = held_check (list_of d) (held_of d) interface
+release_check d interface = unless (is_held interface (held_of d)) answer.NotClaimed Pass
 
--- What the course of a release works on: the held alternate, or alternate 0.
+-- What the course of a release works on: the held setting.
 unfoldable pub release_in : Device → ℕ → Release
 release_in d interface =
     let alternate = alternate_of interface (held_of d) in

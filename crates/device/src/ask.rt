@@ -1,13 +1,12 @@
 // A claim in two calls: the ask shows what it would do, the commit does it.
 ghost use Rattle.std.specs.Prelude.{◌≡◌, true, ◌&&◌, Some};
 ghost use Rattle.answer.specs.declared.Answer.TheVariants as answers;
-ghost use Rattle.answer.specs.Check.{Pass};
+ghost use Rattle.answer.specs.Check.{Pass, CheckedAs};
 ghost use Rattle.descriptor_list.specs.Lookup.{find_endpoints};
 ghost use Rattle.device.specs.Device.{list_of};
 ghost use Rattle.device.specs.Sound.{sound};
 ghost use Rattle.device.specs.Left.{leaves};
 ghost use Rattle.device.specs.Claim.{claim_check};
-ghost use Rattle.record_checks.specs.Draw.{CheckedAs};
 ghost use Rattle.device.specs.Ask.{ask_in, no_ask, ask_of, ask_check, ask, same_ask, current_check, commit, PreviewAs};
 
 use super::record::{Called, Device};

@@ -1,13 +1,12 @@
 // The claim of an interface's alternate setting.
 ghost use Rattle.std.specs.Prelude.{◌≡◌, ◌≤◌, ℕ, List, [], Some, Ok, length, take};
 ghost use Rattle.std.specs.Option.{option_map_or};
-ghost use Rattle.answer.specs.Check.{Pass};
+ghost use Rattle.answer.specs.Check.{Pass, check_of, CheckedAs};
 ghost use Rattle.descriptor_list.specs.declared.EndpointWords as words;
 ghost use Rattle.descriptor_list.specs.Lookup.{find_endpoints};
 ghost use Rattle.record_ring.specs.Rings.{entered};
 ghost use Rattle.record_endpoint.specs.EndpointMap.{QueuesAs};
 ghost use Rattle.record_settings.specs.Held.{HELD-ROOM, setting_words, with_setting};
-ghost use Rattle.record_checks.specs.Draw.{CheckedAs, check_of};
 ghost use Rattle.course_steps.specs.Arrays as arrays;
 ghost use Rattle.device.specs.Device.{list_of, endpoint_map_in, held_of, quarantined_of};
 ghost use Rattle.device.specs.Left.{leaves, refused, ended};

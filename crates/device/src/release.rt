@@ -1,5 +1,8 @@
 // The release of an interface.
 ghost use Rattle.std.specs.Prelude.{◌≡◌};
+ghost use Rattle.answer.specs.Check.{CheckedAs};
+ghost use Rattle.record_settings.specs.Held.{held_alternate};
+ghost use Rattle.device.specs.Device.{held_of};
 ghost use Rattle.device.specs.Left.{leaves};
 ghost use Rattle.device.specs.Check.{record_check};
 ghost use Rattle.device.specs.Release.{release_check, release};
@@ -29,10 +32,10 @@ impl Device {
             routes: routes.len(),
             log: log.len(),
         };
-        if let Err(a) = release_check(self, l, interface) {
-            return update::refused(self, a);
-        }
-        let settings = self.settings();
+        let alternate = match release_check(self, l, interface) {
+            Ok(alternate) => alternate,
+            Err(a) => return update::refused(self, a),
+        };
         let c = endpoint_map::endpoint_map_in(self);
         let own = record_endpoint::owned_rings(Owner::Interface(interface), c);
         let args = ReleaseArgs {
@@ -40,22 +43,24 @@ impl Device {
             spacing: self.spacing,
             speed: self.port_speed,
             interface,
-            alternate: settings.alternate_of(interface).unwrap_or(0),
+            alternate,
             old: record_endpoint::queues_of(own),
             all: record_endpoint::queues_of(c.rings),
         };
-        let setting = record_settings::setting_words(self.list(), interface, args.alternate);
+        let setting = record_settings::setting_words(self.list(), interface, alternate);
         let e = course_release::release_interface(ctx, routes, log, outcomes, args, setting);
-        let held = settings.without_setting(interface);
+        let held = self.settings().without_setting(interface);
         let others = record_endpoint::claimed_endpoints(interface, [0u64; PLACES], c);
         update::at_end(self, c, e, Owner::Interface(interface), others, held)
     }
 }
 
-// 12, 1, 2, 3, and then 8.
-fn release_check(d: Device, l: Lengths, interface: u8) -> Result<(), Answer>
-    ensures { result ≡ record_check d l.ctx l.routes l.log (release_check d interface) }
+// 12, 1, 2, 3, and then 25; it hands on the alternate that the interface holds.
+fn release_check(d: Device, l: Lengths, interface: u8) -> Result<u8, Answer>
+    ensures { CheckedAs result (record_check d l.ctx l.routes l.log (release_check d interface)) (held_alternate interface (held_of d)) }
 {
     d.record_check(l)?;
-    record_checks::held_check(d.list(), &d.settings(), interface)
+    d.settings()
+        .alternate_of(interface)
+        .ok_or(Answer::NotClaimed)
 }

@@ -11,7 +11,7 @@ use lib.Seq.{take-suc, take-suc-set, length-take-le, take-append_seam, take-leng
 use Rattle.laws.specs.Distinct.{elem}
 use Rattle.answer.specs.declared.Answer.{Answer}
 use Rattle.answer.specs.declared.Answer.TheVariants as answer
-use Rattle.answer.specs.Check.{Check, Pass, Refuse}
+use Rattle.answer.specs.Check.{Check, Pass, Refuse, check_of, CheckedAs}
 use Rattle.std.proofs.Common.{Option, Some, None, Result, Ok, Err}
 use Rattle.descriptor_list.specs.declared.EndpointWords.{EndpointWords}
 use Rattle.descriptor_list.specs.Lookup.{find_endpoints}
@@ -25,7 +25,7 @@ use Rattle.record_endpoint.proofs.Laws.{padded_next}
 use Rattle.record_endpoint.proofs.Clean.{padded_length}
 use Rattle.record_settings.specs.Held.{found_words, setting_words}
 use Rattle.record_settings.specs.Match.{addresses_free}
-use Rattle.record_checks.specs.Draw.{draw_check, check_of, CheckedAs}
+use Rattle.record_checks.specs.Draw.{draw_check}
 use Rattle.record_checks.specs.declared.quarantine.Quarantine.{Quarantine}
 use Rattle.record_checks.specs.Rings.{quarantined_by, QuarantinedAs}
 
@@ -157,7 +157,7 @@ part_count l start count h = length-take-le count (drop start l) (rw (length-dro
 -- `draw_check`
 refused_as : (a : Answer) (k : Check) (f : Option EndpointWords) → Refuse a ≡ k → CheckedAs (Err a) k f
 unfolding check_of
-refused_as a k f e = record { check = e; words = λ words p. cc }
+refused_as a k f e = record { check = e; value = λ words p. cc }
 
 module _ (list : List ℕ) (i a : ℕ) (c : EndpointMap) (rings : ℕ) where
   abbrev Drawn : Result EndpointWords Answer → Type 0
@@ -181,4 +181,4 @@ module _ (list : List ℕ) (i a : ℕ) (c : EndpointMap) (rings : ℕ) where
 
       pub passes : f.count ≤ rings → Drawn (Ok f)
       unfolding setting_words found_words check_of
-      passes n = record { check = sym (rw (e, free, counted, le-leb f.count rings n)); words = λ words p. cc }
+      passes n = record { check = sym (rw (e, free, counted, le-leb f.count rings n)); value = λ words p. cc }

@@ -1,12 +1,12 @@
 // What a claim asks of a setting and of the number of free rings, and which it draws.
 ghost use Rattle.std.specs.Prelude.{◌≡◌, [], ◌≤◌, length};
-ghost use Rattle.answer.specs.Check.{Pass};
+ghost use Rattle.answer.specs.Check.{Pass, CheckedAs};
 ghost use Rattle.descriptor_list.specs.Lookup.{find_endpoints};
 ghost use Rattle.record_ring.specs.Store.{lowest, free_rings};
 ghost use Rattle.record_endpoint.specs.Order.{PLACES};
 ghost use Rattle.record_endpoint.specs.Endpoint.{padded};
 ghost use Rattle.record_endpoint.specs.EndpointMap.{pending_rings};
-ghost use Rattle.record_checks.specs.Draw.{draw_check, CheckedAs};
+ghost use Rattle.record_checks.specs.Draw.{draw_check};
 
 use answer::Answer;
 use descriptor_list::EndpointWords;

@@ -3,7 +3,6 @@
 
 mod draw;
 mod enter;
-mod held;
 mod lengths;
 mod quarantine;
 mod rings;
@@ -12,7 +11,6 @@ mod think;
 
 pub use draw::{draw_check, drawn_in_order, drawn_rings};
 pub use enter::enter_rings;
-pub use held::held_check;
 pub use lengths::{Lengths, lengths_check};
 pub use quarantine::Quarantine;
 pub use rings::rings_sound;

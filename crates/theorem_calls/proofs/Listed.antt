@@ -134,9 +134,9 @@ module _ (ns : List ℕ) where
   unfolding current_check
   listed_current m d p = listed_unless (same_ask p (ask_of d p.interface p.alternate)) answer.OutdatedAsk _ m listed_pass
 
-  pub listed_release : Among answer.NotFound → (d : Device) (i : ℕ) → Listed (release_check d i)
+  pub listed_release : Among answer.NotClaimed → (d : Device) (i : ℕ) → Listed (release_check d i)
   unfolding release_check
-  listed_release m d i = listed_unless (is_held i (held_of d) || is_found (find_endpoints (list_of d) i 0)) answer.NotFound _ m listed_pass
+  listed_release m d i = listed_unless (is_held i (held_of d)) answer.NotClaimed _ m listed_pass
 
   -- Of a course's end.
   pub record Ends : Type 0 where

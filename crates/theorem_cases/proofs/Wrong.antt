@@ -38,7 +38,6 @@ without_control =
       routed = [];
       enabled = 1 ∷ [];
       broken = false;
-      unheld_release = false;
       free = 32 ∷ 48 ∷ 64 ∷ 80 ∷ 96 ∷ [];
       quarantined = [];
       device_value = known 1;
@@ -67,21 +66,21 @@ wrong_lists =
     listed_holds without_control
     -- after a claim of alternate 0 the interface holds alternate 1
     ∷ listed_holds
-    (while_up (hears (claims 2 0) example.done answer.Accepted ∷ []) (holding 2 1 ∷ []) (route 7 48 ∷ []) (7 ∷ []) false false
+    (while_up (hears (claims 2 0) example.done answer.Accepted ∷ []) (holding 2 1 ∷ []) (route 7 48 ∷ []) (7 ∷ []) false
     (32 ∷ 64 ∷ 80 ∷ 96 ∷ []) [] (known 1) (alternates (known 0) (known 0) (known 0)))
     -- after a claim that breaks the rings that it drew are free
     ∷ listed_holds
     (while_up (first_claim ∷ hears (claims 0 1) (0 ∷ 0 ∷ 7 ∷ 5 ∷ []) answer.InterfaceBroken ∷ [])
-    (holding 0 0 ∷ []) (route 3 32 ∷ []) (3 ∷ 4 ∷ []) true false
+    (holding 0 0 ∷ []) (route 3 32 ∷ []) (3 ∷ 4 ∷ []) true
     (48 ∷ 64 ∷ 80 ∷ 96 ∷ []) [] (known 1) (alternates unknown (known 0) (known 0)))
-    -- a release of an interface that holds nothing leaves a held endpoint of the same address enabled
+    -- a release of an interface that holds nothing is accepted, and the controller drops a held endpoint of the same address
     ∷ listed_holds
-    (while_up (first_claim ∷ hears (releases 1) example.done answer.Accepted ∷ []) (holding 0 0 ∷ []) (route 3 32 ∷ []) (3 ∷ []) false true
+    (while_up (first_claim ∷ hears (releases 1) example.done answer.Accepted ∷ []) (holding 0 0 ∷ []) (route 3 32 ∷ []) [] false
     (48 ∷ 64 ∷ 80 ∷ 96 ∷ []) [] (known 1) (alternates (known 0) (known 0) (known 0)))
     -- a release after a refused bring-up, with the record that it returned, is accepted
     ∷ listed_holds
     (while_up (first_claim ∷ hears (brings_up device) example.done answer.QueueFull ∷ hears (releases 0) example.done answer.Accepted ∷ [])
-    (holding 0 0 ∷ []) (route 3 32 ∷ []) (3 ∷ []) false false
+    (holding 0 0 ∷ []) (route 3 32 ∷ []) (3 ∷ []) false
     (48 ∷ 64 ∷ 80 ∷ 96 ∷ []) [] (known 1) (alternates (known 0) (known 0) (known 0)))
     -- control's route is left after an unplugging
     ∷ listed_holds
@@ -96,12 +95,12 @@ wrong_lists =
     ∷ hears (brings_up device) example.done answer.Accepted
     ∷ hears (claims 0 1) example.done answer.Accepted
     ∷ [])
-    (holding 0 1 ∷ []) (route 3 32 ∷ route 4 48 ∷ []) (3 ∷ 4 ∷ []) true false
+    (holding 0 1 ∷ []) (route 3 32 ∷ route 4 48 ∷ []) (3 ∷ 4 ∷ []) true
     (64 ∷ 80 ∷ 96 ∷ []) [] (known 1) (alternates (known 1) (known 0) (known 0)))
     -- after a claim that is undone by a done SetInterface the device is at the alternate that was claimed
     ∷ listed_holds
     (while_up (first_claim ∷ hears (claims 0 1) (0 ∷ 0 ∷ 7 ∷ 0 ∷ 0 ∷ []) (answer.Failed 7) ∷ [])
-    (holding 0 0 ∷ []) (route 3 32 ∷ []) (3 ∷ []) false false
+    (holding 0 0 ∷ []) (route 3 32 ∷ []) (3 ∷ []) false
     (48 ∷ 64 ∷ 80 ∷ 96 ∷ []) [] (known 1) (alternates (known 1) (known 0) (known 0)))
     ∷ []
 
@@ -146,12 +145,16 @@ wrong_orders =
     (faults 21 9 (told (claims 2 0) (try crowded 1056 96 64)) (told (claims 2 0) (try held 1056 96 64)))
     -- the alternate before the length of the log
     ∷ faults_hold (faults 8 3 (told (claims 9 0) (try held 1056 96 63)) (told (claims 0 0) (try held 1056 96 63)))
+    -- that an interface is claimed before the length of the log
+    ∷ faults_hold (faults 25 3 (told (releases 2) (try held 1056 96 63)) (told (releases 0) (try held 1056 96 63)))
     ∷ []
 
 abbrev pub wrong_answers : List Bool
 wrong_answers =
     -- a release may break
-    same_words (numbers releasings) (0 ∷ 1 ∷ 2 ∷ 3 ∷ 8 ∷ 12 ∷ 13 ∷ 14 ∷ 15 ∷ 18 ∷ [])
+    same_words (numbers releasings) (0 ∷ 1 ∷ 2 ∷ 3 ∷ 12 ∷ 13 ∷ 14 ∷ 15 ∷ 18 ∷ 25 ∷ [])
+    -- a release may answer 8
+    ∷ same_words (numbers releasings) (0 ∷ 1 ∷ 2 ∷ 3 ∷ 8 ∷ 12 ∷ 13 ∷ 15 ∷ 18 ∷ [])
     -- a set configuration never fails with a code
     ∷ same_words (numbers configurings) (0 ∷ 1 ∷ 2 ∷ 3 ∷ 12 ∷ 14 ∷ 15 ∷ 18 ∷ [])
     ∷ []

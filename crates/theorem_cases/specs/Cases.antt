@@ -131,7 +131,7 @@ last spacing =
     let l = bring_up (asked 1 HIGH 8 None (0x00400000 ∷ 0x40000000 ∷ interrupt8_f ∷ [])) (replicate (33 * spacing) 0) free log done in
     claim l.device (replicate (33 * spacing) 0) l.routes log done 0 0
 
--- 01's cases, after them a call for each answer from 0 to 19, 21 and 22, and unpluggings. The ring of the added endpoint is any.
+-- 01's cases, after them a call for each answer from 0 to 19, 21, 22 and 25, and unpluggings. The ring of the added endpoint is any.
 abbrev pub cases : (ring : ℕ) → List Case
 cases ring =
     route hubs (Some outer) 7 0x7
@@ -178,6 +178,8 @@ cases ring =
     ∷ answered (claim alone.device ctx alone.routes log done 0 0) 21 0
     ∷ answered (commit second.device ctx second.routes log done (asking 0 1 0 0 [])) 22 0
     ∷ answered (commit alone.device ctx alone.routes log done (asking 0 0 0 0 [])) 21 0
+    ∷ answered (release second.device ctx second.routes log done 1) 25 0
+    ∷ answered (release second.device ctx second.routes log done 9) 25 0
     ∷ unplugs (disconnect second.device ctx second.routes log done) (0x40100000 ∷ 0x40300000 ∷ 0xC0000000 ∷ []) 0
     ∷ unplugs (disconnect second.device ctx second.routes log (0 ∷ 7 ∷ 9 ∷ [])) (0x40100000 ∷ 0x40300000 ∷ 0xC0000000 ∷ []) 14
     ∷ unplugs (disconnect second.device ctx second.routes log (5 ∷ 0 ∷ [])) (0x40100000 ∷ 0x40300000 ∷ 0xC0000000 ∷ []) 15

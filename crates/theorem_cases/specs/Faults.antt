@@ -96,8 +96,15 @@ commit_faults =
     ∷ faults 21 22 (told_by_commit 2 1 (try crowded 1056 96 64)) (told_by_commit 2 1 (try held 1056 96 64))
     ∷ [])
 
+-- Interface 2 holds nothing, and its alternate 0 lists 0x81, which interface 0 has. With each fault before it, too.
 abbrev pub release_faults : List Faults
-release_faults = lengths (told (releases 9)) unusable held (then_log 8 (told (releases 9)) held)
+release_faults =
+    let unclaimed = told (releases 2) in
+    lengths unclaimed unusable held (then_log 25 unclaimed held)
+    ++ (faults 12 25 (unclaimed (try unusable 1056 96 64)) (unclaimed (try held 1056 96 64))
+    ∷ faults 1 25 (unclaimed (try held 1055 96 64)) (unclaimed (try held 1056 96 64))
+    ∷ faults 2 25 (unclaimed (try held 1056 97 64)) (unclaimed (try held 1056 96 64))
+    ∷ [])
 
 abbrev pub set_faults : List Faults
 set_faults = lengths (told (configures 2)) unusable held []

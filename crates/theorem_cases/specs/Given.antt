@@ -83,11 +83,11 @@ releasings =
     ∷ left (releases 0) short_context second.device second.routes
     ∷ left (releases 0) enough second.device []
     ∷ left (releases 0) short_log second.device second.routes
-    ∷ left (releases 9) enough second.device second.routes
     ∷ left (releases 0) enough no_device second.routes
     ∷ left (releases 0) (lent (7 ∷ [])) second.device second.routes
     ∷ left (releases 0) (lent []) second.device second.routes
     ∷ left (releases 0) enough second.device brought_up.routes
+    ∷ left (releases 1) enough second.device second.routes
     ∷ []
 
 abbrev pub configurings : List Left

@@ -149,15 +149,7 @@ release_paths =
     ∷ path (configured []) answer.Accepted released
     ∷ [])
 
--- Of an interface that holds nothing, but has an alternate 0: one Configure, and the record is as it was.
-abbrev pub idle_release_paths : List Path
-idle_release_paths =
-    path (cut configure ∷ []) answer.Cut (lost Active Active Active)
-    ∷ path (fails 7 configure ∷ []) (answer.Failed 7) held
-    ∷ path (done configure ∷ []) answer.Accepted held
-    ∷ []
-
--- Of one that holds an alternate without an endpoint.
+-- Of an interface that holds an alternate without an endpoint: one Configure.
 abbrev pub bare_release_paths : List Path
 bare_release_paths =
     path (cut configure ∷ []) answer.Cut (bare_as false [])
@@ -184,8 +176,9 @@ interface_paths =
     ∷ paths_of idle (claims 0 1) first_claim_paths
     ∷ paths_of bare (claims 1 0) bare_claim_paths
     ∷ paths_of held (releases 0) release_paths
-    ∷ paths_of held (releases 2) idle_release_paths
     ∷ paths_of bare (releases 1) bare_release_paths
+    -- interface 2 holds nothing, though its alternate 0 lists 0x81: no command
+    ∷ paths_of held (releases 2) (one (path [] answer.NotClaimed held))
     ∷ []
 
 -- Where the table has another word than the record's ring, a claim breaks, and a release answers 18 and keeps the setting. A new

@@ -92,7 +92,7 @@ abbrev pub holding : ℕ → ℕ → Holding
 holding interface alternate = record { interface = interface; alternate = alternate }
 
 -- Calls after the bring-up with their answers; where the slot stands after them, what is held, the endpoints with a route, those
--- enabled, the two marks, and the free and the quarantined rings. Live are the routed ones that are not quarantined. Last the USB
+-- enabled, the mark, and the free and the quarantined rings. Live are the routed ones that are not quarantined. Last the USB
 -- device: its configuration value, and the alternates of interfaces 0, 1 and 2.
 pub record ListOfCalls : Type 0 where
   pub calls : List Heard
@@ -101,7 +101,6 @@ pub record ListOfCalls : Type 0 where
   pub routed : List Queue
   pub enabled : List ℕ
   pub broken : Bool
-  pub unheld_release : Bool
   pub free : List ℕ
   pub quarantined : List ℕ
   pub device_value : Known
@@ -111,8 +110,8 @@ abbrev pub route : ℕ → ℕ → Queue
 route dci ring = record { dci = dci; ring = ring }
 
 -- With the device up: control's ring is 16, and it is enabled.
-abbrev pub while_up : List Heard → List Holding → List Queue → List ℕ → Bool → Bool → List ℕ → List ℕ → Known → List Known → ListOfCalls
-while_up calls held routed enabled broken unheld_release free quarantined device_value device_alternates =
+abbrev pub while_up : List Heard → List Holding → List Queue → List ℕ → Bool → List ℕ → List ℕ → Known → List Known → ListOfCalls
+while_up calls held routed enabled broken free quarantined device_value device_alternates =
     record {
       calls = calls;
       phase = up;
@@ -120,7 +119,6 @@ while_up calls held routed enabled broken unheld_release free quarantined device
       routed = route 1 16 ∷ routed;
       enabled = 1 ∷ enabled;
       broken = broken;
-      unheld_release = unheld_release;
       free = free;
       quarantined = quarantined;
       device_value = device_value;
@@ -137,7 +135,6 @@ none calls phase routed broken free device_value device_alternates =
       routed = routed;
       enabled = [];
       broken = broken;
-      unheld_release = false;
       free = free;
       quarantined = [];
       device_value = device_value;
@@ -152,49 +149,49 @@ abbrev pub lists : List ListOfCalls
 lists =
     -- 1: a claim, and one of the other alternate in its place
     while_up (first_claim ∷ hears (claims 0 1) done answer.Accepted ∷ [])
-    (holding 0 1 ∷ []) (route 3 48 ∷ route 4 64 ∷ []) (3 ∷ 4 ∷ []) false false
+    (holding 0 1 ∷ []) (route 3 48 ∷ route 4 64 ∷ []) (3 ∷ 4 ∷ []) false
     (32 ∷ 80 ∷ 96 ∷ []) []
     (known 1) (alternates (known 1) (known 0) (known 0))
     -- 2: a claim undone: its SetInterface fails
     ∷ while_up (first_claim ∷ hears (claims 0 1) (0 ∷ 0 ∷ 7 ∷ 0 ∷ 0 ∷ []) (answer.Failed 7) ∷ [])
-    (holding 0 0 ∷ []) (route 3 32 ∷ []) (3 ∷ []) false false
+    (holding 0 0 ∷ []) (route 3 32 ∷ []) (3 ∷ []) false
     (48 ∷ 64 ∷ 80 ∷ 96 ∷ []) []
     (known 1) (alternates (known 0) (known 0) (known 0))
     -- 3: the undoing fails too: broken, with the new endpoints in the controller
     ∷ while_up (first_claim ∷ hears (claims 0 1) (0 ∷ 0 ∷ 7 ∷ 5 ∷ []) answer.InterfaceBroken ∷ [])
-    (holding 0 0 ∷ []) (route 3 32 ∷ []) (3 ∷ 4 ∷ []) true false
+    (holding 0 0 ∷ []) (route 3 32 ∷ []) (3 ∷ 4 ∷ []) true
     (80 ∷ 96 ∷ []) (48 ∷ 64 ∷ [])
     (known 1) (alternates unknown (known 0) (known 0))
     -- 4: a claim and its release
-    ∷ while_up (first_claim ∷ hears (releases 0) done answer.Accepted ∷ []) [] [] [] false false
+    ∷ while_up (first_claim ∷ hears (releases 0) done answer.Accepted ∷ []) [] [] [] false
     (32 ∷ 48 ∷ 64 ∷ 80 ∷ 96 ∷ []) []
     (known 1) (alternates (known 0) (known 0) (known 0))
     -- 5: a repeated address: the last word's ring
-    ∷ while_up (hears (claims 2 0) done answer.Accepted ∷ []) (holding 2 0 ∷ []) (route 7 48 ∷ []) (7 ∷ []) false false
+    ∷ while_up (hears (claims 2 0) done answer.Accepted ∷ []) (holding 2 0 ∷ []) (route 7 48 ∷ []) (7 ∷ []) false
     (32 ∷ 64 ∷ 80 ∷ 96 ∷ []) []
     (known 1) (alternates (known 0) (known 0) (known 0))
     -- 6: a set configuration cut at its last Evaluate
-    ∷ while_up (first_claim ∷ hears (configures 1) (0 ∷ 0 ∷ 0 ∷ []) answer.Cut ∷ []) [] [] [] true false
+    ∷ while_up (first_claim ∷ hears (configures 1) (0 ∷ 0 ∷ 0 ∷ []) answer.Cut ∷ []) [] [] [] true
     (32 ∷ 48 ∷ 64 ∷ 80 ∷ 96 ∷ []) []
     (known 1) (alternates (known 0) (known 0) (known 0))
     -- 7: a set configuration that fails and is undone
     ∷ while_up (first_claim ∷ hears (configures 1) (0 ∷ 0 ∷ 9 ∷ 0 ∷ 0 ∷ []) (answer.Failed 9) ∷ [])
-    (holding 0 0 ∷ []) (route 3 32 ∷ []) (3 ∷ []) false false
+    (holding 0 0 ∷ []) (route 3 32 ∷ []) (3 ∷ []) false
     (48 ∷ 64 ∷ 80 ∷ 96 ∷ []) []
     (known 1) (alternates (known 0) (known 0) (known 0))
     -- 8: a second bring-up is refused (17), and every call with its record after it (12)
     ∷ while_up (first_claim ∷ hears (brings_up device) done answer.QueueFull ∷ hears (releases 0) done answer.Unusable ∷ [])
-    (holding 0 0 ∷ []) (route 3 32 ∷ []) (3 ∷ []) false false
+    (holding 0 0 ∷ []) (route 3 32 ∷ []) (3 ∷ []) false
     (48 ∷ 64 ∷ 80 ∷ 96 ∷ []) []
     (known 1) (alternates (known 0) (known 0) (known 0))
     -- 9: a claim of an address that another interface has is refused (9)
     ∷ while_up
     (first_claim ∷ hears (claims 1 0) done answer.InvalidParameter ∷ hears (claims 2 0) done answer.Accepted ∷ [])
-    (holding 0 0 ∷ holding 2 0 ∷ []) (route 3 32 ∷ route 7 64 ∷ []) (3 ∷ 7 ∷ []) false false
+    (holding 0 0 ∷ holding 2 0 ∷ []) (route 3 32 ∷ route 7 64 ∷ []) (3 ∷ 7 ∷ []) false
     (48 ∷ 80 ∷ 96 ∷ []) []
     (known 1) (alternates (known 0) (known 0) (known 0))
-    -- 10: a release of an interface that holds nothing but lists the same address: the controller drops a held endpoint
-    ∷ while_up (first_claim ∷ hears (releases 1) done answer.Accepted ∷ []) (holding 0 0 ∷ []) (route 3 32 ∷ []) [] false true
+    -- 10: a release of an interface that holds nothing but lists the same address is refused (25)
+    ∷ while_up (first_claim ∷ hears (releases 1) done answer.NotClaimed ∷ []) (holding 0 0 ∷ []) (route 3 32 ∷ []) (3 ∷ []) false
     (48 ∷ 64 ∷ 80 ∷ 96 ∷ []) []
     (known 1) (alternates (known 0) (known 0) (known 0))
     -- 11: a dozen calls and one
@@ -206,14 +203,14 @@ lists =
     ∷ hears (updates_hub 4 false 666) done answer.Accepted
     ∷ hears (claims 0 0) (0 ∷ 0 ∷ 0 ∷ 7 ∷ 0 ∷ 0 ∷ []) (answer.Failed 7)
     ∷ hears (releases 0) done answer.Accepted
-    ∷ hears (releases 5) done answer.NotFound
+    ∷ hears (releases 5) done answer.NotClaimed
     ∷ hears (claims 1 0) done answer.Accepted
     ∷ hears (configures 9) done answer.Accepted
     ∷ first_claim
     ∷ hears_keeping (brings_up device) done answer.QueueFull
     ∷ hears (claims 2 0) done answer.Accepted
     ∷ [])
-    (holding 0 0 ∷ holding 2 0 ∷ []) (route 3 32 ∷ route 7 64 ∷ []) (3 ∷ 7 ∷ []) false false
+    (holding 0 0 ∷ holding 2 0 ∷ []) (route 3 32 ∷ route 7 64 ∷ []) (3 ∷ 7 ∷ []) false
     (48 ∷ 80 ∷ 96 ∷ []) []
     (known 9) (alternates (known 0) (known 0) (known 0))
     -- 12: unplugged with a setting held; every call on the record is refused (12)
@@ -230,11 +227,11 @@ lists =
     ∷ hears (brings_up device) done answer.Accepted
     ∷ hears (claims 0 1) done answer.Accepted
     ∷ [])
-    (holding 0 1 ∷ []) (route 3 32 ∷ route 4 48 ∷ []) (3 ∷ 4 ∷ []) false false
+    (holding 0 1 ∷ []) (route 3 32 ∷ route 4 48 ∷ []) (3 ∷ 4 ∷ []) false
     (64 ∷ 80 ∷ 96 ∷ []) []
     (known 1) (alternates (known 1) (known 0) (known 0))
     -- 14: Disable fails: routes and settings stay
-    ∷ while_up (first_claim ∷ hears disconnects (0 ∷ 0 ∷ 9 ∷ []) answer.InterfaceBroken ∷ []) (holding 0 0 ∷ []) (route 3 32 ∷ []) (3 ∷ []) true false
+    ∷ while_up (first_claim ∷ hears disconnects (0 ∷ 0 ∷ 9 ∷ []) answer.InterfaceBroken ∷ []) (holding 0 0 ∷ []) (route 3 32 ∷ []) (3 ∷ []) true
     (48 ∷ 64 ∷ 80 ∷ 96 ∷ []) (16 ∷ 32 ∷ [])
     (known 1) (alternates (known 0) (known 0) (known 0))
     -- 15: after it is unplugged a bring-up fails at its first command; it leaves control's word, and every later one is refused (17)
@@ -250,7 +247,7 @@ lists =
     (first_claim
     ∷ hears (commits (asking 0 1 0x08 0x18 (64 ∷ 48 ∷ []))) done answer.OutdatedAsk
     ∷ hears (commits (asking 0 1 0x08 0x18 (48 ∷ 64 ∷ []))) done answer.Accepted ∷ [])
-    (holding 0 1 ∷ []) (route 3 48 ∷ route 4 64 ∷ []) (3 ∷ 4 ∷ []) false false
+    (holding 0 1 ∷ []) (route 3 48 ∷ route 4 64 ∷ []) (3 ∷ 4 ∷ []) false
     (32 ∷ 80 ∷ 96 ∷ []) []
     (known 1) (alternates (known 1) (known 0) (known 0))
     ∷ []
@@ -319,9 +316,8 @@ abbrev pub left_holds : State → ListOfCalls → Bool
 left_holds s l =
     (same_phase s.plain.phase l.phase && same_held s.plain.held l.held)
     && (same_flag s.plain.broken l.broken
-    && (same_flag s.plain.unheld_release l.unheld_release
     && (groups_hold 7 16 s.plain.groups l
-    && (eqb (length s.routes) 96 && (words_hold 32 0 s l && (slot_as_before 32 0 0 s && slot_as_before 32 2 0 s))))))
+    && (eqb (length s.routes) 96 && (words_hold 32 0 s l && (slot_as_before 32 0 0 s && slot_as_before 32 2 0 s)))))
 
 abbrev pub same_answer : Answer → Answer → Bool
 same_answer a b = eqb (number a) (number b) && eqb (code_of a) (code_of b)

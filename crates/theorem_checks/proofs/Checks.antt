@@ -62,7 +62,7 @@ use Rattle.theorem_ask.proofs.Promises.{same_ask_self, same_ask_told}
 use Rattle.theorem_checks.specs.Descriptors.{address_of, ValidList, Listed}
 use Rattle.theorem_checks.specs.Hubs.{ChainFits}
 use Rattle.theorem_checks.specs.Record.{words_in, EndpointAt, EndpointRing, IsFree, RingsFit, FreeRings}
-use Rattle.theorem_checks.specs.Checks.{Condition, asked, AllHold, FirstFails, Gives, Fit, ContextFits, RoutesFit, fit_conditions, IsListed, NoneOwned, EnoughFree, claim_conditions, WouldReturn, Releasable, release_conditions, ThinkFits, hub_conditions, SlotFits, bring_up_conditions, conditions, Judged, PassExactly, AskJudged, AskPasses}
+use Rattle.theorem_checks.specs.Checks.{Condition, asked, AllHold, FirstFails, Gives, Fit, ContextFits, RoutesFit, fit_conditions, IsListed, NoneOwned, EnoughFree, claim_conditions, WouldReturn, HoldsSome, release_conditions, ThinkFits, hub_conditions, SlotFits, bring_up_conditions, conditions, Judged, PassExactly, AskJudged, AskPasses}
 use Rattle.theorem_checks.proofs.Descriptors.{valid_tells, lookup_tells}
 use Rattle.theorem_checks.proofs.Endpoints.{ring_elem, elem_ring}
 use Rattle.theorem_checks.proofs.Hubs.{chain_tells}
@@ -326,16 +326,13 @@ module _ (d : Device) (ctx routes log : ℕ) where
   unfolding record_check release_check
   release_judged i =
       fit_decides d.usable d ctx routes log _ _
-      (λ f c r l. next (is_held i (held_of d) || is_found (find_endpoints (list_of d) i 0)) (Releasable d i) answer.NotFound Pass [] read made (λ r. none))
+      (λ f c r l. next (is_held i (held_of d)) (HoldsSome d i) answer.NotClaimed Pass [] read made (λ r. none))
     where
-      read : (is_held i (held_of d) || is_found (find_endpoints (list_of d) i 0)) ≡ true → Releasable d i
-      read e =
-          ⊎_elim (λ h. inl (record { alternate = _; held = held_holds d i h })) (λ h. inr (found_read d i 0 h))
-          (or_cases (is_held i (held_of d)) (is_found (find_endpoints (list_of d) i 0)) e)
+      read : is_held i (held_of d) ≡ true → HoldsSome d i
+      read e = record { alternate = _; held = held_holds d i e }
 
-      made : Releasable d i → (is_held i (held_of d) || is_found (find_endpoints (list_of d) i 0)) ≡ true
-      made (inl h) = or_left (is_held i (held_of d)) _ (holds_held d i h.alternate h.held)
-      made (inr l) = or_right (is_held i (held_of d)) _ (listed_is d i 0 l.words l.listed).0
+      made : HoldsSome d i → is_held i (held_of d) ≡ true
+      made h = holds_held d i h.alternate h.held
 
   pub set_judged : Decides (record_check d ctx routes log Pass) (fit_conditions d.usable d ctx routes log [])
   unfolding record_check

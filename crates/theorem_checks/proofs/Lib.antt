@@ -4,5 +4,6 @@ mod Endpoints
 pub mod Hubs
 mod Numbers
 pub mod Record
+pub mod Unclaimed
 mod Settings
 pub mod Values

@@ -85,16 +85,13 @@ claim_conditions d interface alternate next =
 abbrev pub WouldReturn : Device → ℕ → ℕ → ℕ → Ask → Type 0
 WouldReturn d ctx routes log p = ask d ctx routes log p.interface p.alternate ≡ (answer.Accepted, p)
 
--- 8 of a release: the interface holds a setting, or has an alternate 0.
+-- 25: the interface holds a setting.
 pub record HoldsSome (d : Device) (interface : ℕ) : Type 0 where
   pub alternate : ℕ
   pub held : Holds d interface alternate
 
-abbrev pub Releasable : Device → ℕ → Type 0
-Releasable d interface = HoldsSome d interface ⊎ IsListed d interface 0
-
 abbrev pub release_conditions : Device → ℕ → List Condition
-release_conditions d interface = asked (Releasable d interface) answer.NotFound ∷ []
+release_conditions d interface = asked (HoldsSome d interface) answer.NotClaimed ∷ []
 
 -- 7: at High speed 0, or 666 to 3,329 nanoseconds.
 abbrev pub ThinkFits : ℕ → ℕ → Type 0

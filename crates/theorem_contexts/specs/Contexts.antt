@@ -94,7 +94,7 @@ ClaimContexts =
     BusAddresses (endpoint_map_in d).rings →
     ClaimReads d i a ctx (λ outcomes. claim d ctx routes log outcomes i a)
 
--- A release stops its interface's endpoints; its Configure drops the words of the alternate that is held, or of alternate 0.
+-- A release stops its interface's endpoints; its Configure drops the words of the alternate that is held.
 pub record ReleaseReads (d : Device) (i : ℕ) (ctx : List ℕ) (call : List ℕ → Left) : Type 0 where
   pub configure :
       let stops = length (interface_endpoints d i) in

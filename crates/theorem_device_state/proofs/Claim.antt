@@ -41,9 +41,9 @@ use Rattle.device.specs.Ask.{asking, commit}
 use Rattle.device.proofs.Laws.{Passed, passed}
 use Rattle.device.proofs.ClaimLaws.{undone_to}
 use Rattle.theorem_slot.specs.Call.{Buffers, claims, commits, left}
-use Rattle.theorem_slot.specs.Plain.{Plain, without, has_setting, setting_of, claimed_setting, holds_interface, effect_of, held_after, anew, seen, observed}
+use Rattle.theorem_slot.specs.Plain.{Plain, without, setting_of, claimed_setting, holds_interface, effect_of, held_after, anew, seen, observed}
 use Rattle.theorem_slot.specs.Theorem.{State, record_after, called}
-use Rattle.theorem_slot.proofs.Settings.{pairs, pairs_setting, alternate_byte}
+use Rattle.theorem_slot.proofs.Settings.{pairs, pairs_setting, alternate_byte, has_setting}
 use Rattle.theorem_slot.proofs.Made.{byte_dcis}
 use Rattle.theorem_slot.proofs.Good.{Live, Stands, usable_live}
 use Rattle.theorem_slot.proofs.Step.{mild_claim, mild_commit, commit_passed}

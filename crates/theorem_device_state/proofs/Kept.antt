@@ -15,8 +15,8 @@ use Rattle.device.specs.declared.record.Device.{Device}
 use Rattle.device.specs.Device.{unusable, with_quarantined}
 use Rattle.device.specs.Left.{marked}
 use Rattle.device.specs.Claim.{quarantines}
-use Rattle.theorem_slot.specs.Plain.{HeldSetting, Plain, is_up, without, has_setting}
-use Rattle.theorem_slot.proofs.Settings.{pairs}
+use Rattle.theorem_slot.specs.Plain.{HeldSetting, Plain, is_up, without}
+use Rattle.theorem_slot.proofs.Settings.{pairs, has_setting}
 use Rattle.theorem_device_state.specs.DeviceState.{known, DeviceState}
 use Rattle.theorem_device_state.specs.Theorem.{EachSet}
 

@@ -22,9 +22,9 @@ use Rattle.device_bring_up.specs.BringUp.{bring_up}
 use Rattle.device.specs.Device.{held_of, endpoint_map_in}
 use Rattle.device.proofs.Facts.{sound_facts}
 use Rattle.theorem_slot.specs.Call.{Buffers, Asked, brings_up, claims, commits, releases, configures, updates_hub, disconnects, OfSlot}
-use Rattle.theorem_slot.specs.Plain.{HeldSetting, has_setting, held_queues}
+use Rattle.theorem_slot.specs.Plain.{HeldSetting, held_queues}
 use Rattle.theorem_slot.specs.Theorem.{State, Turn, called, after, Turns, start}
-use Rattle.theorem_slot.proofs.Settings.{AllFit, held_names, pairs}
+use Rattle.theorem_slot.proofs.Settings.{AllFit, held_names, pairs, has_setting}
 use Rattle.theorem_slot.proofs.Good.{Live, Stands, Unrouted, not_down, up_live}
 use Rattle.theorem_slot.proofs.Demand3.{Sofar, at_table, so_far_between, after_so_far, all_so_far}
 use Rattle.theorem_device_state.specs.DeviceState.{DeviceState, nothing_known}

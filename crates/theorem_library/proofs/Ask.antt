@@ -37,7 +37,7 @@ enough n h = false_if (ltb n 30) (λ e. let l : n < 30 = ltb-true n 30 e in omeg
 
 -- What a refused call leaves across the boundary.
 module _ (image : List ℕ) (b : Buffers) (routes : List ℕ) (y : Crossed) where
-  refused_there : (z : Answer) (l : Left) → is_image image ≡ true → l ≡ refused (decode image) z b.ctx routes b.log →
+  pub refused_there : (z : Answer) (l : Left) → is_image image ≡ true → l ≡ refused (decode image) z b.ctx routes b.log →
       CrossedAs y (is_image image) l image b.ctx routes b.log → Untouched image b routes (number z) y
   unfolding crossed answered_of refused
   refused_there z l e same k =

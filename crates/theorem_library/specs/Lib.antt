@@ -1,4 +1,5 @@
 pub mod Ask
 pub mod Checks
 pub mod Library
+pub mod Unclaimed
 pub mod Why

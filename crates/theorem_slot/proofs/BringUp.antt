@@ -77,7 +77,7 @@ module _ (b : BringUp) (l : Buffers) (routes : List ℕ) where
           others = bring_up_outside b l.ctx routes l.log l.outcomes;
           live = inr (record { is_sound = w.is_sound; place = w.slot; list = w.list; held = sym w.held; fits = tt; groups = given_groups_lem });
           on = refl;
-          enabled = λ x y d two h. ne_eqb d 1 (λ e. omega arith);
+          enabled = λ x d two h. ne_eqb d 1 (λ e. omega arith);
           parted = parted_given b.rings w.pass.rings;
           control = least_nonzero b.rings w.pass.rings;
           first = route 1 (omega arith);

@@ -173,7 +173,7 @@ module _ (slot : ℕ) (before : List ℕ) (s : State) (buffers : Buffers) (i a :
         (named_from slot s.routes p (endpoint_map_in d) g.named (live_tells slot d p l)) (rw g.long g.room)
 
     was :
-        p.broken ≡ false → p.unheld_release ≡ false → (q : ℕ) → q < 30 →
+        p.broken ≡ false → (q : ℕ) → q < 30 →
         p.enabled (dci_at q) ≡ not (eqb (get_or (endpoint_map_in d).rings q 0) 0)
     was = enabled_was slot before s g l
 
@@ -207,14 +207,14 @@ module _ (slot : ℕ) (before : List ℕ) (s : State) (buffers : Buffers) (i a :
     spaced = pass.spaced
 
     accepted_enabled :
-        end.answer ≡ answer.Accepted → p.broken ≡ false → p.unheld_release ≡ false → (q : ℕ) → q < 30 →
+        end.answer ≡ answer.Accepted → p.broken ≡ false → (q : ℕ) → q < 30 →
         followed enabled_after buffers.outcomes 0 course p.enabled (dci_at q)
         ≡ not (eqb (get_or (claimed_endpoints i pending (endpoint_map_in d)).rings q 0) 0)
     unfolding end course
-    accepted_enabled e b f q h =
+    accepted_enabled e b q h =
         claim_accepted_enabled (claim_in d i a rings) buffers.ctx s.routes buffers.outcomes 0 spaced (dci_at q) (dci_low q h)
         (dci_high q h) p.enabled e
-        ∙ rw (was b f q h, old_dci q h, new_dci q h) (claimed_some i pending (endpoint_map_in d) q (has_place q new_words) h (places q h))
+        ∙ rw (was b q h, old_dci q h, new_dci q h) (claimed_some i pending (endpoint_map_in d) q (has_place q new_words) h (places q h))
 
     -- The rings that are kept, and those of the old setting, by place.
     abbrev new_queues : List Queue
@@ -271,12 +271,12 @@ module _ (slot : ℕ) (before : List ℕ) (s : State) (buffers : Buffers) (i a :
         (v.routed moved ∙ ap (λ x. with_replaced s.routes x (queues_of old) (queues_of pending)) l.place)
         (named (ap (λ x. replaced s.routes x (queues_of old) (queues_of pending)) (sym l.place) ∙ v.allowed moved))
         (λ u. (rerouted u).routed)
-        (λ b f. accepted_enabled e (or_left_false p.broken _ b) (or_left_false p.unheld_release _ f))
+        (λ b. accepted_enabled e (or_left_false p.broken _ b))
 
     -- Otherwise it is as it was.
     stayed_good :
         end.moved ≡ false → is_accepted end.answer ≡ false →
-        (now.plain.broken ≡ false → now.plain.unheld_release ≡ false → (x : ℕ) → 2 ≤ x → x < 32 →
+        (now.plain.broken ≡ false → (x : ℕ) → 2 ≤ x → x < 32 →
         now.plain.enabled x ≡ is_held_dci p x) →
         Good slot before now
     unfolding now ran seen held_after end course
@@ -289,17 +289,17 @@ module _ (slot : ℕ) (before : List ℕ) (s : State) (buffers : Buffers) (i a :
         held e
 
     failed_enabled :
-        (code : ℕ) → end.answer ≡ answer.Failed code → p.broken ≡ false → p.unheld_release ≡ false → (x : ℕ) → 2 ≤ x → x < 32 →
+        (code : ℕ) → end.answer ≡ answer.Failed code → p.broken ≡ false → (x : ℕ) → 2 ≤ x → x < 32 →
         followed enabled_after buffers.outcomes 0 course p.enabled x ≡ is_held_dci p x
     unfolding end course
-    failed_enabled code e b f =
+    failed_enabled code e b =
         each_dci (λ x. followed enabled_after buffers.outcomes 0 course p.enabled x ≡ is_held_dci p x)
         (λ q h.
         claim_failed_enabled (claim_in d i a rings) buffers.ctx s.routes buffers.outcomes 0 spaced (dci_at q) (dci_low q h)
         (dci_high q h) p.enabled code e
-        (λ o. was b f q h ∙ ap not (owned_ring i (endpoint_map_in d) q (sym (old_dci q h) ∙ o)))
-        (λ w o. was b f q h ∙ ap not (eq-eqb _ 0 (free_ring new_words i (endpoint_map_in d) q tests.free h (sym (new_dci q h) ∙ w) (sym (old_dci q h) ∙ o))))
-        ∙ g.enabled b f (dci_at q) (dci_low q h) (dci_high q h))
+        (λ o. was b q h ∙ ap not (owned_ring i (endpoint_map_in d) q (sym (old_dci q h) ∙ o)))
+        (λ w o. was b q h ∙ ap not (eq-eqb _ 0 (free_ring new_words i (endpoint_map_in d) q tests.free h (sym (new_dci q h) ∙ w) (sym (old_dci q h) ∙ o))))
+        ∙ g.enabled b (dci_at q) (dci_low q h) (dci_high q h))
 
     ended_good :
         (end.answer ≡ answer.Accepted) ⊎ Refused end.answer → ((end.moved ≡ true) ↔ (end.answer ≡ answer.Accepted)) →
@@ -309,15 +309,15 @@ module _ (slot : ℕ) (before : List ℕ) (s : State) (buffers : Buffers) (i a :
     ended_good (inr (inl (code, e))) m =
         let n : is_accepted end.answer ≡ false = rw e refl in
         stayed_good (false_if end.moved (λ t. accepted_not n (m.0 t))) n
-        (λ b f. failed_enabled code e (or_left_false p.broken _ b) (or_left_false p.unheld_release _ f))
+        (λ b. failed_enabled code e (or_left_false p.broken _ b))
     ended_good (inr (inr (inl e))) m =
         let n : is_accepted end.answer ≡ false = rw e refl in
         stayed_good (false_if end.moved (λ t. accepted_not n (m.0 t))) n
-        (λ b f. lost_not end.answer (rw e refl) (or_right_false p.broken _ b))
+        (λ b. lost_not end.answer (rw e refl) (or_right_false p.broken _ b))
     ended_good (inr (inr (inr e))) m =
         let n : is_accepted end.answer ≡ false = rw e refl in
         stayed_good (false_if end.moved (λ t. accepted_not n (m.0 t))) n
-        (λ b f. lost_not end.answer (rw e refl) (or_right_false p.broken _ b))
+        (λ b. lost_not end.answer (rw e refl) (or_right_false p.broken _ b))
 
     few : length (words buffers.outcomes 0 course) ≤ length buffers.log
     unfolding course claim_in

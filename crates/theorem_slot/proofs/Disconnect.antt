@@ -176,7 +176,7 @@ module _ (slot : ℕ) (before : List ℕ) (s : State) (buffers : Buffers) (g : G
           made_same slot before s next g l (held_of d) (with_active Any 0 (endpoint_map_in d)) true
           (disconnect_stays d _ _ _ k end v.kept v.lost) upheld refl l.held
           (fit_active Any 0 (endpoint_map_in d) s.plain.held l.fits) next_groups v.left refl
-          (λ b f. lost_not end.answer v.lost (or_right_false s.plain.broken _ b))
+          (λ b. lost_not end.answer v.lost (or_right_false s.plain.broken _ b))
 
     few : length (words o 0 course) ≤ length buffers.log
     unfolding course

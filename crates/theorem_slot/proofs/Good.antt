@@ -27,9 +27,9 @@ use Rattle.device.specs.Sound.{sound}
 use Rattle.device.proofs.Facts.{sound_facts}
 use Rattle.device.proofs.Made.{sound_clean}
 use Rattle.theorem_slot.specs.Groups.{Parted}
-use Rattle.theorem_slot.specs.Plain.{Plain, is_up, is_unplugged, is_not_up, plain_route, is_held_dci, held_queues, has_setting, queues_of_one}
+use Rattle.theorem_slot.specs.Plain.{Plain, is_up, is_unplugged, is_not_up, plain_route, is_held_dci, held_queues, queues_of_one}
 use Rattle.theorem_slot.specs.Theorem.{State, Untouched}
-use Rattle.theorem_slot.proofs.Settings.{AllFit, held_at, held_low, held_names, held_ring, held_inside, pairs, pairs_setting}
+use Rattle.theorem_slot.proofs.Settings.{AllFit, held_at, held_low, held_names, held_ring, held_inside, pairs, pairs_setting, has_setting}
 use Rattle.theorem_slot.proofs.Kept.{ByPlace}
 use Rattle.theorem_slot.proofs.Owned.{one_by_place}
 use Rattle.theorem_slot.proofs.Record.{AgreeWith, parted_record}
@@ -65,7 +65,7 @@ pub record Good (slot : ℕ) (before : List ℕ) (s : State) : Type 0 where
   pub parted : Parted s.plain.groups
   pub on : s.plain.enabled 1 ≡ true
   pub enabled :
-      s.plain.broken ≡ false → s.plain.unheld_release ≡ false → (d : ℕ) → 2 ≤ d → d < 32 →
+      s.plain.broken ≡ false → (d : ℕ) → 2 ≤ d → d < 32 →
       s.plain.enabled d ≡ is_held_dci s.plain d
   -- whatever the slot's words held before its bring-up, control and the held endpoints are routed
   pub control : s.plain.control ≡ 0 → ⊥
@@ -268,7 +268,7 @@ module _ (slot : ℕ) (before : List ℕ) (s now : State) (g : Good slot before 
       (old c : EndpointMap) → Tells s.plain old → Tells now.plain c → NamedBy now.routes slot c →
       (Unrouted before slot → RoutedBy now.routes slot c) →
       ((d : ℕ) → d < 2 → route_of now.routes slot d ≡ route_of s.routes slot d) →
-      (now.plain.broken ≡ false → now.plain.unheld_release ≡ false → (q : ℕ) → q < 30 →
+      (now.plain.broken ≡ false → (q : ℕ) → q < 30 →
       now.plain.enabled (dci_at q) ≡ not (eqb (get_or c.rings q 0) 0)) →
       Live slot now.device now.plain →
       Good slot before now
@@ -282,9 +282,9 @@ module _ (slot : ℕ) (before : List ℕ) (s now : State) (g : Good slot before 
         others = λ k o. w.words k o ∙ g.others k o;
         live = inr l;
         parted = live_parted slot now.device now.plain l;
-        enabled = λ b f.
+        enabled = λ b.
             each_dci (λ d. now.plain.enabled d ≡ names d (held_queues now.plain.held))
-            (λ q h. e b f q h ∙ sym (t.named q h));
+            (λ q h. e b q h ∙ sym (t.named q h));
         control = λ z. g.control (sym same ∙ z);
         first = low 1 (omega arith) ∙ g.first ∙ sym same;
         named = named_of slot now.routes now.plain c n t;
@@ -297,7 +297,7 @@ module _ (slot : ℕ) (before : List ℕ) (s now : State) (g : Good slot before 
   -- A call that leaves routes and held settings.
   pub good_same :
       now.routes ≡ s.routes → now.plain.held ≡ s.plain.held →
-      (now.plain.broken ≡ false → now.plain.unheld_release ≡ false → (d : ℕ) → 2 ≤ d → d < 32 →
+      (now.plain.broken ≡ false → (d : ℕ) → 2 ≤ d → d < 32 →
       now.plain.enabled d ≡ is_held_dci s.plain d) →
       Live slot now.device now.plain →
       Good slot before now
@@ -311,21 +311,21 @@ module _ (slot : ℕ) (before : List ℕ) (s now : State) (g : Good slot before 
         others = λ k o. rw r (g.others k o);
         live = inr l;
         parted = live_parted slot now.device now.plain l;
-        enabled = λ b f d two k. rw h (e b f d two k);
+        enabled = λ b d two k. rw h (e b d two k);
         control = λ z. g.control (sym same ∙ z);
         first = rw (r, same) g.first;
         named = λ q k. rw (r, h) (g.named q k);
         own = λ x d k. rw (r, same, h) (g.own x d k);
       }
 
--- While neither mark is set, the enabled endpoints are the record's.
+-- While no answer was 14 or 15, the enabled endpoints are the record's.
 pub enabled_was :
     (slot : ℕ) (before : List ℕ) (s : State) → Good slot before s → Live slot s.device s.plain →
-    s.plain.broken ≡ false → s.plain.unheld_release ≡ false → (q : ℕ) → q < 30 →
+    s.plain.broken ≡ false → (q : ℕ) → q < 30 →
     s.plain.enabled (dci_at q) ≡ not (eqb (get_or (endpoint_map_in s.device).rings q 0) 0)
 unfolding is_held_dci
-enabled_was slot before s g l b f q h =
-    g.enabled b f (dci_at q) (dci_low q h) (dci_high q h) ∙ (live_tells slot s.device s.plain l).named q h
+enabled_was slot before s g l b q h =
+    g.enabled b (dci_at q) (dci_low q h) (dci_high q h) ∙ (live_tells slot s.device s.plain l).named q h
 
 -- A record that passed its checks.
 pub live_here :

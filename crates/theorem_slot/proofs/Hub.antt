@@ -21,7 +21,7 @@ use Rattle.device.specs.Calls.{on_check, hub_context, hub_course, hub_left, hub_
 use Rattle.device.proofs.Made.{marked_made}
 use Rattle.device.proofs.Laws.{passed}
 use Rattle.theorem_slot.specs.Call.{Buffers, updates_hub, left, cut_at, context_cut}
-use Rattle.theorem_slot.specs.Plain.{nothing, effect_of, held_after, groups_after, is_unheld_release, anew, observed, seen}
+use Rattle.theorem_slot.specs.Plain.{nothing, effect_of, held_after, groups_after, anew, observed, seen}
 use Rattle.theorem_slot.specs.Theorem.{State}
 use Rattle.theorem_slot.proofs.Good.{Good, Upheld, live_here}
 use Rattle.theorem_slot.proofs.Step.{checked, good_checked, mild_hub, called_here}
@@ -47,14 +47,14 @@ module _ (slot : ℕ) (before : List ℕ) (s : State) (buffers : Buffers) (ports
   upheld a = record { phase = refl; control = refl; on = refl }
 
   good_answered : s.device.usable ≡ true → sound s.device ≡ true → (a : Answer) → Good slot before (answered a)
-  unfolding answered seen held_after groups_after is_unheld_release
+  unfolding answered seen held_after groups_after
   good_answered u t a =
       let l = live_here slot before s g u in
       made_same slot before s (answered a) g l (held_of s.device) (endpoint_map_in s.device) (is_lost a) (marked_made s.device u t a) (upheld a)
       refl l.held l.fits
       (agree_made s.device (marked a s.device) _ _ _ s.plain.groups (marked_made s.device u t a) refl (marked_quarantined a s.device) l.groups)
       refl refl
-      (λ b f. g.enabled (or_left_false s.plain.broken _ b) (or_left_false s.plain.unheld_release _ f))
+      (λ b. g.enabled (or_left_false s.plain.broken _ b))
 
   run : List ℕ → Left
   run o = hub_left s.device ctx s.routes (played o 0 (hub_course ctx) buffers.log)

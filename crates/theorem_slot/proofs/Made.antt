@@ -72,7 +72,7 @@ module _ (slot : ℕ) (before : List ℕ) (s now : State) (g : Good slot before 
       (x y : List ℕ) → now.routes ≡ with_replaced s.routes slot (queues_of x) (queues_of y) →
       NamedBy (with_replaced s.routes slot (queues_of x) (queues_of y)) slot c →
       (Unrouted before slot → RoutedBy (with_replaced s.routes slot (queues_of x) (queues_of y)) slot c) →
-      (now.plain.broken ≡ false → now.plain.unheld_release ≡ false → (q : ℕ) → q < 30 →
+      (now.plain.broken ≡ false → (q : ℕ) → q < 30 →
       now.plain.enabled (dci_at q) ≡ not (eqb (get_or c.rings q 0) 0)) →
       Good slot before now
   made_moved x y r n routed e =
@@ -87,7 +87,7 @@ module _ (slot : ℕ) (before : List ℕ) (s now : State) (g : Good slot before 
   -- It left them.
   pub made_same :
       now.routes ≡ s.routes → now.plain.held ≡ s.plain.held →
-      (now.plain.broken ≡ false → now.plain.unheld_release ≡ false → (d : ℕ) → 2 ≤ d → d < 32 →
+      (now.plain.broken ≡ false → (d : ℕ) → 2 ≤ d → d < 32 →
       now.plain.enabled d ≡ is_held_dci s.plain d) →
       Good slot before now
   made_same r h e = good_same slot before s now g upheld r h e live_now

@@ -22,9 +22,9 @@ use Rattle.record_settings.specs.Held.{setting_words}
 use Rattle.record_settings.specs.Match.{has_place}
 use Rattle.record_settings.proofs.Laws.{setting_place}
 use Rattle.theorem_routing.proofs.Laws.{words_dci, words_name, words_ring}
-use Rattle.theorem_slot.specs.Plain.{HeldSetting, has_setting, queues_of_one}
+use Rattle.theorem_slot.specs.Plain.{HeldSetting, queues_of_one}
 use Rattle.theorem_slot.proofs.Kept.{ByPlace, owned_long}
-use Rattle.theorem_slot.proofs.Settings.{Fits, AllFit}
+use Rattle.theorem_slot.proofs.Settings.{Fits, AllFit, has_setting}
 use Rattle.theorem_slot.proofs.Claimed.{owned_ring, words_inside}
 
 -- The setting of an interface, if it has one.

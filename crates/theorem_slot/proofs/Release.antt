@@ -2,20 +2,20 @@
 use Rattle.std.proofs.Common.{Ok}
 use Prim.Native.Nat.{ℕ, ◌≤◌, ◌<◌}
 use mathlib.Core.Path.{◌≡◌, refl, sym, ◌∙◌, ap}
-use mathlib.Core.Bool.{Bool, true, false, not, ◌&&◌, or-false, and-true as and_one}
+use mathlib.Core.Bool.{true, false, not, ◌&&◌, or-false}
 use mathlib.Core.List.{List, []}
 use mathlib.Core.Logic.{inl, inr}
 use native.Mathlib.Omega.{arith}
-use borrow.Author.Tests.{eq-eqb, ne_eqb, lt-ltb}
-use lib.Dec.{eqb, ltb}
+use borrow.Author.Tests.{eq-eqb, ne_eqb}
+use lib.Dec.{eqb}
 use lib.ListN.{length, get_or, replicate, get_or-replicate}
 use Rattle.laws.proofs.Tests.{not_both}
-use Rattle.laws.proofs.Cases.{Decided, decided, or_left_false, or_right_false}
+use Rattle.laws.proofs.Cases.{or_left_false, or_right_false}
 use Rattle.answer.specs.declared.Answer.{Answer}
 use Rattle.answer.specs.declared.Answer.TheVariants as answer
 use Rattle.answer.specs.Check.{Pass}
 use Rattle.answer.specs.Answer.{number, is_accepted, is_lost}
-use Rattle.command.specs.Course.{Course, ends, sends, words, result, played}
+use Rattle.command.specs.Course.{Course, words, result, played}
 use Rattle.command.proofs.Operations.{ByteOperands, operation, EachCommand}
 use Rattle.context_block.specs.Blocks.{some_dci}
 use Rattle.context.specs.Place.{Spaced}
@@ -25,7 +25,7 @@ use Rattle.record_endpoint.specs.EndpointMap.{is_owned, owned_rings, queues_of, 
 use Rattle.record_endpoint.specs.declared.endpoint_map.Owner.TheVariants.{Interface}
 use Rattle.record_endpoint.proofs.Laws.{active_rings, queues_fit, dci_low, dci_high}
 use Rattle.record_settings.specs.Held.{is_held, alternate_of, setting_words, without_setting}
-use Rattle.record_settings.proofs.Laws.{match_facts, match_unheld}
+use Rattle.record_settings.proofs.Laws.{match_facts}
 use Rattle.theorem_routing.specs.Routing.{InTable, RoutedBy, NamedBy}
 use Rattle.theorem_routing.proofs.Laws.{no_queues, claim_named, release_done, release_routed}
 use Rattle.course_steps.specs.End.{End}
@@ -39,13 +39,13 @@ use Rattle.device.specs.Device.{list_of, endpoint_map_in, held_of}
 use Rattle.device.specs.Left.{Left, refused, ended}
 use Rattle.device.specs.Check.{record_check}
 use Rattle.device.specs.Release.{release_check, release_in, release_record, release}
-use Rattle.device.proofs.Laws.{Passed, passed}
+use Rattle.device.proofs.Laws.{Passed, pass_if, passed}
 use Rattle.device.proofs.Kept.{release_moves, release_stays}
 use Rattle.theorem_slot.specs.Call.{Buffers, releases, left, cut_at, context_cut}
 use Rattle.theorem_slot.specs.Groups.{returned_groups}
-use Rattle.theorem_slot.specs.Plain.{Plain, is_held_dci, without, has_setting, Effect, ends_one, effect_of, held_after, groups_after, queues_of_one, is_unheld_release, anew, seen}
+use Rattle.theorem_slot.specs.Plain.{Plain, is_held_dci, without, Effect, ends_one, effect_of, held_after, groups_after, queues_of_one, anew, seen}
 use Rattle.theorem_slot.specs.Theorem.{State}
-use Rattle.theorem_slot.proofs.Settings.{AllFit, pairs, pairs_setting, pairs_without, fit_without}
+use Rattle.theorem_slot.proofs.Settings.{AllFit, pairs, pairs_without, fit_without}
 use Rattle.theorem_slot.proofs.Good.{Live, Unrouted, Good, live_tells, routed_from, named_from, Upheld, enabled_was, live_here, live_one}
 use Rattle.theorem_slot.proofs.Step.{lost_not, checked, good_checked, mild_release, ran, ran_upheld, checked_ran, called_here}
 use Rattle.theorem_slot.proofs.Kept.{kept_has}
@@ -53,15 +53,6 @@ use Rattle.theorem_slot.proofs.Record.{AgreeWith}
 use Rattle.theorem_slot.proofs.Moved.{release_keeps, agree_released}
 use Rattle.theorem_slot.proofs.Made.{fit_active, agree_made, made_moved, made_same, byte_dcis}
 use Rattle.theorem_slot.proofs.Claimed.{some_place, fits_other, claimed_some}
-
--- A course that sent nothing leaves the endpoints as they are.
-silent :
-    {A : Type 0} (o : List ℕ) (n : ℕ) (c : Course A) (enabled : ℕ → Bool) → ltb 0 (length (words o n c)) ≡ false →
-    followed enabled_after o n c enabled ≡ enabled
-unfolding followed words
-silent o n (ends x) enabled e = refl
-silent o n (sends c ctx k) enabled e =
-    not_both (ltb 0 (length (words o n (sends c ctx k)))) (lt-ltb 0 (length (words o n (sends c ctx k))) (omega arith)) e
 
 module _ (slot : ℕ) (before : List ℕ) (s : State) (buffers : Buffers) (i : ℕ) (byte : i < 256) (g : Good slot before s) where
   abbrev d : Device
@@ -109,7 +100,7 @@ module _ (slot : ℕ) (before : List ℕ) (s : State) (buffers : Buffers) (i : �
     zero_pending q h = eq-eqb (get_or none q 0) 0 (get_or-replicate 30 q 0 0 h)
 
     was :
-        p.broken ≡ false → p.unheld_release ≡ false → (q : ℕ) → q < 30 →
+        p.broken ≡ false → (q : ℕ) → q < 30 →
         p.enabled (dci_at q) ≡ not (eqb (get_or (endpoint_map_in d).rings q 0) 0)
     was = enabled_was slot before s g l
 
@@ -139,12 +130,17 @@ module _ (slot : ℕ) (before : List ℕ) (s : State) (buffers : Buffers) (i : �
         rw no_queues
         (release_routed s.routes slot (endpoint_map_in d) (routed_from slot s.routes p (endpoint_map_in d) (g.own u) (live_tells slot d p l)) inside i).routed
 
-    -- A held setting's words are at the places of the interface's endpoints.
-    words_dci : is_held i (held_of d) ≡ true → (q : ℕ) → q < 30 → some_dci (dci_at q) (release_in d i).words ≡ is_owned (Interface i) (endpoint_map_in d) q
+    -- The interface holds a setting.
+    holds : is_held i (held_of d) ≡ true
+    unfolding release_check
+    holds = (pass_if (is_held i (held_of d)) Pass answer.NotClaimed (passed d _ _ _ _ k).1).0
+
+    -- Its words are at the places of the interface's endpoints.
+    words_dci : (q : ℕ) → q < 30 → some_dci (dci_at q) (release_in d i).words ≡ is_owned (Interface i) (endpoint_map_in d) q
     unfolding release_in
-    words_dci t q h =
+    words_dci q h =
         some_place (setting_words (list_of d) i (alternate_of i (held_of d))) q h
-        ∙ sym ((match_facts (list_of d) (held_of d) (endpoint_map_in d) pass.facts.endpoints).owned i q t h)
+        ∙ sym ((match_facts (list_of d) (held_of d) (endpoint_map_in d) pass.facts.endpoints).owned i q holds h)
 
     released_some :
         (q : ℕ) → q < 30 →
@@ -155,44 +151,13 @@ module _ (slot : ℕ) (before : List ℕ) (s : State) (buffers : Buffers) (i : �
         ∙ claimed_some i none (endpoint_map_in d) q false h (zero_pending q h)
 
     accepted_enabled :
-        end.answer ≡ answer.Accepted → now.plain.broken ≡ false → now.plain.unheld_release ≡ false → (q : ℕ) → q < 30 →
+        end.answer ≡ answer.Accepted → now.plain.broken ≡ false → (q : ℕ) → q < 30 →
         now.plain.enabled (dci_at q) ≡ not (eqb (get_or (claimed_endpoints i none (endpoint_map_in d)).rings q 0) 0)
-    unfolding now ran seen is_unheld_release end course
-    accepted_enabled e b f q h = go (decided (has_setting i p.held))
-      where
-        quiet : p.unheld_release ≡ false
-        quiet = or_left_false p.unheld_release _ f
-
-        sound : p.broken ≡ false
-        sound = or_left_false p.broken _ b
-
-        unsent :
-            has_setting i p.held ≡ false →
-            ltb 0 (length (words buffers.outcomes 0 (release_course (release_in d i) buffers.ctx s.routes))) ≡ false
-        unsent t =
-            let sent = ltb 0 (length (words buffers.outcomes 0 (release_course (release_in d i) buffers.ctx s.routes))) in
-            sym (and_one sent) ∙ (rw t at (or_right_false p.unheld_release (sent && not (has_setting i p.held)) f))
-
-        as_held : has_setting i p.held ≡ is_held i (held_of d)
-        as_held = pairs_setting i p.held ∙ ap (is_held i) l.held
-
-        go :
-            Decided (has_setting i p.held) →
-            followed enabled_after buffers.outcomes 0 (release_course (release_in d i) buffers.ctx s.routes) p.enabled (dci_at q)
-            ≡ not (eqb (get_or (claimed_endpoints i none (endpoint_map_in d)).rings q 0) 0)
-        go (inl t) =
-            release_accepted_enabled (release_in d i) buffers.ctx s.routes buffers.outcomes 0 spaced (dci_at q) (dci_low q h)
-            (dci_high q h) p.enabled e
-            ∙ rw (was sound quiet q h, words_dci (sym as_held ∙ t) q h) (released_some q h)
-        go (inr t) =
-            let o : is_owned (Interface i) (endpoint_map_in d) q ≡ false =
-            match_unheld (list_of d) (held_of d) (endpoint_map_in d) (match_facts (list_of d) (held_of d) (endpoint_map_in d) pass.facts.endpoints) i q
-            (sym as_held ∙ t) h in
-            ap (λ x. x (dci_at q)) (silent buffers.outcomes 0 (release_course (release_in d i) buffers.ctx s.routes) p.enabled (unsent t))
-            ∙ was sound quiet q h
-            ∙ sym (and_one (not (eqb (get_or (endpoint_map_in d).rings q 0) 0)))
-            ∙ ap (λ x. not (eqb (get_or (endpoint_map_in d).rings q 0) 0) && not x) (sym o)
-            ∙ released_some q h
+    unfolding now ran seen end course
+    accepted_enabled e b q h =
+        release_accepted_enabled (release_in d i) buffers.ctx s.routes buffers.outcomes 0 spaced (dci_at q) (dci_low q h)
+        (dci_high q h) p.enabled e
+        ∙ rw (was (or_left_false p.broken _ b) q h, words_dci q h) (released_some q h)
 
     settings_fit : AllFit (claimed_endpoints i none (endpoint_map_in d)) (without i p.held)
     settings_fit =
@@ -237,7 +202,7 @@ module _ (slot : ℕ) (before : List ℕ) (s : State) (buffers : Buffers) (i : �
     -- Otherwise it is as it was.
     stayed_good :
         Stayed s.routes end →
-        (now.plain.broken ≡ false → now.plain.unheld_release ≡ false → (x : ℕ) → 2 ≤ x → x < 32 →
+        (now.plain.broken ≡ false → (x : ℕ) → 2 ≤ x → x < 32 →
         now.plain.enabled x ≡ is_held_dci p x) →
         Good slot before now
     unfolding now ran seen held_after end course
@@ -250,21 +215,21 @@ module _ (slot : ℕ) (before : List ℕ) (s : State) (buffers : Buffers) (i : �
         held e
 
     failed_enabled :
-        (code : ℕ) → end.answer ≡ answer.Failed code → p.broken ≡ false → p.unheld_release ≡ false → (x : ℕ) → 2 ≤ x → x < 32 →
+        (code : ℕ) → end.answer ≡ answer.Failed code → p.broken ≡ false → (x : ℕ) → 2 ≤ x → x < 32 →
         followed enabled_after buffers.outcomes 0 course p.enabled x ≡ is_held_dci p x
     unfolding end course
-    failed_enabled code e b f x two h =
+    failed_enabled code e b x two h =
         release_failed_enabled (release_in d i) buffers.ctx s.routes buffers.outcomes 0 spaced x two h p.enabled code e
-        ∙ g.enabled b f x two h
+        ∙ g.enabled b x two h
 
     ended_good : Says (release_in d i) s.routes end → OneAnswer (release_in d i) s.routes end.answer → Good slot before now
     unfolding now ran seen end course number release_in
     ended_good (inl v) a = gone_good v
     ended_good (inr v) (inl e) = absurd (omega (arith, v.refused, ap number e))
     ended_good (inr v) (inr (inl (code, e))) =
-        stayed_good v (λ b f. failed_enabled code e (or_left_false p.broken _ b) (or_left_false p.unheld_release _ f))
+        stayed_good v (λ b. failed_enabled code e (or_left_false p.broken _ b))
     ended_good (inr v) (inr (inr (inl e))) =
-        stayed_good v (λ b f. lost_not end.answer (rw e refl) (or_right_false p.broken _ b))
+        stayed_good v (λ b. lost_not end.answer (rw e refl) (or_right_false p.broken _ b))
     ended_good (inr v) (inr (inr (inr (e, n)))) =
         absurd (n (ap (λ x. replaced s.routes x (queues_of old) []) l.place ∙ out))
 

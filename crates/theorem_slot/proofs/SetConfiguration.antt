@@ -158,7 +158,7 @@ module _ (slot : ℕ) (before : List ℕ) (s : State) (buffers : Buffers) (value
     abbrev rings : List ℕ
     rings = (endpoint_map_in d).rings
 
-    was : p.broken ≡ false → p.unheld_release ≡ false → (q : ℕ) → q < 30 → p.enabled (dci_at q) ≡ not (eqb (get_or rings q 0) 0)
+    was : p.broken ≡ false → (q : ℕ) → q < 30 → p.enabled (dci_at q) ≡ not (eqb (get_or rings q 0) 0)
     was = enabled_was slot before s g l
 
     spaced : Spaced (settings_in d value).spacing (length buffers.ctx)
@@ -202,13 +202,13 @@ module _ (slot : ℕ) (before : List ℕ) (s : State) (buffers : Buffers) (value
         place_held (list_of d) (held_of d) (endpoint_map_in d) q (and_left (all_own (list_of d) (held_of d) (endpoint_map_in d)) _ pass.facts.endpoints) h w
 
     accepted_enabled :
-        end.answer ≡ answer.Accepted → p.broken ≡ false → p.unheld_release ≡ false → (q : ℕ) → q < 30 →
+        end.answer ≡ answer.Accepted → p.broken ≡ false → (q : ℕ) → q < 30 →
         followed enabled_after buffers.outcomes 0 course p.enabled (dci_at q) ≡ not (eqb (get_or no_endpoints.rings q 0) 0)
     unfolding end course no_endpoints
-    accepted_enabled e b f q h =
+    accepted_enabled e b q h =
         set_accepted_enabled (settings_in d value) buffers.ctx s.routes buffers.outcomes 0 spaced (dci_at q) (dci_low q h)
         (dci_high q h) p.enabled e
-        ∙ rw (was b f q h, words_dci q h, eq-eqb (get_or {A = ℕ} (replicate 30 0) q 0) 0 (get_or-replicate 30 q 0 0 h))
+        ∙ rw (was b q h, words_dci q h, eq-eqb (get_or {A = ℕ} (replicate 30 0) q 0) 0 (get_or-replicate 30 q 0 0 h))
         (go (decided (eqb (get_or rings q 0) 0)))
       where
         go :
@@ -245,30 +245,30 @@ module _ (slot : ℕ) (before : List ℕ) (s : State) (buffers : Buffers) (value
         ((v.gone t).2 ∙ ap (λ x. with_replaced s.routes x (queues_of rings) []) l.place
         ∙ ap (with_replaced s.routes slot (queues_of rings)) (sym no_queues))
         (none_named _ slot) routed
-        (λ b f. enabled a (or_left_false p.broken _ b) (or_left_false p.unheld_release _ f) (or_right_false p.broken _ b))
+        (λ b. enabled a (or_left_false p.broken _ b) (or_right_false p.broken _ b))
       where
         enabled :
-            OneAnswer end.answer → p.broken ≡ false → p.unheld_release ≡ false →
+            OneAnswer end.answer → p.broken ≡ false →
             is_lost end.answer ≡ false → (q : ℕ) → q < 30 →
             followed enabled_after buffers.outcomes 0 (set_course (settings_in d value) buffers.ctx s.routes) p.enabled (dci_at q)
             ≡ not (eqb (get_or no_endpoints.rings q 0) 0)
-        enabled (inl e) b f n = accepted_enabled e b f
-        enabled (inr (inl (code, e))) b f n = not_both end.moved t (w.failed code e)
-        enabled (inr (inr (inl e))) b f n = lost_not end.answer (rw e refl) n
-        enabled (inr (inr (inr (inl e)))) b f n = lost_not end.answer (rw e refl) n
-        enabled (inr (inr (inr (inr e)))) b f n = not_both end.moved t (w.invalid e).0
+        enabled (inl e) b n = accepted_enabled e b
+        enabled (inr (inl (code, e))) b n = not_both end.moved t (w.failed code e)
+        enabled (inr (inr (inl e))) b n = lost_not end.answer (rw e refl) n
+        enabled (inr (inr (inr (inl e)))) b n = lost_not end.answer (rw e refl) n
+        enabled (inr (inr (inr (inr e)))) b n = not_both end.moved t (w.invalid e).0
 
     failed_enabled :
-        (code : ℕ) → end.answer ≡ answer.Failed code → p.broken ≡ false → p.unheld_release ≡ false → (x : ℕ) → 2 ≤ x → x < 32 →
+        (code : ℕ) → end.answer ≡ answer.Failed code → p.broken ≡ false → (x : ℕ) → 2 ≤ x → x < 32 →
         followed enabled_after buffers.outcomes 0 course p.enabled x ≡ is_held_dci p x
     unfolding end course
-    failed_enabled code e b f =
+    failed_enabled code e b =
         each_dci (λ x. followed enabled_after buffers.outcomes 0 course p.enabled x ≡ is_held_dci p x)
         (λ q h.
         set_failed_enabled (settings_in d value) buffers.ctx s.routes buffers.outcomes 0 spaced (dci_at q) (dci_low q h)
         (dci_high q h) p.enabled code e
-        (λ o. was b f q h ∙ ap not (word_ring q h (sym (words_dci q h) ∙ o)))
-        ∙ g.enabled b f (dci_at q) (dci_low q h) (dci_high q h))
+        (λ o. was b q h ∙ ap not (word_ring q h (sym (words_dci q h) ∙ o)))
+        ∙ g.enabled b (dci_at q) (dci_low q h) (dci_high q h))
 
     -- None is.
     stayed_good :
@@ -280,17 +280,17 @@ module _ (slot : ℕ) (before : List ℕ) (s : State) (buffers : Buffers) (value
         let held : now.plain.held ≡ p.held = ap (λ x. cond x [] p.held) (log_tells ∙ t) in
         made_same slot before s now g l (held_of d) (with_active Any end.active (endpoint_map_in d)) (is_lost end.answer) m upheld refl
         (ap pairs held ∙ l.held) (rw held (fit_active Any end.active (endpoint_map_in d) p.held l.fits)) (stayed_groups t) (v.kept t) held
-        (λ b f. enabled a (or_left_false p.broken _ b) (or_left_false p.unheld_release _ f) (or_right_false p.broken _ b))
+        (λ b. enabled a (or_left_false p.broken _ b) (or_right_false p.broken _ b))
       where
         enabled :
-            OneAnswer end.answer → p.broken ≡ false → p.unheld_release ≡ false →
+            OneAnswer end.answer → p.broken ≡ false →
             is_lost end.answer ≡ false → (x : ℕ) → 2 ≤ x → x < 32 →
             followed enabled_after buffers.outcomes 0 (set_course (settings_in d value) buffers.ctx s.routes) p.enabled x ≡ is_held_dci p x
-        enabled (inl e) b f n = not_both end.moved (w.accepted e) t
-        enabled (inr (inl (code, e))) b f n = failed_enabled code e b f
-        enabled (inr (inr (inl e))) b f n = lost_not end.answer (rw e refl) n
-        enabled (inr (inr (inr (inl e)))) b f n = lost_not end.answer (rw e refl) n
-        enabled (inr (inr (inr (inr e)))) b f n = absurd ((w.invalid e).1 allowed)
+        enabled (inl e) b n = not_both end.moved (w.accepted e) t
+        enabled (inr (inl (code, e))) b n = failed_enabled code e b
+        enabled (inr (inr (inl e))) b n = lost_not end.answer (rw e refl) n
+        enabled (inr (inr (inr (inl e)))) b n = lost_not end.answer (rw e refl) n
+        enabled (inr (inr (inr (inr e)))) b n = absurd ((w.invalid e).1 allowed)
 
     few : length (words buffers.outcomes 0 course) ≤ length buffers.log
     unfolding course settings_in

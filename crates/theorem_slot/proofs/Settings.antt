@@ -18,7 +18,7 @@ use Rattle.record_endpoint.specs.declared.endpoint_map.EndpointMap.{EndpointMap}
 use Rattle.record_endpoint.specs.declared.endpoint_map.Owner.TheVariants.{Interface}
 use Rattle.record_settings.specs.Held.{Held, is_held, alternate_of, without_setting}
 use Rattle.theorem_routing.proofs.Laws.{names_append, ring_for_append, ring_for_start}
-use Rattle.theorem_slot.specs.Plain.{HeldSetting, held_queues, without, has_setting}
+use Rattle.theorem_slot.specs.Plain.{HeldSetting, held_queues, without}
 
 -- A setting's queues are those of its interface's endpoints.
 pub record Fits (c : EndpointMap) (s : HeldSetting) : Type 0 where
@@ -49,6 +49,11 @@ held_inside c [] f d e = not_both false e refl
 held_inside c (s ∷ ss) f d e =
     ⊎_elim (λ h. f.0.inside d h) (λ h. held_inside c ss f.1 d h)
     (or_cases (names d s.queues) (names d (held_queues ss)) (sym (names_append d s.queues (held_queues ss)) ∙ e))
+
+-- An interface holds one.
+unfoldable pub has_setting : ℕ → List HeldSetting → Bool
+has_setting i [] = false
+has_setting i (s ∷ ss) = eqb s.interface i || has_setting i ss
 
 -- Endpoint p has a ring, and its owner holds one of the settings.
 abbrev pub held_at : EndpointMap → ℕ → List HeldSetting → Bool

@@ -47,7 +47,7 @@ use Rattle.device.proofs.AskLaws.{ask_then}
 use Rattle.device.specs.Release.{release_check}
 use Rattle.theorem_slot.specs.Call.{Buffers, Call, left, context_cut}
 use Rattle.theorem_slot.specs.Answers.{is_refused}
-use Rattle.theorem_slot.specs.Plain.{Plain, Effect, begins, holds_interface, ends_one, ends_all, unplugs, nothing, effect_of, held_after, groups_after, is_unheld_release, anew, seen, observed}
+use Rattle.theorem_slot.specs.Plain.{Plain, Effect, begins, holds_interface, ends_one, ends_all, unplugs, nothing, effect_of, held_after, groups_after, anew, seen, observed}
 use Rattle.theorem_slot.specs.Theorem.{State}
 use Rattle.theorem_slot.proofs.Words.{taken_words}
 use Rattle.theorem_slot.proofs.Good.{Upheld}
@@ -67,15 +67,18 @@ refused_mild a r = go (or_cases _ _ r)
     other : (k : ℕ) → n ≡ k → 15 < k → (eqb n 0 ≡ false) × ((eqb n 14 || eqb n 15) ≡ false)
     other k e h = (ne_eqb n 0 (λ z. omega arith), rw (ne_eqb n 14 (λ z. omega arith), ne_eqb n 15 (λ z. omega arith)) refl)
 
-    go : ((leb 1 n && leb n 12) ≡ true) ⊎ ((eqb n 17 || (eqb n 21 || eqb n 22)) ≡ true) → (eqb n 0 ≡ false) × ((eqb n 14 || eqb n 15) ≡ false)
+    go : ((leb 1 n && leb n 12) ≡ true) ⊎ ((eqb n 17 || (eqb n 21 || (eqb n 22 || eqb n 25))) ≡ true) → (eqb n 0 ≡ false) × ((eqb n 14 || eqb n 15) ≡ false)
     go (inl e) =
         let low = leb-true 1 n (and_left (leb 1 n) (leb n 12) e) in
         let high = leb-true n 12 (and_right (leb 1 n) (leb n 12) e) in
         (ne_eqb n 0 (λ z. omega arith), rw (ne_eqb n 14 (λ z. omega arith), ne_eqb n 15 (λ z. omega arith)) refl)
     go (inr e) =
         ⊎_elim (λ s. other 17 (eqb-true n 17 s) (omega arith))
-        (λ t. ⊎_elim (λ s. other 21 (eqb-true n 21 s) (omega arith)) (λ s. other 22 (eqb-true n 22 s) (omega arith)) (or_cases (eqb n 21) (eqb n 22) t))
-        (or_cases (eqb n 17) (eqb n 21 || eqb n 22) e)
+        (λ t.
+        ⊎_elim (λ s. other 21 (eqb-true n 21 s) (omega arith))
+        (λ u. ⊎_elim (λ s. other 22 (eqb-true n 22 s) (omega arith)) (λ s. other 25 (eqb-true n 25 s) (omega arith)) (or_cases (eqb n 22) (eqb n 25) u))
+        (or_cases (eqb n 21) (eqb n 22 || eqb n 25) t))
+        (or_cases (eqb n 17) (eqb n 21 || (eqb n 22 || eqb n 25)) e)
 
 -- What the numbers of answers rule out.
 pub accepted_not : {x : Answer} → is_accepted x ≡ false → x ≡ answer.Accepted → ⊥
@@ -176,7 +179,7 @@ pub mild_release :
 unfolding release_check number is_refused
 mild_release d ctx routes log i =
     mild_record d ctx routes log _
-    (mild_unless (is_held i (held_of d) || is_found (find_endpoints (list_of d) i 0)) answer.NotFound _ refl mild_pass)
+    (mild_unless (is_held i (held_of d)) answer.NotClaimed _ refl mild_pass)
 
 pub mild_set : (d : Device) (ctx routes log : ℕ) → MildCheck (record_check d ctx routes log Pass)
 mild_set d ctx routes log = mild_record d ctx routes log Pass mild_pass
@@ -205,18 +208,17 @@ quiet effect outcomes p accepted broken cut =
       held = held_after effect accepted outcomes [] p;
       enabled = p.enabled;
       broken = p.broken || (broken || cut);
-      unheld_release = p.unheld_release || is_unheld_release effect [] p.held;
       groups = groups_after effect accepted broken outcomes [] p;
     })
 
 quiet_same : (effect : Effect) (outcomes : List ℕ) (p : Plain) → quiet effect outcomes p false false false ≡ p
-unfolding quiet anew held_after groups_after is_unheld_release done_word
-quiet_same (begins a) outcomes p = rw (or-false p.broken, or-false p.unheld_release) refl
-quiet_same (holds_interface i a) outcomes p = rw (or-false p.broken, or-false p.unheld_release) refl
-quiet_same (ends_one i) outcomes p = rw (or-false p.broken, or-false p.unheld_release) refl
-quiet_same (ends_all operation) outcomes p = rw (or-false p.broken, or-false p.unheld_release) refl
-quiet_same unplugs outcomes p = rw (or-false p.broken, or-false p.unheld_release) refl
-quiet_same nothing outcomes p = rw (or-false p.broken, or-false p.unheld_release) refl
+unfolding quiet anew held_after groups_after done_word
+quiet_same (begins a) outcomes p = rw (or-false p.broken) refl
+quiet_same (holds_interface i a) outcomes p = rw (or-false p.broken) refl
+quiet_same (ends_one i) outcomes p = rw (or-false p.broken) refl
+quiet_same (ends_all operation) outcomes p = rw (or-false p.broken) refl
+quiet_same unplugs outcomes p = rw (or-false p.broken) refl
+quiet_same nothing outcomes p = rw (or-false p.broken) refl
 
 pub observed_refused :
     (effect : Effect) (buffers : Buffers) (a : Answer) (contexts : ℕ → List ℕ) (p : Plain) → Mild a →

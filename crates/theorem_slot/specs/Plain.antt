@@ -1,5 +1,5 @@
 -- 01's plain slot: what a reader of the calls' arguments, answers and logs knows of a slot. Nothing of our record is in it.
-use Rattle.std.specs.Prelude.{ℕ, Bool, true, false, not, cond, ◌&&◌, ◌||◌, List, [], ◌∷◌, ◌++◌, eqb, ltb, length}
+use Rattle.std.specs.Prelude.{ℕ, Bool, true, false, cond, ◌||◌, List, [], ◌∷◌, ◌++◌, eqb, length}
 use Rattle.answer.specs.declared.Answer.{Answer}
 use Rattle.answer.specs.Answer.{is_accepted, is_broken, is_lost}
 use Rattle.context.specs.Steps.{word_dcis}
@@ -50,8 +50,6 @@ pub record Plain : Type 0 where
   pub enabled : ℕ → Bool
   -- whether an answer since the bring-up was 14 or 15
   pub broken : Bool
-  -- whether a release since then sent a command though its interface held no setting
-  pub unheld_release : Bool
   -- the rings given to it
   pub groups : Groups
 
@@ -70,10 +68,6 @@ is_held_dci p d = names d (held_queues p.held)
 unfoldable pub without : ℕ → List HeldSetting → List HeldSetting
 without i [] = []
 without i (s ∷ ss) = cond (eqb s.interface i) (without i ss) (s ∷ without i ss)
-
-unfoldable pub has_setting : ℕ → List HeldSetting → Bool
-has_setting i [] = false
-has_setting i (s ∷ ss) = eqb s.interface i || has_setting i ss
 
 -- The queues of an interface's setting.
 unfoldable pub queues_of_one : ℕ → List HeldSetting → List Queue
@@ -137,15 +131,6 @@ groups_after unplugs accepted broken outcomes words p =
     cond accepted (freed_groups p.groups) (cond broken (doubted_groups p.groups) p.groups)
 groups_after nothing accepted broken outcomes words p = p.groups
 
--- Whether a call would end an interface's setting, and sent a command, though the interface holds none.
-unfoldable pub is_unheld_release : Effect → List ℕ → List HeldSetting → Bool
-is_unheld_release (begins a) words held = false
-is_unheld_release (holds_interface i a) words held = false
-is_unheld_release (ends_one i) words held = ltb 0 (length words) && not (has_setting i held)
-is_unheld_release (ends_all operation) words held = false
-is_unheld_release unplugs words held = false
-is_unheld_release nothing words held = false
-
 -- A slot whose bring-up was accepted: no held setting, and nothing but control enabled.
 unfoldable pub begun : BringUp → Plain
 begun a =
@@ -156,11 +141,10 @@ begun a =
       held = [];
       enabled = λ d. eqb d 1;
       broken = false;
-      unheld_release = false;
       groups = given_groups a.rings;
     }
 
--- One whose device is unplugged: no route, no held setting. The marks stay until the next accepted bring-up.
+-- One whose device is unplugged: no route, no held setting. The mark stays until the next accepted bring-up.
 unfoldable pub emptied : Plain → Plain
 emptied p =
     record {
@@ -170,7 +154,6 @@ emptied p =
       held = [];
       enabled = p.enabled;
       broken = p.broken;
-      unheld_release = p.unheld_release;
       groups = p.groups;
     }
 
@@ -184,7 +167,6 @@ failed p =
       held = p.held;
       enabled = p.enabled;
       broken = p.broken;
-      unheld_release = p.unheld_release;
       groups = p.groups;
     }
 
@@ -207,7 +189,6 @@ seen effect buffers answer words enabled p =
       held = held_after effect (is_accepted answer) buffers.outcomes words p;
       enabled = enabled;
       broken = p.broken || is_lost answer;
-      unheld_release = p.unheld_release || is_unheld_release effect words p.held;
       groups = groups_after effect (is_accepted answer) (is_broken answer) buffers.outcomes words p;
     }
 

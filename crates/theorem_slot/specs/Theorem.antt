@@ -102,10 +102,9 @@ pub record Kept (slot : ℕ) (still : ℕ → Bool) (before : List ℕ) (s : Sta
   pub others : (k : ℕ) → OutsideSlot slot k → still k ≡ true → get_or s.routes k 0 ≡ get_or before k 0
   -- control is enabled while the device is up
   pub control : is_up s.plain.phase ≡ true → s.plain.enabled 1 ≡ true
-  -- before the first broken or cut answer, and while no release sent a command for an interface that held nothing, the other enabled
-  -- endpoints are the held ones
+  -- before the first broken or cut answer the other enabled endpoints are the held ones
   pub enabled :
-      is_up s.plain.phase ≡ true → s.plain.broken ≡ false → s.plain.unheld_release ≡ false → (d : ℕ) → 2 ≤ d → d < 32 →
+      is_up s.plain.phase ≡ true → s.plain.broken ≡ false → (d : ℕ) → 2 ≤ d → d < 32 →
       s.plain.enabled d ≡ is_held_dci s.plain d
   -- while it is unplugged, no word of the slot is a route and no endpoint is enabled
   pub empty :
@@ -163,7 +162,7 @@ BroughtUpAgain =
     ((k : ℕ) → k < 64 → outcome_at l.outcomes k ≡ Done) →
     (left (brings_up b) l s.device table).answer ≡ answer.Accepted)
 
--- An accepted bring-up begins the plain slot anew, whatever was before: its phase, its settings and its marks too.
+-- An accepted bring-up begins the plain slot anew, whatever was before: its phase, its settings and its mark too.
 abbrev pub BegunAnew : Type 0
 BegunAnew =
     (s : State) (t : Turn) (b : BringUp) →

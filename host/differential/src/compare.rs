@@ -5,6 +5,7 @@ use scenario::{
     scenario_text,
 };
 
+use crate::build::rings_wanted;
 use crate::case::Case;
 use crate::fields;
 use crate::groups;
@@ -258,6 +259,7 @@ fn rule(case: &Case, subject: &Done, reference: &Result<Done, Cannot>) -> Verdic
         (Call::HubUpdate(_), 7) => Verdict::Listed(rows::THINK_LONG),
         (Call::BringUp(_), 19) if reference.is_ok() => Verdict::Listed(rows::PACKET_EXPONENT),
         (Call::Disconnect, 0 | 14) => unplugged(case, subject, reference),
+        (Call::Release { interface }, 25) => unclaimed(case, *interface, reference),
         (_, 13) => failed_configure(case, subject, reference),
         _ => Verdict::Different("the layers"),
     }
@@ -296,9 +298,34 @@ fn refused_chain(fault: Option<&'static str>, reference: &Result<Done, Cannot>) 
     }
 }
 
+/// The row on a release of an interface that holds nothing: the original does not find its alternate 0, or flags that
+/// one's endpoints for drop in a Configure, and nothing of its record ends.
+fn unclaimed(case: &Case, interface: u8, reference: &Result<Done, Cannot>) -> Verdict {
+    let Ok(Done { answer, buffers, record, .. }) = reference else {
+        return Verdict::Different("the layers");
+    };
+    let idle = case.record.held.iter().all(|held| held.0 != interface);
+    let kept = Record { usable: record.usable, ..case.record.sorted() };
+    let as_listed = match &buffers.log[..answer.count] {
+        [] => answer.number == 8 && *buffers == case.buffers,
+        [word] => {
+            let flags = buffers.ctx[..4].try_into().map_or(0, u32::from_le_bytes) & !3;
+            let addresses = rings_wanted(&case.record.list, interface, 0);
+            let dropped = addresses.into_iter().fold(0, |flags, address| flags | 1 << dci(address));
+            word >> 28 == CONFIGURE && flags == dropped && matches!(answer.number, 0 | 13 | 15)
+        }
+        _ => false,
+    };
+    match idle && as_listed && *record == kept && buffers.routes == case.buffers.routes {
+        true => Verdict::Listed(rows::UNCLAIMED_RELEASE),
+        false => Verdict::Different("the release"),
+    }
+}
+
+const CONFIGURE: u32 = 3;
+
 /// The two rows on a failed Configure of a release or a set configuration: all else must be the same.
 fn failed_configure(case: &Case, subject: &Done, reference: &Result<Done, Cannot>) -> Verdict {
-    const CONFIGURE: u32 = 3;
     const RESUME: u32 = 5;
     let Ok(reference) = reference else {
         return Verdict::Different("the layers");
@@ -365,11 +392,14 @@ fn control_at_0(case: &Case) -> bool {
     case.buffers.routes[32 * usize::from(case.record.slot)] == case.record.control
 }
 
+fn dci(address: u8) -> usize {
+    usize::from(address & 15) * 2 + usize::from(address >> 7)
+}
+
 /// Whether of the slot's words those at Dci 0 and at the endpoints' Dcis were cleared, and no other.
 fn routes_at_0(case: &Case, reference: &Done) -> bool {
     let mut routes = case.buffers.routes.clone();
     let row = 32 * usize::from(case.record.slot);
-    let dci = |address: u8| usize::from(address & 15) * 2 + usize::from(address >> 7);
     for cleared in [0].into_iter().chain(case.record.endpoints.iter().map(|e| dci(e.address))) {
         routes[row + cleared] = 0;
     }

@@ -84,8 +84,14 @@ fn two_alternates() -> Vec<u32> {
     ]
 }
 
-fn lists() -> [Vec<u32>; 6] {
-    [vec![], vec![configuration(3)], two_alternates(), sharing_list(), repeating_list(), large_list()]
+/// Two interfaces that list the same address.
+fn one_address() -> Vec<u32> {
+    let word = endpoint(0x81, BULK, 512, 0, 0);
+    vec![configuration(1), alternate(0, 0), word, alternate(1, 0), word]
+}
+
+fn lists() -> [Vec<u32>; 7] {
+    [vec![], vec![configuration(3)], two_alternates(), one_address(), sharing_list(), repeating_list(), large_list()]
 }
 
 fn context(spacing: usize, rng: &mut Rng) -> Vec<u8> {

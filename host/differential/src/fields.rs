@@ -97,7 +97,10 @@ fn configures(case: &Case, reference: &Done) -> Vec<Configure> {
             let old = held(args.interface).map(|alternate| words(record, args.interface, alternate));
             (old.unwrap_or_default(), words(record, args.interface, args.alternate))
         }
-        (Call::Release { interface }, None) => (words(record, *interface, held(*interface).unwrap_or(0)), Vec::new()),
+        (Call::Release { interface }, None) => {
+            let old = held(*interface).map(|alternate| words(record, *interface, alternate));
+            (old.unwrap_or_default(), Vec::new())
+        }
         (Call::SetConfiguration { .. }, None) => {
             (record.held.iter().flat_map(|held| words(record, held.0, held.1)).collect(), Vec::new())
         }

@@ -5,7 +5,7 @@ use scenario::{BringUp, Buffers, Call, HubUpdate, Record};
 use crate::case::Case;
 use crate::rows;
 
-/// The number that a call must be refused with, as far as it can be told without looking into the record's maps.
+/// The number that a call must be refused with, as far as it can be told without looking into the record's endpoints.
 pub fn expected(case: &Case) -> Option<u8> {
     match &case.call {
         Call::BringUp(args) => bring_up(args, &case.buffers),
@@ -17,7 +17,7 @@ pub fn expected(case: &Case) -> Option<u8> {
 pub fn is_known(case: &Case, number: u8) -> bool {
     match &case.call {
         Call::BringUp(_) => matches!(number, 1..=12 | 17),
-        _ => matches!(number, 1 | 2 | 3 | 7 | 12),
+        _ => matches!(number, 1 | 2 | 3 | 7 | 12 | 25),
     }
 }
 
@@ -47,13 +47,17 @@ fn rings_fault(rings: &[u64]) -> bool {
         || rings.iter().any(|ring| *ring == 0 || ring & 15 != 0)
 }
 
-/// 12, 1, 2, 3, and 7 of a hub update; 8 and 9 are the original's to tell, and 21 is the store's.
+/// 12, 1, 2, 3, 7 of a hub update, and 25 of a release; 8 and 9 are the original's to tell, and 21 is the store's.
 fn on_record(call: &Call, record: &Record, buffers: &Buffers) -> Option<u8> {
     if !allowed(call, record) {
         return Some(12);
     }
-    let seven = matches!(call, Call::HubUpdate(args) if record.speed == 3 && think_fault(args));
-    lengths(buffers, record.spacing, record.n.into()).or(seven.then_some(7))
+    let own = match call {
+        Call::HubUpdate(args) => (record.speed == 3 && think_fault(args)).then_some(7),
+        Call::Release { interface } => record.held.iter().all(|held| held.0 != *interface).then_some(25),
+        _ => None,
+    };
+    lengths(buffers, record.spacing, record.n.into()).or(own)
 }
 
 /// The record's mark for this call: an unplugging asks whether it is up.

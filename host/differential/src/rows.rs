@@ -21,8 +21,9 @@ pub const PACKET_EXPONENT: &str = "a packet byte other than 9 at SuperSpeed";
 pub const CONTROL_ROUTE: &str = "control's route in an unplugging";
 pub const FOREIGN_WORD: &str = "a foreign word in an unplugging";
 pub const QUARANTINED_TWICE: &str = "a ring that is in quarantine already";
+pub const UNCLAIMED_RELEASE: &str = "a release of an interface that holds nothing";
 
-pub const ALL: [&str; 20] = [
+pub const ALL: [&str; 21] = [
     UNKNOWN_SPEED,
     HUB_MISSING,
     NO_ROOT_HUB,
@@ -43,6 +44,7 @@ pub const ALL: [&str; 20] = [
     CONTROL_ROUTE,
     FOREIGN_WORD,
     QUARANTINED_TWICE,
+    UNCLAIMED_RELEASE,
 ];
 
 #[cfg(test)]

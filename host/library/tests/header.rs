@@ -53,7 +53,7 @@ fn answers_have_their_numbers_and_names() {
         assert_eq!(text.trim_end_matches("\";"), words.trim_end_matches(", with code 0"), "{name}");
         count += 1;
     }
-    assert_eq!((count, outside().map(|(number, _)| Answer::of(number, 0))), (25, [None; 3]));
+    assert_eq!((count, outside().map(|(number, _)| Answer::of(number, 0))), (26, [None; 3]));
 }
 
 #[test]

@@ -85,10 +85,9 @@ pub fn ask_of(record: &Record, interface: u8, alternate: u8) -> Asked {
     Asked { interface, alternate, drops: flags(&old), adds: flags(&new), rings }
 }
 
-/// 8 is left for an interface that holds nothing and has no alternate 0.
-pub fn release(record: &Record, interface: u8) -> Checked {
-    let held = record.held.iter().any(|h| h.0 == interface);
-    ask(held || lookup(&record.list, interface, 0).is_some(), 8)
+/// The setting that the interface holds. 25: "interface not claimed", whatever the list has.
+pub fn release(record: &Record, interface: u8) -> Result<(u8, u8), u8> {
+    record.held.iter().find(|held| held.0 == interface).copied().ok_or(25)
 }
 
 /// At other speeds than High no think time is refused.

@@ -279,13 +279,13 @@ impl<'a> Course<'a> {
         self.record.held.retain(|h| h.0 != interface);
     }
 
-    /// `_release_interface`. Of an interface that holds nothing: one Configure with the drop flags of its alternate 0.
-    pub fn release(&mut self, interface: u8) -> Run {
-        let alternate = self.record.held.iter().find(|h| h.0 == interface).map_or(0, |h| h.1);
+    /// `_release_interface`, of the setting that the interface holds.
+    pub fn release(&mut self, setting: (u8, u8)) -> Run {
+        let (interface, alternate) = setting;
         let words = self.lookup(interface, alternate);
         let old = self.addresses(|e| e.owner == interface);
         self.stop_owned(&old)?;
-        self.disable((interface, alternate), &words, &old)?;
+        self.disable(setting, &words, &old)?;
         if !self.replace_queues(&old, &BTreeMap::new()) {
             return Err(INVALID_ENDPOINT);
         }

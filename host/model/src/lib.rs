@@ -77,11 +77,12 @@ impl Layer for Model {
     }
 
     fn release(&mut self, record: &Record, interface: u8, buffers: &mut Buffers) -> Outcome {
-        if let Err(number) = check::record(record, buffers).and_then(|()| check::release(record, interface)) {
-            return refused(number, record.clone());
-        }
+        let setting = match check::record(record, buffers).and_then(|()| check::release(record, interface)) {
+            Ok(setting) => setting,
+            Err(number) => return refused(number, record.clone()),
+        };
         let mut course = Course::new(record.clone(), buffers);
-        let result = course.release(interface);
+        let result = course.release(setting);
         ended(course, result)
     }
 

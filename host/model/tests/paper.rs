@@ -327,3 +327,28 @@ fn commits() {
     }
     assert_eq!(Model.commit(&held, &now, &mut given).expect("an answer").1.number, 0);
 }
+
+/// 02, item 10: "two interfaces may list the same address"; the release of the idle one "is refused before any command",
+/// 25, "after 3 in a release".
+#[test]
+fn unclaimed_releases() {
+    let (record, mut given) = stocked(&RINGS, &[interrupt(1)], &[interrupt(1)]);
+    let (held, _) = Model.claim(&record, &Claim::default(), &mut given).expect("a record");
+    let refused = |record: &Record, interface, given: &Buffers| {
+        let mut lent = given.clone();
+        let (left, answer) = Model.release(record, interface, &mut lent).expect("an answer");
+        assert_eq!((&left, &lent, answer.code, answer.count), (record, given, 0, 0));
+        answer.number
+    };
+    // Of interface 9 the list has nothing.
+    assert_eq!([1, 9].map(|interface| refused(&held, interface, &given)), [25, 25]);
+    assert_eq!(refused(&record, 0, &given), 25);
+    let broken = Record { usable: false, ..held.clone() };
+    assert_eq!(refused(&broken, 1, &given), 12);
+    assert_eq!(refused(&held, 1, &Buffers { ctx: vec![], ..given.clone() }), 1);
+    assert_eq!(refused(&held, 1, &Buffers { routes: vec![], ..given.clone() }), 2);
+    assert_eq!(refused(&held, 1, &Buffers { log: vec![0; 63], ..given.clone() }), 3);
+    let (released, answer) = Model.release(&held, 0, &mut given).expect("a record");
+    assert_eq!((answer.number, &released), (0, &record));
+    assert_eq!(refused(&released, 0, &given), 25);
+}

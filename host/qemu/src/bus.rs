@@ -211,9 +211,12 @@ impl<'a> Wire<'a> {
         self.request([0x80, 6, index, 2, 0, 0, 9, 0], due)?;
         let [low, high] = [self.read[2], self.read[3]];
         self.request([0x80, 6, index, 2, 0, 0, low, high], due)?;
-        let total = u16::from_le_bytes([low, high]) + self.hardware.invented.len() as u16;
-        self.read.extend(self.hardware.invented);
+        let invented = self.hardware.invented;
+        let total = u16::from_le_bytes([low, high]) + invented.len() as u16;
+        self.read.extend(invented);
         self.read[2..4].copy_from_slice(&total.to_le_bytes());
+        // Another interface begins with its alternate 0.
+        self.read[4] += u8::from(invented.get(3) == Some(&0));
         self.hardware.configurations.push(self.read.clone());
         Ok(())
     }

@@ -3,7 +3,7 @@
 use xhci_device::{Answer, Dci};
 
 use Action::*;
-use Answer::{Accepted, Failed};
+use Answer::{Accepted, Failed, NotClaimed};
 use At::*;
 use Key::*;
 
@@ -96,6 +96,9 @@ const OUT2: Dci = Dci(4);
 /// Interface 0, alternate 1: endpoint 0x82, interrupt, 8 bytes, interval 7.
 const ALTERNATE: &[u8] = &[9, 4, 0, 1, 1, 3, 1, 1, 0, 7, 5, 0x82, 3, 8, 0, 7];
 
+/// Interface 1, alternate 0: endpoint 0x81, interrupt, 8 bytes, interval 7.
+const SHARING: &[u8] = &[9, 4, 1, 0, 1, 3, 1, 1, 0, 7, 5, 0x81, 3, 8, 0, 7];
+
 const DISK: &str = "driver=null-co,node-name=d,size=1048576,read-zeroes=on";
 
 pub const SCENARIOS: &[Scenario] = &[
@@ -176,6 +179,22 @@ pub const SCENARIOS: &[Scenario] = &[
             (0, Silence(IN1, C)),
             (0, Claim(0, 0, Accepted)),
             (0, Type(IN1, D)),
+        ],
+    },
+    Scenario {
+        name: "idle",
+        what: "an interface that holds nothing lists another's endpoint, and is released",
+        qemu: &["-device", "usb-kbd,port=1"],
+        steps: &[
+            (0, BringUpWith(Root(5), HIGH, SHARING)),
+            (0, Release(0, NotClaimed)),
+            (0, Claim(0, 0, Accepted)),
+            (0, Type(IN1, A)),
+            (0, Release(1, NotClaimed)),
+            (0, Type(IN1, B)),
+            (0, Release(0, Accepted)),
+            (0, Release(0, NotClaimed)),
+            (0, Silence(IN1, C)),
         ],
     },
     Scenario {

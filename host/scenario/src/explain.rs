@@ -39,6 +39,7 @@ pub fn answer(number: u8) -> &'static str {
         22 => "refused: the ask is outdated",
         23 => "refused: the settings are malformed or not found",
         24 => "refused: the settings are of another configuration than the first",
+        25 => "refused: the interface is not claimed",
         _ => "an answer without a name",
     }
 }

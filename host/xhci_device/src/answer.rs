@@ -3,8 +3,8 @@
 use core::fmt;
 
 /// What a call answers, in the order of their numbers. Those from `ContextLength` to `Unusable`,
-/// `QueueFull`, `TooFewRings` and `OutdatedAsk` are refusals: the call has sent nothing and changed nothing. After `InterfaceBroken`, `Cut` and any
-/// bring-up that was not accepted the record is unusable.
+/// `QueueFull`, `TooFewRings`, `OutdatedAsk` and `NotClaimed` are refusals: the call has sent nothing and changed nothing.
+/// After `InterfaceBroken`, `Cut` and any bring-up that was not accepted the record is unusable.
 ///
 /// ```
 /// use xhci_device::Answer;
@@ -30,7 +30,7 @@ pub enum Answer {
     Speed,
     /// No think time of a high-speed hub has that many nanoseconds.
     ThinkTime,
-    /// The list has no such alternate.
+    /// A claim: the list has no such alternate.
     NotFound,
     /// An address that another interface owns.
     InvalidParameter,
@@ -58,10 +58,12 @@ pub enum Answer {
     TooFewRings,
     /// A commit: an ask would now show something else.
     OutdatedAsk,
+    /// A release: the interface holds no setting.
+    NotClaimed,
 }
 
 impl Answer {
-    /// The answer of a number; `code` counts for 13 only. None for 20, which no call answers, and above 22.
+    /// The answer of a number; `code` counts for 13 only. None for 20, 23 and 24, which no call answers, and above 25.
     pub fn of(number: u8, code: u8) -> Option<Answer> {
         Some(match number {
             0 => Answer::Accepted,
@@ -86,6 +88,7 @@ impl Answer {
             19 => Answer::PacketExponent,
             21 => Answer::TooFewRings,
             22 => Answer::OutdatedAsk,
+            25 => Answer::NotClaimed,
             _ => return None,
         })
     }
@@ -115,6 +118,7 @@ impl Answer {
             Answer::PacketExponent => 19,
             Answer::TooFewRings => 21,
             Answer::OutdatedAsk => 22,
+            Answer::NotClaimed => 25,
         }
     }
 
@@ -153,6 +157,7 @@ impl fmt::Display for Answer {
             Answer::PacketExponent => "the packet byte is no exponent of a SuperSpeed size",
             Answer::TooFewRings => "there are fewer free rings than endpoint words",
             Answer::OutdatedAsk => "the ask is outdated",
+            Answer::NotClaimed => "the interface is not claimed",
         })
     }
 }
@@ -163,11 +168,11 @@ mod tests {
 
     #[test]
     fn numbers_name_the_answers() {
-        for number in (0..=19).chain([21, 22]) {
+        for number in (0..=19).chain([21, 22, 25]) {
             let answer = Answer::of(number, 7).expect("an answer");
             assert_eq!(answer.number(), number);
             assert_eq!(answer.code(), if number == 13 { 7 } else { 0 });
         }
-        assert_eq!([20, 23].map(|number| Answer::of(number, 0)), [None; 2]);
+        assert_eq!([20, 23, 24, 26].map(|number| Answer::of(number, 0)), [None; 4]);
     }
 }

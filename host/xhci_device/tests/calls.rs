@@ -68,8 +68,14 @@ fn a_device_is_brought_up_and_used() {
     assert_eq!(room.log[..5], [0x40300000, 0x30000000, 0x60001000, 0x30000000, 0x60000000]);
     assert!(record.held().eq([Setting { interface: 0, alternate: 0 }]));
 
+    let (before, row) = (record.clone(), room.routes);
+    for interface in [1, 9] {
+        assert_eq!(record.release(room.memory(&[0; 16]), interface), (Answer::NotClaimed, 0));
+    }
+    assert!(record == before && room.routes == row);
     let (answer, _) = record.release(room.memory(&[0; 16]), 0);
     assert_eq!((answer, room.route(Dci(3))), (Answer::Accepted, 0));
+    assert_eq!(record.release(room.memory(&[0; 16]), 0), (Answer::NotClaimed, 0));
     assert_eq!(record.hub_update(room.memory(&[0]), 4, false, 666).0, Answer::Accepted);
     assert_eq!(record.set_configuration(room.memory(&[]), 1).0, Answer::Cut);
     assert!(!record.is_usable());

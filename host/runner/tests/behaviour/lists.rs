@@ -105,7 +105,6 @@ struct Plain {
     held: Vec<Held>,
     enabled: Vec<u64>,
     broken: bool,
-    loose: bool,
     free: BTreeSet<u64>,
     live: BTreeSet<u64>,
     quarantined: BTreeSet<u64>,
@@ -154,7 +153,7 @@ impl Plain {
     fn begun(phase: Phase) -> Plain {
         let free = GIVEN.iter().copied().filter(|ring| *ring != CONTROL).collect();
         let (held, enabled, live) = (Vec::new(), Vec::new(), BTreeSet::from([CONTROL]));
-        Plain { phase, held, enabled, broken: false, loose: false, free, live, quarantined: BTreeSet::new() }
+        Plain { phase, held, enabled, broken: false, free, live, quarantined: BTreeSet::new() }
     }
 
     /// The setting that a claim asks for, with the rings that it draws.
@@ -208,10 +207,7 @@ impl Plain {
                     self.held.push(new);
                 }
             }
-            Call::Release { interface } => {
-                self.loose |= !words.is_empty() && self.held.iter().all(|held| held.interface != *interface);
-                self.end(|held| accepted && held == *interface);
-            }
+            Call::Release { interface } if accepted => self.end(|held| held == *interface),
             Call::SetConfiguration { .. } if (0..words.len()).any(|i| done(i, SET_CONFIGURATION)) => self.end(|_| true),
             Call::Disconnect if accepted => {
                 self.free.append(&mut self.live);
@@ -261,13 +257,12 @@ fn told(plain: &Plain, device: &Told) -> [String; 9] {
         Phase::Unplugged => "unplugged",
         Phase::NotUp => "not up",
     };
-    let marks = [(plain.broken, "broken"), (plain.loose, "loose")];
     [
         phase.to_string(),
         joined(&plain.held, |held| format!("{}:{}", held.interface, held.alternate)),
         joined((2..32).filter(|dci| plain.route(*dci) != 0), |dci| format!("{dci}→{}", plain.route(dci))),
         joined(&plain.enabled, u64::to_string),
-        joined(marks.iter().filter(|mark| mark.0), |mark| mark.1.to_string()),
+        if plain.broken { "broken" } else { "" }.to_string(),
         joined(&plain.free, u64::to_string),
         joined(&plain.quarantined, u64::to_string),
         device.alternates.map(known).join(" "),

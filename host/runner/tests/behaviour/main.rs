@@ -14,7 +14,7 @@ mod values;
 mod why;
 
 /// What the modules read, by its mark.
-const CHECKED: [&str; 41] = [
+const CHECKED: [&str; 40] = [
     "picture configuration",
     "picture alternate",
     "picture endpoint",
@@ -49,7 +49,6 @@ const CHECKED: [&str; 41] = [
     "asks",
     "reasons",
     "course release",
-    "course release of the idle interface 1",
     "course set configuration",
     "course hub update",
     "course unplugging",

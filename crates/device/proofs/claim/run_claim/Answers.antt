@@ -8,7 +8,7 @@ use Rattle.course_steps.proofs.Laws.{room_as}
 use Rattle.course_claim.specs.declared.ClaimArgs.{ClaimArgs}
 use Rattle.descriptor_list.proofs.Laws.{found_inside}
 use Rattle.device.specs.Device.{list_of, held_of, given_of}
-use Rattle.record_checks.specs.Draw.{check_of}
+use Rattle.answer.specs.Check.{check_of}
 use Rattle.device.specs.Left.{refused}
 use Rattle.device.specs.Calls.{on_check}
 use Rattle.device.specs.Ask.{ask_check}

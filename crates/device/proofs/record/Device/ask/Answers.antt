@@ -1,5 +1,5 @@
 use mathlib.Core.Path.{sym, ap, ◌∙◌}
-use Rattle.record_checks.specs.Draw.{check_of}
+use Rattle.answer.specs.Check.{check_of}
 use Rattle.device.proofs.AskLaws.{ready, ready_to_show, shown, not_shown}
 use Rattle.device.proofs.record.Device.ask.Goals as goal
 
