@@ -1,8 +1,9 @@
 """Bytes of stack that each exported function needs at most, read from the archive's machine code.
 
 A function's frame is every `push` and every `sub` of the stack pointer in it, and its return address; the need is
-the largest sum over a chain of calls. Pushes of arguments are counted as if all stood at once. A function that can
-come to call itself has no such sum: a cycle of calls is an error.
+the largest sum over a chain of calls. Pushes of arguments are counted as if all stood at once. A large frame is taken
+step by step in a loop, up to where %r11 points. A function that can come to call itself has no such sum: a cycle of calls
+is an error, but for one that calls itself with a name less each time.
 """
 import collections
 import functools
@@ -12,12 +13,16 @@ import sys
 
 ARCHIVE = sys.argv[1] if len(sys.argv) > 1 else "target/staticlib/libxhci_device.a"
 
+# How often each of these is under way at most: for eight names, seven, and so on to none.
+DEPTH = {"choice_search::pick_from": 9}
+
 frame = collections.Counter()
 calls = collections.defaultdict(set)
 
 
 def read(text):
     name = near = None
+    in_steps = False
     for line in text.splitlines():
         if found := re.search(r"R_X86_64_PLT32\s+(?:\.text\.)?(\S.*?)(?:[-+]0x[0-9a-f]+)?$", line):
             calls[name].add(found[1])
@@ -30,14 +35,26 @@ def read(text):
         if found := re.match(r"^[0-9a-f]+ <(.*)>:$", line):
             name = found[1]
             frame[name] += 8
-        elif found := re.search(r"\bsub\s+\$0x([0-9a-f]+),%rsp", line):
+        elif found := re.search(r"\bsub\s+\$0x([0-9a-f]+),%r11$", line):
             frame[name] += int(found[1], 16)
+            in_steps = True
+        elif found := re.search(r"\bsub\s+\$0x([0-9a-f]+),%rsp", line):
+            frame[name] += 0 if in_steps else int(found[1], 16)
+        elif in_steps and re.search(r"\bcmp\s+%r11,%rsp$", line):
+            in_steps = False
         elif re.search(r"\tpush", line):
             frame[name] += 8
         elif found := re.search(r"\t(call|j\w+)\s+[0-9a-f]+ <(.*?)(?:\+0x[0-9a-f]+)?>", line):
             near = found[2] if found[1] == "call" or found[2] != name else None
         elif re.search(r"\bcall\s+\*|,%rsp$", line) and not re.search(r"\badd\s+\$0x|\bmov\s+%rbp", line):
             sys.exit(f"{name}: cannot be read: {line.strip()}")
+
+
+def once(name):
+    """Lays all that can be under way of a function that calls itself into one frame."""
+    if name in calls[name]:
+        calls[name].remove(name)
+        frame[name] *= DEPTH[name]
 
 
 def refuse_cycle(name, way=()):
@@ -53,6 +70,8 @@ def need(name):
 
 
 read(subprocess.run(["objdump", "-dr", "--no-show-raw-insn", ARCHIVE], capture_output=True, text=True, check=True).stdout)
+for name in DEPTH:
+    once(name)
 for name in sorted(frame):
     refuse_cycle(name)
 for name in sorted((n for n in frame if n.startswith("xhci_device_")), key=need, reverse=True):

@@ -180,6 +180,20 @@ struct xhci_device_placed xhci_device_block(size_t input_len, size_t output_len,
     return placed;
 }
 
+struct xhci_device_chosen xhci_device_choose(
+    const uint64_t *image, size_t image_len, const uint8_t *names, size_t names_len, uint32_t longest) {
+    struct request r = {CHOOSE, {image_len}, {longest}};
+    void *buffers[BUFFERS] = {(void *)image};
+    struct xhci_device_chosen chosen;
+    struct reply reply;
+    r.count[OUTCOMES] = names_len;
+    buffers[OUTCOMES] = (void *)names;
+    reply = remote(&r, buffers);
+    chosen.answer = reply.answer;
+    memcpy(chosen.alternates, &reply.value, sizeof chosen.alternates);
+    return chosen;
+}
+
 struct xhci_device_answered xhci_device_release(LENT, uint8_t interface) {
     CALL(RELEASE);
     r.number[0] = interface;

@@ -1,6 +1,7 @@
 /* How client.c, on this machine, has server.c, on another, make the calls of xhci_device.h. A request is this struct and
  * then the elements of its buffers; a reply is its struct and then, after a function that writes, the first four buffers
- * as they were left, after an ask what it returned, and the rings, and after a why or a block what it returned. Both machines have 64 bits and the lowest byte first. */
+ * as they were left, after an ask what it returned, and the rings, and after a why or a block what it returned. Both machines
+ * have 64 bits and the lowest byte first. */
 #ifndef REMOTE_H
 #define REMOTE_H
 
@@ -9,11 +10,12 @@
 /* Those up to SETTINGS_TO_OLD write. */
 enum function {
     BRING_UP, CLAIM, COMMIT, RELEASE, SET_CONFIGURATION, HUB_UPDATE, DISCONNECT, READ_DESCRIPTORS, WRITE_DESCRIPTORS,
-    SETTINGS_TO_NEW, SETTINGS_TO_OLD, ASK, WHY, BLOCK, IS_USABLE, IS_UP, IS_SOUND, RECORD_WORDS, COMMAND_OF
+    SETTINGS_TO_NEW, SETTINGS_TO_OLD, ASK, WHY, BLOCK, CHOOSE, IS_USABLE, IS_UP, IS_SOUND, RECORD_WORDS, COMMAND_OF
 };
 
 /* The buffers of a request, of which the first WRITTEN are written. Raw descriptors are read from the outcomes into the log,
- * and written from the list into the context; settings are converted from the outcomes, by the list, into the context. */
+ * and written from the list into the context; settings are converted from the outcomes, by the list, into the context.
+ * The names of a choice are the outcomes. */
 enum { IMAGE, CTX, ROUTES, LOG, OUTCOMES, RINGS, HUBS, LIST, BUFFERS };
 enum { WRITTEN = OUTCOMES, NUMBERS = 10 };
 
@@ -29,7 +31,7 @@ struct reply {
     uint32_t answer;
     uint32_t code;
     uint64_t count;
-    uint64_t value;             /* of a function that does not write */
+    uint64_t value;             /* of a function that does not write; of a choice its alternates */
 };
 
 #endif

@@ -2,6 +2,7 @@
 #include "remote.h"
 
 #include <stdlib.h>
+#include <string.h>
 #include <unistd.h>
 
 static bool get(void *to, size_t bytes) {
@@ -104,6 +105,15 @@ static struct xhci_device_placed block(const struct request *r) {
     return xhci_device_block((size_t)n[0], (size_t)n[1], (uint8_t)n[2], (uint8_t)n[3]);
 }
 
+static struct reply choose(const struct request *r, void *b[BUFFERS]) {
+    const uint64_t *c = r->count;
+    struct xhci_device_chosen chosen =
+        xhci_device_choose(b[IMAGE], (size_t)c[IMAGE], b[OUTCOMES], (size_t)c[OUTCOMES], (uint32_t)r->number[0]);
+    struct reply reply = {chosen.answer, 0, 0, 0};
+    memcpy(&reply.value, chosen.alternates, sizeof chosen.alternates);
+    return reply;
+}
+
 static uint64_t ask(const struct request *r, void *b[BUFFERS]) {
     switch (r->function) {
     case IS_USABLE:
@@ -138,6 +148,8 @@ int main(void) {
             reason = why(&r, buffers);
         } else if (r.function == BLOCK) {
             placed = block(&r);
+        } else if (r.function == CHOOSE) {
+            reply = choose(&r, buffers);
         } else {
             reply.value = ask(&r, buffers);
         }

@@ -1,6 +1,6 @@
-/* The functions of Nuszkadorj: the calls, as libxhci_device.a has them, and those outside a slot, raw descriptors,
- * settings of old boards and an endpoint's block, as libxhci_functions.a has them (host/archives makes both). Both may be
- * linked.
+/* The functions of Nuszkadorj: the calls and the choice of settings, as libxhci_device.a has them, and those outside a slot,
+ * raw descriptors, settings of old boards and an endpoint's block, as libxhci_functions.a has them (host/archives makes both).
+ * Both may be linked.
  *
  * A slice is a pointer and a count of elements. The slices of one call must not overlap, and a pointer
  * may not be null, even with a count of 0. Nothing is kept after a call returns.
@@ -93,7 +93,9 @@ enum {
     XHCI_DEVICE_OUTDATED_ASK = 22,      /* a commit: an ask would now return something else */
     XHCI_DEVICE_SETTINGS = 23,          /* settings of old boards: malformed, or not found in their configuration */
     XHCI_DEVICE_OTHER_CONFIGURATION = 24,   /* the same, going back: of another configuration than the list's first */
-    XHCI_DEVICE_NOT_CLAIMED = 25        /* a release: the interface holds no setting */
+    XHCI_DEVICE_NOT_CLAIMED = 25,       /* a release: the interface holds no setting */
+    XHCI_DEVICE_TOO_MANY_NAMES = 29,    /* a choice: more than NAMES interfaces */
+    XHCI_DEVICE_NO_CHOICE = 30          /* there is no such choice */
 };
 
 /* The answer in words. */
@@ -125,6 +127,8 @@ static inline const char *xhci_device_answer_name(uint32_t answer) {
     case XHCI_DEVICE_SETTINGS: return "the settings are malformed or not found";
     case XHCI_DEVICE_OTHER_CONFIGURATION: return "the settings are of another configuration than the first";
     case XHCI_DEVICE_NOT_CLAIMED: return "the interface is not claimed";
+    case XHCI_DEVICE_TOO_MANY_NAMES: return "there are more than eight names";
+    case XHCI_DEVICE_NO_CHOICE: return "there is no such choice";
     default: return "an answer without a name";
     }
 }
@@ -304,6 +308,24 @@ struct xhci_device_answered xhci_device_hub_update(
 struct xhci_device_answered xhci_device_disconnect(
     uint64_t *image, size_t image_len, uint8_t *ctx, size_t ctx_len, uint64_t *routes, size_t routes_len,
     uint32_t *log, size_t log_len, const uint8_t *outcomes, size_t outcomes_len);
+
+/* How many interfaces a choice names at most, repeats counted. */
+#define XHCI_DEVICE_NAMES 8
+
+/* What a choice returns. */
+struct xhci_device_chosen {
+    uint32_t answer;                        /* 0, or the first of 12, 29 and 30 */
+    uint8_t alternates[XHCI_DEVICE_NAMES];  /* one for each name, in their order; 0 past them, and all 0 where refused */
+};
+
+/* One alternate for each interface named, from the first configuration of the record's list: one that a claim would find, of
+ * which no interrupt endpoint has a context interval above `longest`, and such that no two of the interfaces take the same
+ * address. An endpoint of context interval i is polled every 125 << i microseconds; i is 0 to 15 at speeds 3 to 5, and 3 to 10
+ * at speeds 1 and 2. Of several choices it is the earliest in the list, compared by interface as named. An interface may be
+ * named twice and has one alternate. No names: accepted. Held settings have no say: a claim of what is chosen may answer 9
+ * while an interface that is not among the names holds its address. Reads the image and changes nothing. */
+struct xhci_device_chosen xhci_device_choose(
+    const uint64_t *image, size_t image_len, const uint8_t *names, size_t names_len, uint32_t longest);
 
 /* Raw configuration descriptors (USB 2.0 section 9.6) to descriptor words, into the first of 256 words or more:
  * 0, or the first of 3, 20 and 4. A refusal changes nothing, and words past the count keep their contents.

@@ -6,7 +6,8 @@ use Rattle.descriptor_list.specs.Valid.{begins_with_configuration, words_ok, run
 use Rattle.function_answer.specs.Answer.{on_check}
 use Rattle.settings_form.specs.Bits.{bits, number_of, all_bits, bytes_from}
 use Rattle.settings_form.specs.Form.{new_form, value_in, count_in, pairs_in, is_new_form}
-use Rattle.settings_form.specs.Held.{up_to_configuration, is_configuration, configuration_words, pairs_held, held_in, settings_held}
+use Rattle.descriptor_configuration.specs.Words.{up_to_configuration}
+use Rattle.settings_form.specs.Held.{is_configuration, configuration_words, pairs_held, held_in, settings_held}
 use Rattle.settings_form.specs.Convert.{list_check, first_value, to_new, to_old}
 use Rattle.settings_form.specs.Examples.{alternates, pairs, NewExamples, OldExamples, FullExamples}
 

@@ -1,41 +1,24 @@
 -- The words of a configuration as the library's words for chains of iterators, and pairs, turn by turn.
-use Rattle.std.proofs.Common.{ℕ, ◌+◌, ◌≡◌, refl, sym, ap, ◌∙◌, cond, List, [], ◌∷◌, length, take, drop, Some, None, option_map, inl, inr, Bool, true, false, not, ◌&&◌}
+use Rattle.std.proofs.Common.{ℕ, ◌+◌, ◌≡◌, refl, sym, ap, ◌∙◌, cond, List, [], ◌∷◌, length, take, drop, Some, None, option_map, inl, inr, Bool, true, false, ◌&&◌}
 use Prim.Native.Nat.{◌-◌, ◌≤◌, ◌<◌}
 use mathlib.Core.Bool.{and-false}
 use native.Mathlib.Omega.{arith}
-use native.Mathlib.Numerals.{add-one, one-add}
+use native.Mathlib.Numerals.{add-one}
 use borrow.Author.Tests.{le-leb, lt-leb, leb-true}
 use lib.Dec.{eqb, leb}
 use lib.ListN.{get_or, length-drop}
 use lib.Seq.{take_all}
-use Rattle.std.specs.List.{prefix_len, position, position_from, list_any}
+use Rattle.std.specs.List.{position, position_from, list_any}
 use Rattle.std.proofs.lemmas.List.{drop-drop}
-use Rattle.std.proofs.lemmas.List.Folds.{length-prefix_len}
 use Rattle.std.proofs.lemmas.Iterator.Adapters.{position_from-zero}
 use Rattle.laws.proofs.Cases.{Decided, decided}
 use Rattle.laws.proofs.Tests.{and_left}
-use Rattle.descriptor.specs.declared.WordKind.TheVariants.{Configuration, Alternate}
-use Rattle.descriptor.specs.Word.{CONFIGURATION, kind, interface_number, alternate_setting}
+use Rattle.descriptor.specs.declared.WordKind.TheVariants.{Alternate}
+use Rattle.descriptor.specs.Word.{interface_number, alternate_setting}
 use Rattle.descriptor.proofs.Kind.{is_kind, kind_test}
 use Rattle.descriptor_list.specs.Lookup.{of_interface, is_alternate}
-use Rattle.settings_form.specs.Held.{up_to_configuration, is_configuration, configuration_words, pairs_held, held_in, settings_held}
-
--- What a closure tests of a word.
-abbrev pub stays : ℕ → Bool
-stays w = not (is_kind Configuration w)
-
-taken : (l : List ℕ) → take (prefix_len stays l) l ≡ up_to_configuration l
-unfolding up_to_configuration
-taken [] = refl
-taken (w ∷ l) = go (decided (eqb (kind w) CONFIGURATION)) (taken l)
-  where
-    go : Decided (eqb (kind w) CONFIGURATION) → take (prefix_len stays l) l ≡ up_to_configuration l →
-        take (cond (stays w) (1 + prefix_len stays l) 0) (w ∷ l) ≡ cond (eqb (kind w) CONFIGURATION) [] (w ∷ up_to_configuration l)
-    go (inl c) t = rw (kind_test Configuration w, c)
-    go (inr c) t = rw (kind_test Configuration w, c, one-add (prefix_len stays l), t)
-
-pub words_taken : (l : List ℕ) → take (length (take (prefix_len stays l) l)) l ≡ up_to_configuration l
-words_taken l = rw (length-prefix_len stays l) (taken l)
+use Rattle.descriptor_configuration.specs.Words.{up_to_configuration}
+use Rattle.settings_form.specs.Held.{is_configuration, configuration_words, pairs_held, held_in, settings_held}
 
 -- The words of a configuration by the place of its own word.
 abbrev pub words_after : List ℕ → ℕ → List ℕ

@@ -3,11 +3,7 @@ use Rattle.std.specs.Prelude.{ℕ, suc, Bool, true, false, cond, ◌&&◌, Optio
 use Rattle.std.specs.List.{list_any}
 use Rattle.descriptor.specs.Word.{CONFIGURATION, kind, configuration_value}
 use Rattle.descriptor_list.specs.Lookup.{is_alternate}
-
--- The words before the next configuration word.
-unfoldable pub up_to_configuration : List ℕ → List ℕ
-up_to_configuration [] = []
-up_to_configuration (w ∷ l) = cond (eqb (kind w) CONFIGURATION) [] (w ∷ up_to_configuration l)
+use Rattle.descriptor_configuration.specs.Words.{up_to_configuration}
 
 unfoldable pub is_configuration : ℕ → ℕ → Bool
 is_configuration value w = eqb (kind w) CONFIGURATION && eqb (configuration_value w) value

@@ -1,6 +1,6 @@
 // Whether a list of descriptor words has settings.
 ghost use Rattle.std.specs.Prelude.{◌≡◌, MatchOption, Some, None};
-ghost use Rattle.settings_form.specs.Held.{is_configuration, up_to_configuration, configuration_words, pairs_held, settings_held};
+ghost use Rattle.settings_form.specs.Held.{is_configuration, configuration_words, pairs_held, settings_held};
 ghost use Rattle.std.specs.List.{list_any};
 ghost use Rattle.descriptor_list.specs.Lookup.{is_alternate};
 
@@ -15,23 +15,12 @@ fn is_configuration(w: u32, value: u8) -> bool
         && descriptor::configuration_value(w) == value
 }
 
-// The words before the next configuration word.
-fn up_to_configuration<'a>(words: &'a [u32]) -> &'a [u32]
-    ensures { result.now ≡ up_to_configuration words.entry.now }
-{
-    let n = words
-        .iter()
-        .take_while(|w| descriptor::word_kind(**w) != Some(WordKind::Configuration))
-        .count();
-    &words[..n]
-}
-
 // The words of the first configuration of a value.
 fn configuration_words<'a>(list: &'a [u32], value: u8) -> Option<&'a [u32]>
     ensures { MatchOption result (configuration_words value list.entry.now ≡ None) (λ words. configuration_words value list.entry.now ≡ Some words.now) }
 {
     let at = list.iter().position(|w| is_configuration(*w, value))?;
-    Some(up_to_configuration(&list[at + 1..]))
+    Some(descriptor_configuration::up_to_configuration(&list[at + 1..]))
 }
 
 fn has_alternate(words: &[u32], interface: u8, alternate: u8) -> bool

@@ -3,6 +3,7 @@
 #![tactic(auto)]
 
 mod ask;
+mod choose;
 mod claim;
 mod disconnect;
 mod hub_update;
@@ -17,6 +18,8 @@ mod why;
 
 pub use answer::Answered;
 pub use ask::{Shown, xhci_device_ask, xhci_device_commit};
+pub use choice_list::Chosen;
+pub use choose::xhci_device_choose;
 pub use claim::xhci_device_claim;
 pub use device_image::WORDS;
 pub use disconnect::xhci_device_disconnect;

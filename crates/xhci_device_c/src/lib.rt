@@ -4,5 +4,6 @@
 
 mod ask;
 mod calls;
+mod choose;
 mod record;
 mod why;

@@ -1,7 +1,8 @@
-//! Each call of library and original over the same inputs, and the library's functions that send no command: instructions,
-//! counted by callgrind, and time.
+//! Each call of library and original over the same inputs, the library's functions that send no command, and choices of
+//! settings: instructions, counted by callgrind, and time.
 #![forbid(unsafe_code)]
 
+mod choice;
 mod outside;
 
 use std::process::{Command, ExitCode};
@@ -11,13 +12,16 @@ use scenario::{Answer, Cannot, Scenario, Session, Step, parse, start_clock, stop
 
 const INPUTS: &str = include_str!("../inputs.txt");
 const HELP: &str = "\
-usage: bench [--functions | --calls LAYER NAME TIMES]
+usage: bench [--functions | --choices | --calls LAYER NAME TIMES]
 
 Prints a table of each call of library and original over the inputs of host/bench/inputs.txt: instructions, counted by
-valgrind where it is there, and time; then a table of the library's functions outside a slot, and of the reasons of claims.
+valgrind where it is there, and time; then a table of the library's functions outside a slot, and of the reasons of claims;
+then choices of settings with the steps of their search, and the most steps that were found by number of names and
+addresses.
 
   --functions                print the second table only
-  --calls LAYER NAME TIMES   only run the last call, or the function, of the input NAME so many times
+  --choices                  print the tables of choices only
+  --calls LAYER NAME TIMES   only run the last call, the function or the choice of the input NAME so many times
   --help                     print this
   --version                  print the version
 
@@ -98,19 +102,39 @@ fn functions() -> Result<(), Cannot> {
     Ok(())
 }
 
+/// Both tables of choices.
+fn choices() -> Result<(), Cannot> {
+    let mut read = true;
+    let mut table = |title: String, rows: &mut dyn Iterator<Item = Option<String>>| {
+        read = read && print(&title);
+        for row in rows {
+            read = read && print(&row.ok_or(Cannot::NoSuchInput)?);
+        }
+        Ok(())
+    };
+    table(choice::title(), &mut choice::rows())?;
+    table(format!("\n{}", choice::growth_title()), &mut choice::growth())
+}
+
 fn tables(scenarios: &[Scenario]) -> Result<(), Cannot> {
     let title = "| call | answer | commands | library | original | ratio | library, ns | original, ns | ratio |";
     let mut read = print(&format!("{title}\n|---|---|---|---|---|---|---|---|---|\n"));
     for scenario in scenarios {
         read = read && print(&format!("{}\n", row(scenario)?));
     }
-    if read && print("\n") { functions() } else { Ok(()) }
+    if read && print("\n") {
+        functions()?;
+    }
+    if read && print("\n") { choices() } else { Ok(()) }
 }
 
-/// Repeats the call or function of that name. None: there is none.
+/// Repeats the call, function or choice of that name. None: there is none.
 fn only(scenarios: &[Scenario], layer: &str, name: &str, times: u32) -> Option<Result<(), Cannot>> {
     if let Some(scenario) = scenarios.iter().find(|s| s.name == name) {
         return Some(repeat(layer, scenario, times).map(drop));
+    }
+    if let Some(done) = choice::only(layer, name, times) {
+        return Some(done.ok_or(Cannot::NoSuchInput));
     }
     let (_, question) = outside::inputs().into_iter().find(|(of, _)| of == name)?;
     Some(outside::repeat(layer, &question, times).map(drop).ok_or(Cannot::NoSuchInput))
@@ -126,6 +150,7 @@ fn main() -> ExitCode {
     let done = match words[..] {
         [] => Some(tables(&scenarios)),
         ["--functions"] => Some(functions()),
+        ["--choices"] => Some(choices()),
         ["--calls", layer, name, times] => times.parse().ok().and_then(|times| only(&scenarios, layer, name, times)),
         _ => return fail(HELP),
     };

@@ -16,4 +16,5 @@ fn help_version_and_wrong_arguments() {
         assert_eq!(run(wrong).status.code(), Some(2));
     }
     assert!(run(&["--calls", "library", "bring-up", "1"]).status.success());
+    assert!(run(&["--calls", "library", "two-in-turn", "1"]).status.success());
 }

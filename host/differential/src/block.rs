@@ -52,7 +52,7 @@ fn random(pair: &Pair, tally: &mut Tally<Block>, seed: u64, cases: u64) {
 
 #[cfg(test)]
 mod tests {
-    use scenario::{Functions, Reply};
+    use scenario::{Chosen, Functions, Record, Reply};
 
     use super::*;
 
@@ -115,6 +115,10 @@ mod tests {
 
         fn settings_to_old(&self, settings: &[u8], list: &[u32], bytes: &mut [u8]) -> Reply {
             functions("model").settings_to_old(settings, list, bytes)
+        }
+
+        fn choose(&self, record: &Record, names: &[u8], longest: u32) -> Chosen {
+            functions("model").choose(record, names, longest)
         }
 
         fn endpoint_block<'a>(&self, input: &'a [u8], output: &'a [u8], from: Side, dci: u8) -> (u8, &'a [u8]) {

@@ -4,6 +4,7 @@
 mod block;
 mod build;
 mod case;
+mod choice;
 mod compare;
 mod exhaustive;
 mod faults;
@@ -42,9 +43,10 @@ original.
   --subject LAYER     what is judged (library)
   --seed N            of the random calls (1)
   --calls N           how many of them (600000)
-  --cases N           how many random cases of raw descriptors, and of settings (2000000); a twentieth of blocks
+  --cases N           how many random cases of raw descriptors, and of settings (2000000); a twentieth of blocks, a
+                      quarter of choices
   --part PART         one part instead of all: refusals, records, routes, outcomes, store, asks, intervals, ports,
-                      packets, think, slots, random; raw, settings or block (which the original has not)
+                      packets, think, slots, random; raw, settings, block or choices (which the original has not)
   --sample            print a small scenario for each call and answer, or case for each function and answer, instead
                       of the counts
   --store FOLDER      draw a sample of the reference's answers by path, from calls of its own, and write it to
@@ -60,7 +62,7 @@ struct Options {
     subject: String,
     seed: u64,
     calls: u64,
-    /// Random cases of the parts raw and settings, and twenty times those of block.
+    /// Random cases of the parts raw and settings, twenty times those of block and four times those of choices.
     cases: u64,
     part: Option<String>,
     /// Print a small scenario for each call and answer, or case for each function and answer, instead of the counts.
@@ -100,7 +102,7 @@ fn options() -> Result<Options, String> {
         }
     }
     let is_part = |name: &String| {
-        ["random", "raw", "settings", "block"].contains(&name.as_str())
+        ["random", "raw", "settings", "block", "choices"].contains(&name.as_str())
             || exhaustive::PARTS.iter().any(|part| part.0 == name)
     };
     match options.part.as_ref().filter(|name| !is_part(name)) {
@@ -121,6 +123,7 @@ fn main() -> ExitCode {
         Some("raw") => functions(&options, raw::run),
         Some("settings") => functions(&options, settings::run),
         Some("block") => functions(&options, block::run),
+        Some("choices") => functions(&options, choice::run),
         Some(_) => calls(&options),
         None => calls(&options).and_then(|passed| Ok(functions_if_there(&options)? && passed)),
     };
@@ -205,7 +208,8 @@ fn functions_if_there(options: &Options) -> Result<bool, String> {
         return Ok(true);
     }
     let (raw, settings) = (functions(options, raw::run)?, functions(options, settings::run)?);
-    Ok(functions(options, block::run)? && raw && settings)
+    let (block, choices) = (functions(options, block::run)?, functions(options, choice::run)?);
+    Ok(raw && settings && block && choices)
 }
 
 fn write(folder: &Path, store: &Store, pair: &mut Pair) -> std::io::Result<()> {

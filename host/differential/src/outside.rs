@@ -52,7 +52,8 @@ pub struct Judged<Ground> {
     pub number: u8,
     /// Why what was given is malformed, by the model.
     pub grounds: BTreeSet<Ground>,
-    /// Whether the question was accepted, and its output brought back (of a block: is the memory that was lent).
+    /// Whether the question was accepted, and its output brought back (of a block: is the memory that was lent; of a choice:
+    /// was claimed).
     pub returned: bool,
     /// What is not as it should be.
     pub fault: Option<&'static str>,

@@ -18,7 +18,7 @@ pub fn run(pair: &Pair, tally: &mut Tally<Conversion>, seed: u64, cases: u64) {
 
 #[cfg(test)]
 mod tests {
-    use scenario::{Functions, Reply, Side};
+    use scenario::{Chosen, Functions, Record, Reply, Side};
 
     use super::*;
 
@@ -122,6 +122,10 @@ mod tests {
 
         fn endpoint_block<'a>(&self, input: &'a [u8], output: &'a [u8], from: Side, dci: u8) -> (u8, &'a [u8]) {
             model::Model.endpoint_block(input, output, from, dci)
+        }
+
+        fn choose(&self, record: &Record, names: &[u8], longest: u32) -> Chosen {
+            functions("model").choose(record, names, longest)
         }
     }
 

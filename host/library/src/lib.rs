@@ -4,10 +4,10 @@
 pub mod words;
 
 use scenario::{
-    Answer, Asked, BringUp, Buffers, Cannot, Claim, Functions, HubUpdate, Layer, Made, Outcome, Reason, Record, Reply,
-    Shown, Side, proper,
+    Answer, Asked, BringUp, Buffers, Cannot, Chosen, Claim, Functions, HubUpdate, Layer, Made, Outcome, Reason, Record,
+    Reply, Shown, Side, proper,
 };
-use xhci_device::{BlockRefusal, Context, Dci, Memory, RawRefusal, Setting, SettingsRefusal, SlotId};
+use xhci_device::{BlockRefusal, ChoiceRefusal, Context, Dci, Memory, RawRefusal, Setting, SettingsRefusal, SlotId};
 
 pub struct Library;
 
@@ -136,6 +136,7 @@ impl Functions for Library {
     fn settings_to_old(&self, settings: &[u8], list: &[u32], bytes: &mut [u8]) -> Reply {
         replied(proper(|| xhci_device::settings_to_old(settings, list, bytes)), SettingsRefusal::number)
     }
+
     fn endpoint_block<'a>(&self, input: &'a [u8], output: &'a [u8], from: Side, dci: u8) -> (u8, &'a [u8]) {
         let from = match from {
             Side::Input => Context::Input,
@@ -144,6 +145,16 @@ impl Functions for Library {
         match proper(|| xhci_device::endpoint_block(input, output, from, Dci(dci))) {
             Ok(block) => (0, block),
             Err(refusal) => (BlockRefusal::number(refusal), &[]),
+        }
+    }
+
+    /// A record that has no image is none.
+    fn choose(&self, record: &Record, names: &[u8], longest: u32) -> Chosen {
+        let chosen = words::image(record)
+            .map_or(Err(ChoiceRefusal::Unusable), |record| proper(|| record.choose(names, longest)));
+        match chosen {
+            Ok(chosen) => Chosen { number: 0, alternates: chosen.alternates().to_vec() },
+            Err(refusal) => Chosen { number: refusal.number(), alternates: Vec::new() },
         }
     }
 }

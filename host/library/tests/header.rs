@@ -1,8 +1,8 @@
 //! The header for C says what the binding says.
 
 use xhci_device::{
-    Answer, Command, Context, Dci, READ_WORDS, RawRefusal, Reason, Record, SETTINGS_BYTES, SettingsRefusal,
-    WRITE_BYTES, endpoint_block,
+    Answer, ChoiceRefusal, Command, Context, Dci, MOST_NAMES, READ_WORDS, RawRefusal, Reason, Record, SETTINGS_BYTES,
+    SettingsRefusal, WRITE_BYTES, endpoint_block,
 };
 
 const HEADER: &str = include_str!("../../include/xhci_device.h");
@@ -25,12 +25,15 @@ fn number(name: &str) -> usize {
 }
 
 /// The answers of functions outside a slot that no call gives.
-fn outside() -> [(u8, String); 3] {
+fn outside() -> [(u8, String); 5] {
+    use ChoiceRefusal::{NoChoice, TooManyNames};
     use SettingsRefusal::{OtherConfiguration, Settings};
     [
         (RawRefusal::Malformed.number(), RawRefusal::Malformed.to_string()),
         (Settings.number(), Settings.to_string()),
         (OtherConfiguration.number(), OtherConfiguration.to_string()),
+        (TooManyNames.number(), TooManyNames.to_string()),
+        (NoChoice.number(), NoChoice.to_string()),
     ]
 }
 
@@ -53,7 +56,7 @@ fn answers_have_their_numbers_and_names() {
         assert_eq!(text.trim_end_matches("\";"), words.trim_end_matches(", with code 0"), "{name}");
         count += 1;
     }
-    assert_eq!((count, outside().map(|(number, _)| Answer::of(number, 0))), (26, [None; 3]));
+    assert_eq!((count, outside().map(|(number, _)| Answer::of(number, 0))), (28, [None; 5]));
 }
 
 #[test]
@@ -82,8 +85,9 @@ fn the_version_and_the_sizes_are_the_binding_s() {
     assert_eq!((version.as_str(), env!("CARGO_PKG_VERSION")), (xhci_device::VERSION, xhci_device::VERSION));
     assert_eq!(constant("XHCI_DEVICE_VERSION"), Some(format!("\"{version}\"").as_str()));
     assert_eq!(number("XHCI_DEVICE_RECORD_WORDS"), Record::WORDS);
-    let rooms = ["READ_WORDS", "WRITE_BYTES", "SETTINGS_BYTES"].map(|name| number(&format!("XHCI_DEVICE_{name}")));
-    assert_eq!(rooms, [READ_WORDS, WRITE_BYTES, SETTINGS_BYTES]);
+    let rooms =
+        ["READ_WORDS", "WRITE_BYTES", "SETTINGS_BYTES", "NAMES"].map(|name| number(&format!("XHCI_DEVICE_{name}")));
+    assert_eq!(rooms, [READ_WORDS, WRITE_BYTES, SETTINGS_BYTES, MOST_NAMES]);
 }
 
 /// The kinds of reasons, by the numbers that the archive gives: the binding's variants in their order.

@@ -157,7 +157,7 @@ pub fn added(words: &[EndpointWord], rings: &BTreeMap<u8, u64>) -> Vec<Added> {
 }
 
 /// `calculate_xhci_interval`.
-fn interval(word: &EndpointWord, speed: u8) -> u32 {
+pub fn interval(word: &EndpointWord, speed: u8) -> u32 {
     let byte = u32::from(word.interval);
     match (word.kind, speed) {
         (BULK, _) => byte,

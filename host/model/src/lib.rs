@@ -1,10 +1,11 @@
 //! The calls once more, in plain Rust, read from 01 and from docs/DECISIONS.md, not from the Rattle sources: a
 //! second reading to hold the library against. docs/BEHAVIOUR.md tells what they do.
-//! The functions outside a slot are read from 02.
+//! The functions outside a slot's calls are read from 02.
 #![forbid(unsafe_code)]
 
 mod block;
 mod check;
+mod choice;
 mod context;
 mod course;
 mod list;
@@ -14,12 +15,13 @@ mod topology;
 mod why;
 
 use scenario::{
-    Answer, Asked, BringUp, Buffers, Cannot, Claim, Functions, HubUpdate, Layer, Made, Outcome, Reason, Record, Reply,
-    Shown, Side,
+    Answer, Asked, BringUp, Buffers, Cannot, Chosen, Claim, Functions, HubUpdate, Layer, Made, Outcome, Reason, Record,
+    Reply, Shown, Side,
 };
 
 use course::{Course, Ended};
 
+pub use choice::{ChoiceGround, choice_grounds};
 pub use raw::{Ground, grounds};
 pub use settings::{SettingsGround, settings_grounds};
 
@@ -149,5 +151,12 @@ impl Functions for Model {
 
     fn endpoint_block<'a>(&self, input: &'a [u8], output: &'a [u8], from: Side, dci: u8) -> (u8, &'a [u8]) {
         block::endpoint_block(input, output, from, dci)
+    }
+
+    fn choose(&self, record: &Record, names: &[u8], longest: u32) -> Chosen {
+        match choice::choose(record, names, longest) {
+            Ok(alternates) => Chosen { number: 0, alternates },
+            Err(number) => Chosen { number, alternates: Vec::new() },
+        }
     }
 }

@@ -7,6 +7,7 @@ fn bits(word: u32, from: u32, width: u32) -> u32 {
 
 pub const ISOCHRONOUS: u32 = 1;
 pub const BULK: u32 = 2;
+pub const INTERRUPT: u32 = 3;
 
 #[derive(Clone, Copy)]
 pub struct EndpointWord {
@@ -104,14 +105,16 @@ pub fn valid(list: &[u32]) -> bool {
 pub fn lookup(list: &[u32], interface: u8, alternate: u8) -> Option<Vec<EndpointWord>> {
     let sought = |w: &u32| matches!(word(*w), Some(Word::Alternate(i, a)) if (i, a) == (interface, alternate));
     let at = list.iter().position(sought)?;
-    let mut found = Vec::new();
-    for &w in &list[at + 1..] {
-        let Some(Word::Endpoint(endpoint)) = word(w) else {
-            break;
-        };
-        found.push(endpoint);
-    }
-    Some(found)
+    Some(endpoints_from(&list[at + 1..]))
+}
+
+/// The endpoint words that words begin with.
+pub fn endpoints_from(words: &[u32]) -> Vec<EndpointWord> {
+    let endpoint = |w: &u32| match word(*w) {
+        Some(Word::Endpoint(endpoint)) => Some(endpoint),
+        _ => None,
+    };
+    words.iter().map_while(endpoint).collect()
 }
 
 /// The values of the configurations, and the words of each.

@@ -3,7 +3,7 @@
 use std::process::Command;
 
 use runner::{functions, layer};
-use scenario::{BringUp, Buffers, Call, Conversion, Form, Record, fault, settings_fault};
+use scenario::{BringUp, Buffers, Call, Choice, Conversion, Form, Kind, Record, candidates, fault, settings_fault};
 
 #[test]
 fn the_refusals_are_explained() {
@@ -176,4 +176,59 @@ fn the_reason_is_told_of_claims_asks_and_commits() {
         assert_eq!(asked("commit\nasked 1 1 0 18 3000"), Some("the number says it all".to_string()));
         assert_eq!(asked("release\ninterface 0"), None);
     }
+}
+
+/// A sound record with a list of few interfaces, which share few addresses.
+fn choice(rng: &mut Rng) -> Choice {
+    let mut list = vec![1 << 22];
+    for _ in 0..4 + rng.below(6) {
+        list.push(1 << 30 | (rng.below(3) as u32) << 22 | (rng.below(4) as u32) << 14);
+        for _ in 0..rng.below(3) {
+            let (number, kind, interval) = (1 + rng.below(3), 1 + rng.below(3), rng.below(8));
+            list.push(5 << 29 | (number as u32) << 25 | (kind as u32) << 23 | (interval as u32) << 2);
+        }
+        if rng.below(20) == 0 {
+            list.push(2 << 22);
+        }
+    }
+    let record = Record {
+        usable: true,
+        up: true,
+        slot: 1,
+        n: 1,
+        spacing: 32,
+        speed: 1 + rng.below(5) as u8,
+        control: 16,
+        given: vec![16],
+        list,
+        ..Record::default()
+    };
+    let names = (0..rng.below(5)).map(|_| if rng.below(20) == 0 { 3 } else { rng.below(3) as u8 }).collect();
+    Choice { record, names, longest: rng.below(16) as u32 }
+}
+
+/// Of a choice that does not exist, each name without a candidate is told, or names of which none can be left out.
+#[test]
+fn names_are_told_exactly_where_there_is_no_choice() {
+    let mut rng = Rng(5);
+    let (mut chosen, mut lacking, mut apart) = (0, 0, 0);
+    let functions = functions("library").expect("the library");
+    for _ in 0..20_000 {
+        let choice = choice(&mut rng);
+        let number = choice.ask(&*functions).number;
+        let mut told = String::new();
+        choice.explain(&*functions, &mut told);
+        let line = |name: &u8| format!("\n    interface {name} has no candidate:");
+        let without = |name: &u8| candidates(&choice.record, *name, choice.longest).is_empty();
+        for name in 0..4 {
+            let expected = number == 30 && choice.names.contains(&name) && without(&name);
+            assert_eq!(told.contains(&line(&name)), expected, "{choice:?}:\n{told}");
+        }
+        let together = told.contains(" cannot stand together:");
+        assert_eq!(together, number == 30 && !choice.names.iter().any(without), "{choice:?}:\n{told}");
+        chosen += u32::from(number == 0);
+        lacking += u32::from(number == 30 && !together);
+        apart += u32::from(together);
+    }
+    assert!(chosen > 2_000 && lacking > 2_000 && apart > 500, "{chosen} {lacking} {apart}");
 }

@@ -71,6 +71,8 @@ fn the_shipped_cases() {
     shipped(include_str!("../scenarios/descriptors.txt"), include_str!("../scenarios/descriptors.out"), told);
     let told = include_str!("../scenarios/settings.explained");
     shipped(include_str!("../scenarios/settings.txt"), include_str!("../scenarios/settings.out"), told);
+    let told = include_str!("../scenarios/choice.explained");
+    shipped(include_str!("../scenarios/choice.txt"), include_str!("../scenarios/choice.out"), told);
     let told = include_str!("../scenarios/block.explained");
     shipped(include_str!("../scenarios/block.txt"), include_str!("../scenarios/block.out"), told);
 }
@@ -92,19 +94,25 @@ fn the_shipped_reasons() {
     }
 }
 
-/// What docs/SCENARIOS.md has as an example of settings.
+/// What docs/SCENARIOS.md shows of settings and of a choice.
 #[test]
-fn the_worked_example_of_settings() {
+fn the_worked_examples() {
+    worked_example("held by an old board", 4);
+    worked_example("two of three", 2);
+}
+
+/// What docs/SCENARIOS.md has as an example under a name, and what it says that is printed.
+fn worked_example(named: &str, lines: usize) {
     let page = include_str!("../../../docs/SCENARIOS.md");
-    let example = page.split("    case held by an old board\n").nth(1).expect("the example");
+    let example = page.split(&format!("    case {named}\n")).nth(1).expect("the example");
     let cases: String = example.lines().take_while(|line| !line.is_empty()).map(|line| format!("{line}\n")).collect();
-    let run = run(&["-"], &format!("case held by an old board\n{cases}"));
+    let run = run(&["-"], &format!("case {named}\n{cases}"));
     let printed = String::from_utf8_lossy(&run.stdout).replace(".\n", "");
     let quoted: Vec<&str> =
         example.split("\n\n").nth(1).expect("what it prints").split('`').skip(1).step_by(2).collect();
-    let lines: Vec<&str> = printed.lines().collect();
-    assert_eq!((quoted.len(), lines.len()), (4, 4));
-    for (quoted, line) in quoted.iter().zip(lines) {
+    let ran: Vec<&str> = printed.lines().collect();
+    assert_eq!((quoted.len(), ran.len()), (lines, lines));
+    for (quoted, line) in quoted.iter().zip(ran) {
         assert!(line.starts_with(quoted.trim_end_matches("...")), "{quoted}: {line}");
     }
 }

@@ -5,6 +5,8 @@
 use std::fmt::{Debug, Write};
 
 use crate::block::{Block, Side};
+use crate::call::Record;
+use crate::choice::{Choice, Chosen};
 use crate::explain;
 use crate::raw::{RawRead, RawWrite};
 use crate::settings::{Conversion, Form};
@@ -34,6 +36,9 @@ pub trait Functions {
     /// An endpoint's block in the input or the output context: the number, and the part of that context, empty where it is
     /// refused.
     fn endpoint_block<'a>(&self, input: &'a [u8], output: &'a [u8], from: Side, dci: u8) -> (u8, &'a [u8]);
+
+    /// One alternate for each interface named, of which no interrupt endpoint has a longer context interval.
+    fn choose(&self, record: &Record, names: &[u8], longest: u32) -> Chosen;
 }
 
 /// A function with what it is given.
@@ -61,6 +66,7 @@ pub fn kind(name: &str) -> Option<Box<dyn Kind>> {
         Conversion::TO_NEW => Box::new(Conversion::to(Form::New)),
         Conversion::TO_OLD => Box::new(Conversion::to(Form::Old)),
         Block::NAME => Box::new(Block::default()),
+        Choice::NAME => Box::new(Choice::default()),
         _ => return None,
     })
 }

@@ -4,6 +4,7 @@ use std::{fmt, mem};
 
 use crate::call::*;
 use crate::case::{Case, kind};
+use crate::record_key::record_key;
 use crate::value::*;
 
 /// The first line that is not of the form, counted from 1.
@@ -28,22 +29,6 @@ pub enum Event {
     Case(Case),
 }
 
-fn list_within<T>(words: &mut Words, room: usize, each: impl Fn(&str) -> Parsed<T>) -> Parsed<Vec<T>> {
-    let found = list(words, each)?;
-    if found.len() > room {
-        return Err(format!("a record has room for {room} of these"));
-    }
-    Ok(found)
-}
-
-fn lifecycle(text: &str) -> Parsed<bool> {
-    match text {
-        "active" => Ok(true),
-        "revoked" => Ok(false),
-        _ => Err(format!("'{text}' is neither active nor revoked")),
-    }
-}
-
 fn route(text: &str) -> Parsed<(usize, u64)> {
     let (index, value) = split(text, '=')?;
     let index: usize = decimal(index)?;
@@ -61,45 +46,6 @@ fn routes(words: &mut Words) -> Parsed<Vec<(usize, u64)>> {
         Some(twice) => Err(format!("route {} is given twice", twice[0])),
         None => Ok(found),
     }
-}
-
-fn endpoint(text: &str) -> Parsed<Endpoint> {
-    let (address, rest) = split(text, ':')?;
-    let (ring, rest) = split(rest, ':')?;
-    let (owner, state) = split(rest, ':')?;
-    Ok(Endpoint {
-        address: hex(address, 2)? as u8,
-        ring: hex64(ring)?,
-        owner: decimal(owner)?,
-        active: lifecycle(state)?,
-    })
-}
-
-fn setting(text: &str) -> Parsed<(u8, u8)> {
-    let (interface, alternate) = split(text, ':')?;
-    Ok((decimal(interface)?, decimal(alternate)?))
-}
-
-/// Takes one field of a record, and gives its name.
-fn record_field<'a>(record: &mut Record, text: &'a str) -> Parsed<&'a str> {
-    let (name, value) = split(text, '=')?;
-    match name {
-        "usable" => record.usable = flag(value)?,
-        "up" => record.up = flag(value)?,
-        "slot" => record.slot = decimal(value)?,
-        "n" => record.n = decimal(value)?,
-        "spacing" => record.spacing = decimal(value)?,
-        "speed" => record.speed = decimal(value)?,
-        "config" if value == "NONE" => record.config = None,
-        "config" => record.config = Some(decimal(value)?),
-        "control" => {
-            let (ring, state) = split(value, '/')?;
-            record.control = hex64(ring)?;
-            record.control_revoked = !lifecycle(state)?;
-        }
-        _ => return Err(format!("a record has no '{name}'")),
-    }
-    Ok(name)
 }
 
 /// A call between its name and `go`.
@@ -159,31 +105,7 @@ impl Building {
         if matches!(self.step.call, Call::BringUp(_)) {
             return Ok(false);
         }
-        match key {
-            "record" => {
-                let mut given = Vec::new();
-                for text in words.by_ref() {
-                    let name = record_field(&mut self.record, text)?;
-                    if given.contains(&name) {
-                        return Err(format!("'{name}' is given twice"));
-                    }
-                    given.push(name);
-                }
-                if !given.contains(&"up") {
-                    self.record.up = self.record.usable;
-                }
-                if self.record.usable && !self.record.up {
-                    return Err("a usable record is up".to_string());
-                }
-            }
-            "reclist" => self.record.list = list_within(words, LIST_ROOM, hex32)?,
-            "eps" => self.record.endpoints = list_within(words, ENDPOINT_ROOM, endpoint)?,
-            "held" => self.record.held = list_within(words, HELD_ROOM, setting)?,
-            "quarantined" => self.record.quarantined = list_within(words, QUARANTINE_ROOM, hex64)?,
-            "given" => self.record.given = list_within(words, GIVEN_ROOM, hex64)?,
-            _ => return Ok(false),
-        }
-        Ok(true)
+        record_key(&mut self.record, key, words)
     }
 
     fn finish(mut self) -> Parsed<Step> {

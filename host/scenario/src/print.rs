@@ -54,7 +54,8 @@ fn lifecycle(active: bool) -> &'static str {
     if active { "active" } else { "revoked" }
 }
 
-fn record(out: &mut String, list_key: &str, record: &Record) {
+/// A record, its list under a key of its own.
+pub fn record(out: &mut String, list_key: &str, record: &Record) {
     let _ = write!(
         out,
         "record usable={} up={} slot={} n={} spacing={} speed={} config=",

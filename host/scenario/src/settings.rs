@@ -93,7 +93,7 @@ impl Settings {
 }
 
 /// The configuration that settings of a form are of, with its words: in the old one the first, else the first of the value.
-fn configuration(list: &[u32], value: Option<u8>) -> Option<&[u32]> {
+pub fn configuration(list: &[u32], value: Option<u8>) -> Option<&[u32]> {
     let is_it = |word: &u32| word >> 30 == 0 && value.is_none_or(|value| word >> 22 == u32::from(value));
     let from = &list[list.iter().position(is_it)?..];
     let end = from.iter().skip(1).position(|word| word >> 30 == 0).map_or(from.len(), |behind| behind + 1);

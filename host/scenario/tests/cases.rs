@@ -68,6 +68,11 @@ impl Functions for Scribe {
         let shown = if from == Side::Input { input } else { output };
         (0, &shown[usize::from(dci)..])
     }
+
+    fn choose(&self, record: &Record, names: &[u8], longest: u32) -> Chosen {
+        let alternates = names.iter().map(|name| name + record.speed + longest as u8).collect();
+        Chosen { number: 0, alternates }
+    }
 }
 
 /// Refuses everything with one number.
@@ -92,6 +97,11 @@ impl Functions for Refuses {
 
     fn endpoint_block<'a>(&self, _: &'a [u8], _: &'a [u8], _: Side, _: u8) -> (u8, &'a [u8]) {
         (self.0, &[])
+    }
+
+    /// Of no names there always is a choice.
+    fn choose(&self, _: &Record, names: &[u8], _: u32) -> Chosen {
+        Chosen { number: if self.0 == 30 && names.is_empty() { 0 } else { self.0 }, alternates: Vec::new() }
     }
 }
 
@@ -418,4 +428,84 @@ the block of endpoint 8f (Dci 31) in the input context; lent: input 2 bytes, out
     let text = explained(&Refuses(4), "block\nfrom output\ndci 32");
     assert!(text.contains("the block of Dci 32 in the output context"), "{text}");
     assert!(text.ends_with("  answer 4: refused: a Dci is 1 to 31\n\n"), "{text}");
+}
+
+const FIT: &str = "choose
+record usable=1 up=1 slot=1 n=1 spacing=32 speed=3 config=1 control=1000/active
+reclist 00400000 40000000 a3808404 40004000 a5808404 40400000 a3808404
+eps
+held
+quarantined
+given 1000
+names 0 1 0
+longest 2
+";
+
+#[test]
+fn a_choice_is_read_and_printed() {
+    let text = format!("case fit\n{FIT}go\n");
+    let case = parse(&text).expect("a case").cases.remove(0);
+    let mut again = String::new();
+    case.text(&mut again);
+    assert_eq!(again, text);
+    let ran = |functions: &dyn Functions, case: &Case| {
+        let mut out = String::new();
+        case.run(functions, &mut out);
+        out
+    };
+    assert_eq!(ran(&Scribe, &case), "answer 0\nalternates 5 6 5\n.\n");
+    assert_eq!(ran(&Refuses(30), &case), "answer 30\nalternates\n.\n");
+    // Absent numbers are 0, absent lists empty.
+    let none = parse("case none\nchoose\nnames 200\ngo\n").expect("a case").cases.remove(0);
+    assert_eq!(ran(&Scribe, &none), "answer 0\nalternates 200\n.\n");
+}
+
+#[test]
+fn a_malformed_choice_is_named_by_its_line() {
+    for (line, message) in [
+        ("names 256", "'256' is not a decimal number, or out of range"),
+        ("names 0 x", "'x' is not a decimal number, or out of range"),
+        ("longest", "a number is missing"),
+        ("longest 4294967296", "'4294967296' is not a decimal number, or out of range"),
+        ("longest 1 2", "'2' is too much"),
+        ("record usable=1 up=0", "a usable record is up"),
+        ("record slot=1 slot=1", "'slot' is given twice"),
+        ("outcomes 00", "'choose' has no 'outcomes'"),
+    ] {
+        let text = format!("case wrong\nchoose\n{line}\ngo\n");
+        assert_eq!(parse(&text).unwrap_err(), Malformed { line: 3, message: message.to_string() });
+    }
+    assert_eq!(parse("case twice\nchoose\nnames 1\nnames 1\ngo\n").unwrap_err().message, "'names' is given twice");
+}
+
+#[test]
+fn a_choice_is_told_with_periods() {
+    let told = explained(&Scribe, FIT);
+    let (_, behind) = told.split_once("    configuration 1\n").expect("the list");
+    let answer = behind.split_once("  answer").expect("the answer").1;
+    // The scribe's alternates are not there, so nothing is polled.
+    assert_eq!(
+        answer,
+        " 0: accepted\n    interface 0: alternate 5\n    interface 1: alternate 6\n    interface 0: alternate 5\n\n"
+    );
+    let begins =
+        "case one\n\nchoice for interfaces 0 1 0\n  speed 3, longest context interval 2, 500 us\n    configuration 1\n";
+    assert!(told.starts_with(begins), "{told}");
+    let many = explained(&Refuses(29), "choose\nnames 0 0 0 0 0 0 0 0 0\nlongest 4294967295");
+    assert!(many.starts_with(
+        "case one\n\nchoice for interfaces 0 0 0 0 0 0 0 0 0\n  speed 0, longest context interval 4294967295\n"
+    ));
+    assert!(
+        many.ends_with("  answer 29: refused: there are more than eight names\n    names: 9, and 8 are allowed\n\n")
+    );
+    // A name without a candidate, by the one who refuses.
+    let none =
+        explained(&Refuses(30), "choose\nrecord speed=1\nreclist 00400000 40000000 a3808418\nnames 0 1\nlongest 3");
+    let expected = "  answer 30: refused: there is no such choice
+    interface 0 has no candidate:
+      alternate 0: endpoint 81 is polled every 4000 us
+    interface 1 has no candidate: it is not in the first configuration
+
+";
+    assert!(none.ends_with(expected), "{none}");
 }

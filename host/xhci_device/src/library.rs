@@ -5,7 +5,9 @@
 use core::ops::Range;
 
 use crate::layout::EP_ROOM;
-use crate::{Answer, Asked, BlockRefusal, BringUp, Dci, Memory, RawRefusal, SettingsRefusal};
+use crate::{
+    Answer, Asked, BlockRefusal, BringUp, ChoiceRefusal, Chosen, Dci, MOST_NAMES, Memory, RawRefusal, SettingsRefusal,
+};
 
 #[repr(C)]
 struct Answered {
@@ -48,6 +50,12 @@ struct Placed {
     answer: u32,
     offset: usize,
     length: usize,
+}
+
+#[repr(C)]
+struct Picked {
+    answer: u32,
+    alternates: [u8; MOST_NAMES],
 }
 
 unsafe extern "C" {
@@ -192,6 +200,13 @@ unsafe extern "C" {
         outcomes: *const u8,
         outcomes_len: usize,
     ) -> Why;
+    fn xhci_device_choose(
+        image: *const u64,
+        image_len: usize,
+        names: *const u8,
+        names_len: usize,
+        longest: u32,
+    ) -> Picked;
     fn xhci_device_read_descriptors(bytes: *const u8, bytes_len: usize, words: *mut u32, words_len: usize) -> Answered;
     fn xhci_device_write_descriptors(list: *const u32, list_len: usize, bytes: *mut u8, bytes_len: usize) -> Answered;
     fn xhci_device_settings_to_new(
@@ -463,6 +478,19 @@ pub fn why(image: &[u64], setting: (u8, u8), number: u8, log: &[u32], outcomes: 
             outcomes.as_ptr(),
             outcomes.len(),
         )
+    }
+}
+
+pub fn choose(image: &[u64], names: &[u8], longest: u32) -> Result<Chosen, ChoiceRefusal> {
+    // SAFETY: reads two slices, of which pointers and lengths are given.
+    let picked = unsafe { xhci_device_choose(image.as_ptr(), image.len(), names.as_ptr(), names.len(), longest) };
+    match picked.answer {
+        0 => {
+            let mut named = [0; MOST_NAMES];
+            named[..names.len()].copy_from_slice(names);
+            Ok(Chosen { names: named, alternates: picked.alternates, count: names.len() })
+        }
+        number => Err(ChoiceRefusal::of(number).expect("an answer of the function")),
     }
 }
 

@@ -6,7 +6,7 @@ use crate::layout::{
     LIST_ROOM, MAX_SLOTS, PORT_SPEED, QUARANTINED, QUARANTINED_COUNT, RING_ROOM, SLOT, SPACING, WORDS,
 };
 use crate::library::{self, Parts};
-use crate::{Answer, Asked, BringUp, Dci, Memory, Reason, SlotId};
+use crate::{Answer, Asked, BringUp, ChoiceRefusal, Chosen, Dci, Memory, Reason, SlotId};
 
 /// A record: the image that the library reads and writes. A bring-up makes it.
 ///
@@ -221,6 +221,42 @@ impl Record {
     /// unusable ([`is_up`](Record::is_up)).
     pub fn disconnect(&mut self, memory: Memory<'_>) -> (Answer, usize) {
         library::disconnect(&mut self.words, memory)
+    }
+}
+
+/// Questions of a record, which change nothing.
+impl Record {
+    /// One alternate for each interface named, from the first configuration: one of which no interrupt endpoint has a
+    /// longer context interval than `longest`, and such that no two of the interfaces take the same address. Of several
+    /// choices it is the earliest in the list, compared by interface as named. Endpoints of context interval `i` are polled
+    /// every 125 × 2ⁱ microseconds.
+    ///
+    /// What is held has no say: interfaces that are not among the names may hold addresses that are taken here.
+    ///
+    /// ```
+    /// use xhci_device::{Answer, BringUp, ChoiceRefusal, Memory, Record, SlotId};
+    ///
+    /// # let (mut ctx, mut routes, mut log) = ([0; 1056], [0; 64], [0; 64]);
+    /// # let memory = Memory { ctx: &mut ctx, routes: &mut routes, log: &mut log, outcomes: &[0; 64] };
+    /// // Interface 0: alternate 0 with 0x81 every millisecond, alternate 1 with 0x81 every 125 microseconds.
+    /// // Interface 1: alternate 0 with 0x82 every millisecond.
+    /// let list = [0x0040_0000, 0x4000_0000, 0xA384_0410, 0x4000_4000, 0xA384_0404, 0x4040_0000, 0xA584_0410];
+    /// # let args = BringUp { slot: SlotId(1), n: 1, speed: 3, parent: None, port: 1, root_port: 1,
+    /// #     rings: &[0x1000, 0x2000, 0x3000], header: 8, packet: 64, value: 0, hubs: &[], list: &list };
+    /// # let (mut record, _, _) = Record::bring_up(memory, &args);
+    /// assert_eq!(record.choose(&[0, 1], 3)?.alternates(), [0, 0]);
+    /// assert_eq!(record.choose(&[0], 0)?.alternates(), [1]);
+    /// assert_eq!(record.choose(&[0, 1], 0), Err(ChoiceRefusal::NoChoice));
+    ///
+    /// // The panel claims what was chosen.
+    /// for setting in record.choose(&[1, 0], 3)?.settings() {
+    ///     let memory = Memory { ctx: &mut ctx, routes: &mut routes, log: &mut log, outcomes: &[0; 64] };
+    ///     assert_eq!(record.claim(memory, setting.interface, setting.alternate).0, Answer::Accepted);
+    /// }
+    /// # Ok::<(), ChoiceRefusal>(())
+    /// ```
+    pub fn choose(&self, names: &[u8], longest: u32) -> Result<Chosen, ChoiceRefusal> {
+        library::choose(&self.words, names, longest)
     }
 }
 

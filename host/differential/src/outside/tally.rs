@@ -11,7 +11,7 @@ pub struct Tally<Q: Question> {
     answers: BTreeMap<(&'static str, u8), u64>,
     /// What is malformed for this, and what is for as little else as there can be.
     grounds: BTreeMap<Q::Ground, (u64, u64)>,
-    /// Outputs that the other function brought back.
+    /// Outputs that came to something.
     returned: BTreeMap<&'static str, u64>,
     different: u64,
     /// The smallest that is different.
@@ -61,7 +61,7 @@ impl<Q: Question> Tally<Q> {
         }
     }
 
-    /// Answers, grounds and ways back that were not met.
+    /// Answers, grounds and outputs that came to something which were not met.
     pub fn missing(&self) -> Vec<String> {
         let mut missing = Vec::new();
         for (kind, answers) in Q::ANSWERS {

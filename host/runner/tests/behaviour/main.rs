@@ -3,6 +3,7 @@
 #![forbid(unsafe_code)]
 
 mod calls;
+mod choice;
 mod device;
 mod forms;
 mod lists;
@@ -14,7 +15,7 @@ mod values;
 mod why;
 
 /// What the modules read, by its mark.
-const CHECKED: [&str; 40] = [
+const CHECKED: [&str; 41] = [
     "picture configuration",
     "picture alternate",
     "picture endpoint",
@@ -54,6 +55,7 @@ const CHECKED: [&str; 40] = [
     "course unplugging",
     "course unplugging again",
     "sound",
+    "choices",
     "sixteen lists",
 ];
 

@@ -3,8 +3,8 @@ use Rattle.std.specs.List.{prefix_len}
 use Rattle.std.proofs.lemmas.Iterator.{YieldsList-from_slice}
 use Rattle.std.proofs.lemmas.Iterator.Consumers.{count_from_yields_List}
 use Rattle.std.proofs.lemmas.Iterator.Search.{YieldsList-from_take_while}
-use Rattle.settings_form.proofs.Words.{stays, words_taken}
-use Rattle.settings_form.proofs.held.up_to_configuration.Goals as goal
+use Rattle.descriptor_configuration.proofs.Taken.{stays, words_taken}
+use Rattle.descriptor_configuration.proofs.up_to_configuration.Goals as goal
 
 pub returns : goal.returns
 returns c =

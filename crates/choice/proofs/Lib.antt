@@ -1,0 +1,2 @@
+pub mod Exits
+pub mod Promises

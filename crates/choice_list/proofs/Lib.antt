@@ -1,0 +1,9 @@
+mod Examples
+pub mod Exits
+pub mod Filled
+pub mod Lift
+pub mod Listed
+pub mod Masks
+pub mod Members
+pub mod Once
+pub mod Words

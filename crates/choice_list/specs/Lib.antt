@@ -1,0 +1,5 @@
+pub mod Candidate
+pub mod Choice
+pub mod Chosen
+pub mod Examples
+pub mod Tried

@@ -1,0 +1,77 @@
+// The choice.
+ghost use Rattle.std.specs.Prelude.{◌≡◌, ◌≤◌, length, map, take};
+ghost use Rattle.descriptor_list.specs.Valid.{LIST-ROOM};
+ghost use Rattle.choice_search.specs.Room.{NAMES};
+ghost use Rattle.choice_search.specs.Search.{candidates_in, turned};
+ghost use Rattle.choice_list.specs.Choice.{alternate_at};
+ghost use Rattle.choice_list.specs.Chosen.{Refused, ChosenIn, AlternatesAs};
+ghost use Rattle.choice_list.specs.Tried.{candidates, place_of};
+
+use super::candidate;
+use super::names::Names;
+use choice_search::{Candidates, NAMES};
+
+// 0 and an alternate for each name, 0 past them; or 12, 29 or 30 and zeros.
+#[repr(C)]
+#[derive(Clone, Copy)]
+pub struct Chosen {
+    pub answer: u32,
+    pub alternates: [u8; NAMES],
+}
+
+// No names were chosen for.
+pub fn refused(answer: u32) -> Chosen
+    ensures { Refused answer result }
+{
+    Chosen {
+        answer,
+        alternates: [0; NAMES],
+    }
+}
+
+// The candidates of each name.
+fn all_candidates(list: &[u32], speed: u8, longest: u32, names: &[u8]) -> [Candidates; NAMES]
+    requires { (length list.now ≤ LIST-ROOM) × (length names.now ≤ NAMES) }
+    ensures { map candidates_in (take (length names.now) result) ≡ map (candidates list.now speed longest) names.now }
+{
+    let mut all = [candidate::NONE; NAMES];
+    for (i, &name) in names.iter().enumerate() {
+        all[i] = candidate::candidates_of(list, speed, longest, name);
+    }
+    all
+}
+
+// The alternate of the word at a place.
+fn alternate_at(list: &[u32], place: usize) -> u8
+    ensures { result ≡ alternate_at list.now place }
+{
+    descriptor::alternate_setting(list.get(place).copied().unwrap_or(0))
+}
+
+// The alternate of each name, at the place that was picked for it.
+fn alternates_of(list: &[u32], names: &[u8], once: &Names, picks: [u8; NAMES]) -> [u8; NAMES]
+    requires { length names.now ≤ NAMES }
+    ensures { AlternatesAs (map (λ x. alternate_at list.now (place_of (take once.now.count once.now.names) (turned picks once.now.count) x)) names.now) result }
+{
+    let mut alternates = [0u8; NAMES];
+    for (j, &name) in names.iter().enumerate() {
+        alternates[j] = alternate_at(list, once.place_of(picks, name) as usize);
+    }
+    alternates
+}
+
+// The first choice for up to eight names.
+pub fn choose_in(list: &[u32], speed: u8, longest: u32, names: &[u8]) -> Chosen
+    requires { (length list.now ≤ LIST-ROOM) × (length names.now ≤ NAMES) }
+    ensures { ChosenIn list.now speed longest names.now result }
+{
+    let once = Names::of(names);
+    let all = all_candidates(list, speed, longest, &once.names[..once.count]);
+    match choice_search::pick_from(&all[..once.count], 0) {
+        Ok(picks) => Chosen {
+            answer: 0,
+            alternates: alternates_of(list, names, &once, picks),
+        },
+        Err(_) => refused(30),
+    }
+}

@@ -1,0 +1,4 @@
+pub mod Order
+pub mod Promises
+pub mod Room
+pub mod Search

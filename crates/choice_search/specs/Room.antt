@@ -1,0 +1,8 @@
+-- How many names the search takes, and how many candidates of each.
+use Rattle.std.specs.Prelude.{ℕ}
+
+abbrev pub NAMES : ℕ
+NAMES = 8
+
+abbrev pub CANDIDATES : ℕ
+CANDIDATES = 256

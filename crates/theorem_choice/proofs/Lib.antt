@@ -1,0 +1,3 @@
+mod Accepted
+mod Claims
+mod Held

@@ -1,0 +1,13 @@
+// Settings for a wanted polling period, of a record. The parameters are those of the C interface.
+ghost use Rattle.device_image.specs.Image.{decode};
+ghost use Rattle.choice.specs.Choose.{Answered};
+
+use xhci_device::Chosen;
+
+// An alternate for each of up to eight interfaces that are named. Where the words are no record, 12.
+#[unsafe(no_mangle)]
+pub extern "C" fn xhci_device_choose(image: &[u64], names: &[u8], longest: u32) -> Chosen
+    ensures { Answered (decode image.now) names.now longest result }
+{
+    xhci_device::xhci_device_choose(image, names, longest)
+}
