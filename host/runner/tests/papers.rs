@@ -45,7 +45,7 @@ fn cited(text: &str) -> Vec<String> {
     };
     let in_folder = |path: &String| ["crates/", "host/", "docs/"].iter().any(|folder| path.starts_with(folder));
     let is_one = |path: &String| !path.contains('*') && !path.starts_with("host/target") && !path.contains("/C/");
-    words.map(cut).filter(|path| in_folder(path) && is_one(path) && !path.contains("/c/must-fail")).collect()
+    words.map(cut).filter(|path| in_folder(path) && is_one(path) && !path.starts_with("crates/c/")).collect()
 }
 
 #[test]
@@ -91,8 +91,10 @@ fn edits_that_acceptance_names_exist() {
             let (edits, of) = part.split_once(" of ").unwrap_or_else(|| panic!("'{part}' names no crate"));
             let name = of.split([',', ' ', ':']).next().expect("a crate");
             for edit in edits.split('`').skip(1).step_by(2) {
-                let path = root().join(format!("crates/{name}/must-fail/{edit}.edit"));
-                let edit = fs::read_to_string(&path).unwrap_or_else(|_| panic!("no {}", path.display()));
+                let there = |folder: &str| root().join(format!("crates/{name}/{folder}/{edit}.edit"));
+                let path = ["must-fail", "wrong"].map(there).into_iter().find(|path| path.exists());
+                let path = path.unwrap_or_else(|| panic!("no edit {edit} of {name}"));
+                let edit = fs::read_to_string(&path).expect("the edit");
                 count += 1;
                 for function in of.split("at `").skip(1).filter_map(|rest| rest.split('`').next()) {
                     let refuses = |line: &str| line.starts_with("refused: ") && line.ends_with(function);
