@@ -3,7 +3,7 @@ use Rattle.choice_search.specs.Search.{turned}
 use Rattle.choice_list.specs.Choice.{alternate_at}
 use Rattle.choice_list.specs.Tried.{place_of}
 use Rattle.choice_list.proofs.Filled.{Filling}
-use Rattle.choice_list.proofs.chosen.alternates_of.Given as goal
+use Rattle.choice_list.proofs.chosen.joined_alternates.Given as goal
 
 abbrev pub invariant-loop-j : goal.invariant-loop-j
 invariant-loop-j l =
