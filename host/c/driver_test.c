@@ -8,7 +8,7 @@
 #include "xhci_device_driver.h"
 
 enum { CALLS = 100000, N = 3, ROUTES = XHCI_DEVICE_ROUTES_OF_SLOT * (N + 1), MOST_CONFIGURATIONS = 12, OUTCOMES = 64 };
-enum { ANSWERS = XHCI_DEVICE_NOT_CLAIMED + 1 };
+enum { ANSWERS = XHCI_DEVICE_COMPANION + 1, MOST_WORDS = 16 };
 
 /* What one slot and the table hold. */
 struct world {
@@ -18,7 +18,8 @@ struct world {
     uint64_t routes[ROUTES];
 };
 
-/* Configurations; the last three cannot be used. */
+/* Configurations, without their companions; the last four cannot be used: no word; one of kind 3 that stands behind an
+ * alternate; one that says a mult behind an interrupt endpoint; two configurations. */
 static const struct {
     size_t len;
     uint32_t words[8];
@@ -29,9 +30,10 @@ static const struct {
     {8, {0x00400000, 0x40000000, 0xA3840410, 0x40004000, 0x87840410, 0x40400000, 0xA5840410, 0x40404000}},
     {0, {0}},
     {3, {0x00400000, 0x40000000, 0xC0000000}},
+    {4, {0x00400000, 0x40000000, 0xA3840410, 0xC1000800}},
     {2, {0x00400000, 0x00800000}},
 };
-enum { POOL = sizeof pool / sizeof pool[0], USABLE = POOL - 3 };
+enum { POOL = sizeof pool / sizeof pool[0], USABLE = POOL - 4 };
 
 /* A call with all that the device and the bus will say. */
 struct script {
@@ -119,6 +121,20 @@ static struct script any_script(bool usable, bool up) {
     return s;
 }
 
+/* The words of a configuration, at speeds 4 and 5 with a companion behind each endpoint word that has none. */
+static size_t words_of(size_t which, uint8_t speed, uint32_t *words) {
+    size_t i, len = 0;
+    for (i = 0; i < pool[which].len; i++) {
+        uint32_t word = pool[which].words[i];
+        bool has_one = i + 1 < pool[which].len && pool[which].words[i + 1] >> 30 == 3;
+        words[len++] = word;
+        if ((speed == 4 || speed == 5) && word >> 30 == 2 && !has_one) {
+            words[len++] = UINT32_C(0xC4000800) + (uint32_t)i * UINT32_C(0x04000100); /* burst and bytes per interval */
+        }
+    }
+    return len;
+}
+
 /* How many of the script's configurations can be read, as words after which those not read are one word each. */
 static size_t known_list(const struct script *s, uint32_t *list, size_t *readable) {
     size_t len = 0;
@@ -127,9 +143,7 @@ static size_t known_list(const struct script *s, uint32_t *list, size_t *readabl
         return 0;
     }
     while (*readable < s->count && s->configurations[*readable] < USABLE) {
-        size_t which = s->configurations[*readable];
-        memcpy(list + len, pool[which].words, pool[which].len * sizeof list[0]);
-        len += pool[which].len;
+        len += words_of(s->configurations[*readable], s->attached.speed, list + len);
         ++*readable;
     }
     memset(list + len, 0, (s->count - *readable) * sizeof list[0]);
@@ -256,8 +270,17 @@ static void bus_send(struct xhci_device_pending *call, const uint64_t *routes, v
         xhci_device_read_bytes(call, device, sizeof device);
         break;
     case XHCI_DEVICE_OP_READ_CONFIG: {
-        size_t which = s->configurations[call->command.first];
-        xhci_device_read_words(call, pool[which].words, pool[which].len);
+        /* In turn as words and, where they can be written, as bytes. */
+        static uint8_t bytes[XHCI_DEVICE_WRITE_BYTES];
+        uint32_t words[MOST_WORDS];
+        size_t len = words_of(s->configurations[call->command.first], s->attached.speed, words);
+        struct xhci_device_answered written =
+            xhci_device_write_descriptors(words, len, s->attached.speed, bytes, sizeof bytes);
+        if (written.answer == XHCI_DEVICE_ACCEPTED && len % 2 == 0) {
+            xhci_device_read_bytes(call, bytes, written.count);
+        } else {
+            xhci_device_read_words(call, words, len);
+        }
         break;
     }
     default:

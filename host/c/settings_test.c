@@ -16,7 +16,11 @@ static const uint8_t OTHER[] = {2, 4, 0, 0};
 static const uint8_t PADDED[] = {1, 8, 0, 4, 0x0c, 1};
 
 typedef struct xhci_device_answered conversion(
-    const uint8_t *settings, size_t settings_len, const uint32_t *list, size_t list_len, uint8_t *bytes, size_t bytes_len);
+    const uint8_t *settings, size_t settings_len, const uint32_t *list, size_t list_len, uint8_t speed,
+    uint8_t *bytes, size_t bytes_len);
+
+/* At which the next conversion's list is judged. */
+static uint8_t speed = 3;
 
 /* What must be answered; accepted, the output stands in the first bytes, and all others are as they were lent. */
 static void expect(const char *what, conversion *convert, const uint8_t *settings, size_t settings_len, size_t list_len,
@@ -28,7 +32,7 @@ static void expect(const char *what, conversion *convert, const uint8_t *setting
     if (count > 0) {
         memcpy(lent, output, count);
     }
-    answered = convert(settings, settings_len, LIST, list_len, bytes, room);
+    answered = convert(settings, settings_len, LIST, list_len, speed, bytes, room);
     if (answered.answer != answer || answered.code != 0 || answered.count != count || memcmp(bytes, lent, sizeof bytes) != 0) {
         fprintf(stderr, "%s: %s\n", what, xhci_device_answer_name(answered.answer));
         exit(1);
@@ -46,6 +50,12 @@ int main(void) {
     expect("an empty list", to_new, OLD, 0, 0, ROOM, XHCI_DEVICE_SETTINGS, NULL, 0);
     expect("padding", to_old, PADDED, sizeof PADDED, LIST_WORDS, ROOM, XHCI_DEVICE_SETTINGS, NULL, 0);
     expect("another", to_old, OTHER, sizeof OTHER, LIST_WORDS, ROOM, XHCI_DEVICE_OTHER_CONFIGURATION, NULL, 0);
+    speed = 4; /* no endpoint is there that would want a companion */
+    expect("at SuperSpeed", to_old, NEW, sizeof NEW, LIST_WORDS, ROOM, XHCI_DEVICE_ACCEPTED, OLD, sizeof OLD);
+    speed = 6;
+    expect("no speed", to_new, OLD, 3, LIST_WORDS, ROOM, XHCI_DEVICE_SPEED, NULL, 0);
+    expect("no speed and little room", to_old, OLD, 3, LIST_WORDS, ROOM - 1, XHCI_DEVICE_LOG_TOO_SHORT, NULL, 0);
+    speed = 3;
     expect("unfound", to_old, OTHER, sizeof OTHER, LIST_WORDS - 1, ROOM, XHCI_DEVICE_SETTINGS, NULL, 0);
     return 0;
 }

@@ -229,7 +229,7 @@ static bool append_bytes(struct xhci_device_pending *call, const uint8_t *bytes,
     if (len == 0) {
         return false;
     }
-    read = xhci_device_read_descriptors(bytes, len, words, XHCI_DEVICE_READ_WORDS);
+    read = xhci_device_read_descriptors(bytes, len, call->attached.speed, words, XHCI_DEVICE_READ_WORDS);
     return read.answer == XHCI_DEVICE_ACCEPTED && append(call, words, read.count);
 }
 

@@ -220,8 +220,8 @@ struct xhci_device_answered xhci_device_disconnect(LENT) {
 }
 
 struct xhci_device_answered xhci_device_read_descriptors(
-    const uint8_t *bytes, size_t bytes_len, uint32_t *words, size_t words_len) {
-    struct request r = {READ_DESCRIPTORS, {0}, {0}};
+    const uint8_t *bytes, size_t bytes_len, uint8_t speed, uint32_t *words, size_t words_len) {
+    struct request r = {READ_DESCRIPTORS, {0}, {speed}};
     void *buffers[BUFFERS] = {0};
     r.count[OUTCOMES] = bytes_len;
     r.count[LOG] = words_len;
@@ -231,8 +231,8 @@ struct xhci_device_answered xhci_device_read_descriptors(
 }
 
 struct xhci_device_answered xhci_device_write_descriptors(
-    const uint32_t *list, size_t list_len, uint8_t *bytes, size_t bytes_len) {
-    struct request r = {WRITE_DESCRIPTORS, {0}, {0}};
+    const uint32_t *list, size_t list_len, uint8_t speed, uint8_t *bytes, size_t bytes_len) {
+    struct request r = {WRITE_DESCRIPTORS, {0}, {speed}};
     void *buffers[BUFFERS] = {0};
     r.count[LIST] = list_len;
     r.count[CTX] = bytes_len;
@@ -242,8 +242,8 @@ struct xhci_device_answered xhci_device_write_descriptors(
 }
 
 static struct xhci_device_answered convert(enum function function, const uint8_t *settings, size_t settings_len,
-    const uint32_t *list, size_t list_len, uint8_t *bytes, size_t bytes_len) {
-    struct request r = {function, {0}, {0}};
+    const uint32_t *list, size_t list_len, uint8_t speed, uint8_t *bytes, size_t bytes_len) {
+    struct request r = {function, {0}, {speed}};
     void *buffers[BUFFERS] = {0};
     r.count[OUTCOMES] = settings_len;
     r.count[LIST] = list_len;
@@ -255,13 +255,15 @@ static struct xhci_device_answered convert(enum function function, const uint8_t
 }
 
 struct xhci_device_answered xhci_device_settings_to_new(
-    const uint8_t *settings, size_t settings_len, const uint32_t *list, size_t list_len, uint8_t *bytes, size_t bytes_len) {
-    return convert(SETTINGS_TO_NEW, settings, settings_len, list, list_len, bytes, bytes_len);
+    const uint8_t *settings, size_t settings_len, const uint32_t *list, size_t list_len, uint8_t speed,
+    uint8_t *bytes, size_t bytes_len) {
+    return convert(SETTINGS_TO_NEW, settings, settings_len, list, list_len, speed, bytes, bytes_len);
 }
 
 struct xhci_device_answered xhci_device_settings_to_old(
-    const uint8_t *settings, size_t settings_len, const uint32_t *list, size_t list_len, uint8_t *bytes, size_t bytes_len) {
-    return convert(SETTINGS_TO_OLD, settings, settings_len, list, list_len, bytes, bytes_len);
+    const uint8_t *settings, size_t settings_len, const uint32_t *list, size_t list_len, uint8_t speed,
+    uint8_t *bytes, size_t bytes_len) {
+    return convert(SETTINGS_TO_OLD, settings, settings_len, list, list_len, speed, bytes, bytes_len);
 }
 
 static uint64_t asked(enum function function, const uint64_t *image, size_t image_len) {

@@ -66,15 +66,15 @@ static struct xhci_device_answered make_call(const struct request *r, void *b[BU
     case DISCONNECT:
         return xhci_device_disconnect(LENT);
     case READ_DESCRIPTORS:
-        return xhci_device_read_descriptors(b[OUTCOMES], (size_t)c[OUTCOMES], b[LOG], (size_t)c[LOG]);
+        return xhci_device_read_descriptors(b[OUTCOMES], (size_t)c[OUTCOMES], (uint8_t)n[0], b[LOG], (size_t)c[LOG]);
     case WRITE_DESCRIPTORS:
-        return xhci_device_write_descriptors(b[LIST], (size_t)c[LIST], b[CTX], (size_t)c[CTX]);
+        return xhci_device_write_descriptors(b[LIST], (size_t)c[LIST], (uint8_t)n[0], b[CTX], (size_t)c[CTX]);
     case SETTINGS_TO_NEW:
         return xhci_device_settings_to_new(
-            b[OUTCOMES], (size_t)c[OUTCOMES], b[LIST], (size_t)c[LIST], b[CTX], (size_t)c[CTX]);
+            b[OUTCOMES], (size_t)c[OUTCOMES], b[LIST], (size_t)c[LIST], (uint8_t)n[0], b[CTX], (size_t)c[CTX]);
     case SETTINGS_TO_OLD:
         return xhci_device_settings_to_old(
-            b[OUTCOMES], (size_t)c[OUTCOMES], b[LIST], (size_t)c[LIST], b[CTX], (size_t)c[CTX]);
+            b[OUTCOMES], (size_t)c[OUTCOMES], b[LIST], (size_t)c[LIST], (uint8_t)n[0], b[CTX], (size_t)c[CTX]);
     default:
         exit(1);
     }

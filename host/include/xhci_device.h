@@ -94,6 +94,8 @@ enum {
     XHCI_DEVICE_SETTINGS = 23,          /* settings of old boards: malformed, or not found in their configuration */
     XHCI_DEVICE_OTHER_CONFIGURATION = 24,   /* the same, going back: of another configuration than the list's first */
     XHCI_DEVICE_NOT_CLAIMED = 25,       /* a release: the interface holds no setting */
+    XHCI_DEVICE_COMPANION = 26,         /* at speeds 4 and 5: an endpoint word without its companion, a companion elsewhere, or one
+                                           out of range */
     XHCI_DEVICE_TOO_MANY_NAMES = 29,    /* a choice: more than NAMES interfaces */
     XHCI_DEVICE_NO_CHOICE = 30          /* there is no such choice */
 };
@@ -127,6 +129,7 @@ static inline const char *xhci_device_answer_name(uint32_t answer) {
     case XHCI_DEVICE_SETTINGS: return "the settings are malformed or not found";
     case XHCI_DEVICE_OTHER_CONFIGURATION: return "the settings are of another configuration than the first";
     case XHCI_DEVICE_NOT_CLAIMED: return "the interface is not claimed";
+    case XHCI_DEVICE_COMPANION: return "a companion is missing, misplaced or out of range";
     case XHCI_DEVICE_TOO_MANY_NAMES: return "there are more than eight names";
     case XHCI_DEVICE_NO_CHOICE: return "there is no such choice";
     default: return "an answer without a name";
@@ -201,7 +204,8 @@ bool xhci_device_is_up(const uint64_t *image, size_t image_len);
 bool xhci_device_is_sound(const uint64_t *image, size_t image_len);
 
 /* The bring-up of a slot: makes the record, whatever the image held. The slot is given 1 to 64 rings, in any order: the
- * lowest is control's, and claims draw from the others. */
+ * lowest is control's, and claims draw from the others. At speeds 4 and 5 the list has each endpoint's companion directly
+ * behind the endpoint's word. */
 struct xhci_device_answered xhci_device_bring_up(
     uint64_t *image, size_t image_len, uint8_t *ctx, size_t ctx_len, uint64_t *routes, size_t routes_len,
     uint32_t *log, size_t log_len, const uint8_t *outcomes, size_t outcomes_len,
@@ -327,34 +331,40 @@ struct xhci_device_chosen {
 struct xhci_device_chosen xhci_device_choose(
     const uint64_t *image, size_t image_len, const uint8_t *names, size_t names_len, uint32_t longest);
 
-/* Raw configuration descriptors (USB 2.0 section 9.6) to descriptor words, into the first of 256 words or more:
- * 0, or the first of 3, 20 and 4. A refusal changes nothing, and words past the count keep their contents.
+/* Raw configuration descriptors (USB 2.0 section 9.6) of a device of a speed to descriptor words, into the first of 256 words
+ * or more: 0, or the first of 3, 6, 20, 4 and 26. At speeds 4 and 5 an endpoint's companion (USB 3.2 section 9.6) is a word
+ * of its own, directly behind the endpoint's; at the others it is skipped. A refusal changes nothing, and words past the
+ * count keep their contents.
  */
 #define XHCI_DEVICE_READ_WORDS 256
 
 struct xhci_device_answered xhci_device_read_descriptors(
-    const uint8_t *bytes, size_t bytes_len, uint32_t *words, size_t words_len);
+    const uint8_t *bytes, size_t bytes_len, uint8_t speed, uint32_t *words, size_t words_len);
 
-/* Descriptor words to raw descriptors, into the first of 2,304 bytes or more: 0, or the first of 3, 4 and 20. */
+/* Descriptor words, of a device of a speed, to raw descriptors, into the first of 2,304 bytes or more: 0, or the first of 3,
+ * 6, 4, 26 and 20. */
 #define XHCI_DEVICE_WRITE_BYTES 2304
 
 struct xhci_device_answered xhci_device_write_descriptors(
-    const uint32_t *list, size_t list_len, uint8_t *bytes, size_t bytes_len);
+    const uint32_t *list, size_t list_len, uint8_t speed, uint8_t *bytes, size_t bytes_len);
 
 /* Held settings as the maker's boards store them, interface and alternate by rising interface, into the new form: the value
  * of the list's first configuration 8 bits, the number of pairs 6, the pairs 8 and 8, zeros to a byte, the most significant
- * bit first. There are at most 32 pairs, and each must be in that configuration. Into the first of 66 bytes or more: 0, or
- * the first of 3, 4 and 23. A refusal changes nothing, and bytes past the count keep their contents.
+ * bit first. There are at most 32 pairs, and each must be in that configuration. The list is judged at the speed. Into the
+ * first of 66 bytes or more: 0, or the first of 3, 6, 4, 26 and 23. A refusal changes nothing, and bytes past the count keep
+ * their contents.
  */
 #define XHCI_DEVICE_SETTINGS_BYTES 66
 
 struct xhci_device_answered xhci_device_settings_to_new(
-    const uint8_t *settings, size_t settings_len, const uint32_t *list, size_t list_len, uint8_t *bytes, size_t bytes_len);
+    const uint8_t *settings, size_t settings_len, const uint32_t *list, size_t list_len, uint8_t speed,
+    uint8_t *bytes, size_t bytes_len);
 
-/* And back: 0, or the first of 3, 4, 23 and 24. The pairs are sought in the first configuration of the value that the
+/* And back: 0, or the first of 3, 6, 4, 26, 23 and 24. The pairs are sought in the first configuration of the value that the
  * settings name; if that is not the list's first, 24. */
 struct xhci_device_answered xhci_device_settings_to_old(
-    const uint8_t *settings, size_t settings_len, const uint32_t *list, size_t list_len, uint8_t *bytes, size_t bytes_len);
+    const uint8_t *settings, size_t settings_len, const uint32_t *list, size_t list_len, uint8_t speed,
+    uint8_t *bytes, size_t bytes_len);
 
 /* Where an endpoint's block stands. */
 struct xhci_device_placed {

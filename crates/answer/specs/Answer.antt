@@ -1,7 +1,7 @@
 -- The answers of the calls: 01, "Who can cause an answer", and 02.
 use Rattle.std.specs.Prelude.{ℕ, Bool, ◌||◌, eqb}
 use Rattle.answer.specs.declared.Answer.{Answer}
-use Rattle.answer.specs.declared.Answer.TheVariants.{Accepted, ContextLength, RoutesLength, LogTooShort, DescriptorList, HubChain, Speed, ThinkTime, NotFound, InvalidParameter, Rings, SlotLimitReached, Unusable, Failed, InterfaceBroken, Cut, ShortHeader, QueueFull, InvalidEndpoint, PacketExponent, TooFewRings, OutdatedAsk, NotClaimed}
+use Rattle.answer.specs.declared.Answer.TheVariants.{Accepted, ContextLength, RoutesLength, LogTooShort, DescriptorList, HubChain, Speed, ThinkTime, NotFound, InvalidParameter, Rings, SlotLimitReached, Unusable, Failed, InterfaceBroken, Cut, ShortHeader, QueueFull, InvalidEndpoint, PacketExponent, TooFewRings, OutdatedAsk, NotClaimed, Companion}
 
 -- The papers' number of an answer.
 unfoldable pub number : Answer → ℕ
@@ -28,6 +28,7 @@ number PacketExponent = 19
 number TooFewRings = 21
 number OutdatedAsk = 22
 number NotClaimed = 25
+number Companion = 26
 
 -- The code of 13, and 0 of the others.
 unfoldable pub code_of : Answer → ℕ
@@ -54,6 +55,7 @@ code_of PacketExponent = 0
 code_of TooFewRings = 0
 code_of OutdatedAsk = 0
 code_of NotClaimed = 0
+code_of Companion = 0
 
 abbrev pub is_accepted : Answer → Bool
 is_accepted a = eqb (number a) 0

@@ -31,6 +31,7 @@ pub enum Answer {
     TooFewRings,
     OutdatedAsk,
     NotClaimed,
+    Companion,
 }
 
 // The documents' number of an answer. Not a `From`: an answer has two numbers, this one and its code.
@@ -62,6 +63,7 @@ pub fn answer_number(a: Answer) -> u8
         Answer::TooFewRings => 21,
         Answer::OutdatedAsk => 22,
         Answer::NotClaimed => 25,
+        Answer::Companion => 26,
     }
 }
 

@@ -20,18 +20,19 @@ pub const NONE: Candidates = Candidates {
 };
 
 // How many words the first configuration has.
-fn first_length(list: &[u32]) -> usize
+fn first_length(list: &[u64]) -> usize
+    requires { length list.now ≤ LIST-ROOM }
     ensures { result ≡ first_length list.now }
 {
     let [_, words @ ..] = list else {
         return 0;
     };
-    descriptor_configuration::up_to_configuration(words).len() + 1
+    descriptor_configuration::configuration_length(words) + 1
 }
 
 // Whether an endpoint word, if it is an interrupt one, has a context interval no longer than one.
 #[tactic(auto, unfolding(crate::specs::Candidate::is_short, crate::specs::Candidate::short_as, descriptor::specs::Endpoint::xhci_interval))]
-fn is_short(w: u32, speed: u8, longest: u32) -> bool
+fn is_short(w: u64, speed: u8, longest: u32) -> bool
     ensures { result ≡ is_short speed longest w }
 {
     let e = descriptor::endpoint_descriptor(w);
@@ -46,7 +47,7 @@ fn is_short(w: u32, speed: u8, longest: u32) -> bool
 }
 
 // The same for each word.
-fn all_short(words: &[u32], speed: u8, longest: u32) -> bool
+fn all_short(words: &[u64], speed: u8, longest: u32) -> bool
     ensures { result ≡ all_short speed longest words.now }
 {
     words.iter().all(|&w| is_short(w, speed, longest))
@@ -54,7 +55,7 @@ fn all_short(words: &[u32], speed: u8, longest: u32) -> bool
 
 // Whether a word is an alternate of an interface.
 #[tactic(auto, using(descriptor::proofs::Kind::kind_test), unfolding(descriptor_list::specs::Lookup::of_interface))]
-fn of_interface(w: u32, interface: u8) -> bool
+fn of_interface(w: u64, interface: u8) -> bool
     ensures { result ≡ of_interface interface w }
 {
     descriptor::word_kind(w) == Some(WordKind::Alternate)
@@ -62,7 +63,7 @@ fn of_interface(w: u32, interface: u8) -> bool
 }
 
 // Whether an interface may choose the word at a place, wherever that is.
-fn may_choose(list: &[u32], speed: u8, longest: u32, interface: u8, place: usize) -> bool
+fn may_choose(list: &[u64], speed: u8, longest: u32, interface: u8, place: usize) -> bool
     requires { place < length list.now }
     ensures { result ≡ may_choose list.now speed longest interface place }
 {
@@ -78,7 +79,7 @@ fn may_choose(list: &[u32], speed: u8, longest: u32, interface: u8, place: usize
 }
 
 // The addresses of the alternate word at a place, a bit for each Dci.
-fn addresses_at(list: &[u32], interface: u8, place: usize) -> u32
+fn addresses_at(list: &[u64], interface: u8, place: usize) -> u32
     requires { place < length list.now }
     ensures { result ≡ flags_of (words_at list.now interface place) }
 {
@@ -87,7 +88,7 @@ fn addresses_at(list: &[u32], interface: u8, place: usize) -> u32
 }
 
 // The candidates of an interface, in the order of the list.
-pub fn candidates_of(list: &[u32], speed: u8, longest: u32, interface: u8) -> Candidates
+pub fn candidates_of(list: &[u64], speed: u8, longest: u32, interface: u8) -> Candidates
     requires { length list.now ≤ LIST-ROOM }
     ensures { candidates_in result ≡ candidates list.now speed longest interface }
 {

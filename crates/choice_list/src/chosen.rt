@@ -1,6 +1,7 @@
 // The choice.
 ghost use Rattle.std.specs.Prelude.{◌≡◌, ◌≤◌, length, map, take};
 ghost use Rattle.descriptor_list.specs.Valid.{LIST-ROOM};
+ghost use Rattle.descriptor_list.specs.Companions.{joined};
 ghost use Rattle.choice_search.specs.Room.{NAMES};
 ghost use Rattle.choice_search.specs.Search.{candidates_in, turned};
 ghost use Rattle.choice_list.specs.Choice.{alternate_at};
@@ -10,6 +11,7 @@ ghost use Rattle.choice_list.specs.Tried.{candidates, place_of};
 use super::candidate;
 use super::names::Names;
 use choice_search::{Candidates, NAMES};
+use descriptor_list::Joined;
 
 // 0 and an alternate for each name, 0 past them; or 12, 29 or 30 and zeros.
 #[repr(C)]
@@ -29,8 +31,8 @@ pub fn refused(answer: u32) -> Chosen
     }
 }
 
-// The candidates of each name.
-fn all_candidates(list: &[u32], speed: u8, longest: u32, names: &[u8]) -> [Candidates; NAMES]
+// The candidates of each name, in a list of joined words.
+fn all_candidates(list: &[u64], speed: u8, longest: u32, names: &[u8]) -> [Candidates; NAMES]
     requires { (length list.now ≤ LIST-ROOM) × (length names.now ≤ NAMES) }
     ensures { map candidates_in (take (length names.now) result) ≡ map (candidates list.now speed longest) names.now }
 {
@@ -41,15 +43,25 @@ fn all_candidates(list: &[u32], speed: u8, longest: u32, names: &[u8]) -> [Candi
     all
 }
 
+// The same of a list; its joined copy is gone with the return.
+#[inline(never)]
+fn candidates_of(list: &[u32], speed: u8, longest: u32, names: &[u8]) -> [Candidates; NAMES]
+    requires { (length list.now ≤ LIST-ROOM) × (length names.now ≤ NAMES) }
+    ensures { map candidates_in (take (length names.now) result) ≡ map (candidates (joined list.now) speed longest) names.now }
+{
+    let all = Joined::of(list);
+    all_candidates(all.words(), speed, longest, names)
+}
+
 // The alternate of the word at a place.
-fn alternate_at(list: &[u32], place: usize) -> u8
+fn alternate_at(list: &[u64], place: usize) -> u8
     ensures { result ≡ alternate_at list.now place }
 {
     descriptor::alternate_setting(list.get(place).copied().unwrap_or(0))
 }
 
 // The alternate of each name, at the place that was picked for it.
-fn alternates_of(list: &[u32], names: &[u8], once: &Names, picks: [u8; NAMES]) -> [u8; NAMES]
+fn joined_alternates(list: &[u64], names: &[u8], once: &Names, picks: [u8; NAMES]) -> [u8; NAMES]
     requires { length names.now ≤ NAMES }
     ensures { AlternatesAs (map (λ x. alternate_at list.now (place_of (take once.now.count once.now.names) (turned picks once.now.count) x)) names.now) result }
 {
@@ -60,13 +72,23 @@ fn alternates_of(list: &[u32], names: &[u8], once: &Names, picks: [u8; NAMES]) -
     alternates
 }
 
+// The same of a list, as with the candidates.
+#[inline(never)]
+fn alternates_of(list: &[u32], names: &[u8], once: &Names, picks: [u8; NAMES]) -> [u8; NAMES]
+    requires { (length list.now ≤ LIST-ROOM) × (length names.now ≤ NAMES) }
+    ensures { AlternatesAs (map (λ x. alternate_at (joined list.now) (place_of (take once.now.count once.now.names) (turned picks once.now.count) x)) names.now) result }
+{
+    let all = Joined::of(list);
+    joined_alternates(all.words(), names, once, picks)
+}
+
 // The first choice for up to eight names.
 pub fn choose_in(list: &[u32], speed: u8, longest: u32, names: &[u8]) -> Chosen
     requires { (length list.now ≤ LIST-ROOM) × (length names.now ≤ NAMES) }
-    ensures { ChosenIn list.now speed longest names.now result }
+    ensures { ChosenIn (joined list.now) speed longest names.now result }
 {
     let once = Names::of(names);
-    let all = all_candidates(list, speed, longest, &once.names[..once.count]);
+    let all = candidates_of(list, speed, longest, &once.names[..once.count]);
     match choice_search::pick_from(&all[..once.count], 0) {
         Ok(picks) => Chosen {
             answer: 0,

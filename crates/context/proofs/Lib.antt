@@ -1,4 +1,5 @@
 pub mod Added
+pub mod Before
 pub mod Control
 pub mod Entries
 pub mod Laws

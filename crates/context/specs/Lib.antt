@@ -1,3 +1,4 @@
+pub mod Before
 pub mod Place
 pub mod Promises
 pub mod Steps

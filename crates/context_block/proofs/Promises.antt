@@ -13,7 +13,7 @@ use lib.ListN.{length}
 use Rattle.laws.proofs.Computed.{all, all_below}
 use Rattle.laws.proofs.Tests.{and_left}
 use Rattle.laws.proofs.Cases.{cond_or}
-use Rattle.def.specs.Speed.{FULL, HIGH, first_packet_size}
+use Rattle.def.specs.Speed.{FULL, HIGH, is_super, first_packet_size}
 use Rattle.descriptor.specs.declared.EndpointDescriptor.{EndpointDescriptor}
 use Rattle.descriptor.specs.declared.TransferType.{TransferType}
 use Rattle.descriptor.specs.declared.TransferType.TheVariants.{Control, Isochronous, Bulk, Interrupt}
@@ -26,8 +26,8 @@ use Rattle.context_field.specs.Field.{read_field, write_field, InBlock, apart, w
 use Rattle.context_field.proofs.Laws.{within_self, length_write_field, read_apart, read_back}
 use Rattle.context_block.specs.Fields.{DROP-FLAG, ADD-FLAG, MTT, HUB, NUMBER-OF-PORTS, TT-THINK-TIME, MULT, MAX-PSTREAMS, MAX-ESIT-PAYLOAD-HI, MAX-BURST-SIZE, AVERAGE-TRB-LENGTH, MAX-ESIT-PAYLOAD-LO, apart_from_all}
 use Rattle.context_block.specs.FieldWrite.{◌:=◌, fields_written, after_field_writes, inside, all_inside, clear_cut}
-use Rattle.context_block.specs.Blocks.{changed, ring_fields, address_slot, address_endpoint, error_count, periodic_fields, burst_of, basic_fields, endpoint_fields, word_dci, drop_flags, multi_fields, think_fields, hub_fields, some_dci}
-use Rattle.context_block.specs.Promises.{Holds, fields_of, Leaves, unchanged, made_if, SinglePromise, changed_reads, ChangedPromise, ChangedFlagPromise, InterfacePromise, ConfigurationPromise, ControlPacketPromise, DropFlagsPromise, slot_reads, AddressSlotPromise, HubPromise, ring_reads, AddressEndpointPromise, endpoint_reads, EndpointPromise}
+use Rattle.context_block.specs.Blocks.{changed, ring_fields, address_slot, address_endpoint, error_count, periodic_fields, burst_of, basic_fields, plain_fields, companion_fields, endpoint_fields, word_dci, drop_flags, multi_fields, think_fields, hub_fields, some_dci}
+use Rattle.context_block.specs.Promises.{Holds, fields_of, Leaves, unchanged, made_if, SinglePromise, changed_reads, ChangedPromise, ChangedFlagPromise, InterfacePromise, ConfigurationPromise, ControlPacketPromise, DropFlagsPromise, slot_reads, AddressSlotPromise, HubPromise, ring_reads, AddressEndpointPromise, plain_reads, companion_reads, endpoint_reads, EndpointPromise, fields_before, BeforePromise}
 use Rattle.context_block.proofs.Laws.{fields_written_append, fields_written_length, bit_fields_written, apart_from, apart_part, clear, lies_in, covered, Follow, leaves, flag_set}
 
 pub single_promise : SinglePromise
@@ -109,8 +109,8 @@ error_count_small Bulk = lit< tt
 error_count_small Interrupt = lit< tt
 
 pub endpoint_promise : EndpointPromise
-unfolding endpoint_fields basic_fields ring_fields periodic_fields ring_reads endpoint_reads burst_of after_field_writes read_after apart within inside all_inside clear_cut clear lies_in covered Follow
-endpoint_promise block speed w ring size r = go (is_periodic e.transfer_type)
+unfolding endpoint_fields basic_fields ring_fields periodic_fields plain_fields companion_fields ring_reads plain_reads companion_reads endpoint_reads burst_of after_field_writes read_after apart within inside all_inside clear_cut clear lies_in covered Follow
+endpoint_promise block speed w ring size r = go (is_super speed) (is_periodic e.transfer_type)
   where
     e : EndpointDescriptor
     e = endpoint_descriptor w
@@ -128,6 +128,9 @@ endpoint_promise block speed w ring size r = go (is_periodic e.transfer_type)
         × (e.max_packet_size < 2 ^ 11)
         × (burst ≤ 2)
         × (payload < 65536)
+        × (e.burst < 16)
+        × (e.mult < 4)
+        × (e.bytes_per_interval < 65536)
     fit =
         let f = fields_fit w in (
           interval_small e.interval e.transfer_type speed f.interval,
@@ -136,22 +139,46 @@ endpoint_promise block speed w ring size r = go (is_periodic e.transfer_type)
           f.size,
           burst_small e.transfer_type e.packets_per_microframe speed f.packets,
           payload_small e.max_packet_size burst,
+          f.burst,
+          f.mult,
+          f.bytes,
         )
 
+    bytes : ℕ
+    bytes = e.bytes_per_interval
+
     go :
-        (p : Bool) →
+        (s p : Bool) →
         Leaves block
-        (basic_fields speed e ++ (ring_fields ring ++ cond p (periodic_fields burst payload) []))
+        (basic_fields speed e
+        ++ (ring_fields ring
+        ++ cond s
+        ((MAX-BURST-SIZE := e.burst)
+        ∷ cond p ((MULT := e.mult) ∷ (MAX-ESIT-PAYLOAD-HI := 0) ∷ (AVERAGE-TRB-LENGTH := bytes) ∷ (MAX-ESIT-PAYLOAD-LO := bytes) ∷ []) [])
+        (cond p (periodic_fields burst payload) [])))
         (basic_fields speed e
         ++ (ring_reads ring
-        ++ (made_if p block MAX-BURST-SIZE burst
+        ++ cond s
+        ((MAX-BURST-SIZE := e.burst)
+        ∷ made_if p block MULT e.mult
+        ∷ made_if p block AVERAGE-TRB-LENGTH bytes
+        ∷ made_if p block MAX-ESIT-PAYLOAD-LO bytes
+        ∷ unchanged block MAX-PSTREAMS
+        ∷ made_if p block MAX-ESIT-PAYLOAD-HI 0 ∷ [])
+        (made_if p block MAX-BURST-SIZE burst
         ∷ made_if p block MULT 0
         ∷ made_if p block AVERAGE-TRB-LENGTH payload
         ∷ made_if p block MAX-ESIT-PAYLOAD-LO payload
         ∷ unchanged block MAX-PSTREAMS
         ∷ unchanged block MAX-ESIT-PAYLOAD-HI ∷ [])))
-    go true = leaves block _ _ size refl refl refl (omega (arith, fit))
-    go false = leaves block _ _ size refl refl refl (omega (arith, fit))
+    go true true = leaves block _ _ size refl refl refl (omega (arith, fit))
+    go true false = leaves block _ _ size refl refl refl (omega (arith, fit))
+    go false true = leaves block _ _ size refl refl refl (omega (arith, fit))
+    go false false = leaves block _ _ size refl refl refl (omega (arith, fit))
+
+pub before_promise : BeforePromise
+unfolding endpoint_fields plain_fields fields_before
+before_promise speed e ring s = rw s
 
 flag_bit : ℕ → Bool
 flag_bit d = eqb (1 / 2 ^ (d - 0) % 2) (cond (eqb d 0) 1 0)

@@ -1,13 +1,13 @@
 -- What each step makes of the control block, the slot block and an endpoint block: document 01, context.rs and device.rs of the original.
 use Rattle.std.specs.Prelude.{ℕ, ◌/◌, ◌^◌, Bool, false, cond, ◌||◌, List, [], ◌∷◌, ◌++◌, eqb}
-use Rattle.def.specs.Speed.{FULL, HIGH, first_packet_size}
+use Rattle.def.specs.Speed.{FULL, HIGH, is_super, first_packet_size}
 use Rattle.descriptor.specs.declared.EndpointDescriptor.{EndpointDescriptor}
 use Rattle.descriptor.specs.declared.TransferType.{TransferType}
 use Rattle.descriptor.specs.declared.TransferType.TheVariants.{Control, Isochronous, Bulk, Interrupt}
 use Rattle.descriptor.specs.Word.{endpoint_descriptor}
 use Rattle.descriptor.specs.Endpoint.{dci_of, endpoint_type, xhci_interval, is_periodic, periodic_burst, esit_payload}
 use Rattle.hub.specs.declared.translator.Translator.{Translator}
-use Rattle.context_block.specs.Fields.{DROP-FLAGS, ADD-FLAGS, DROP-FLAG, ROUTE-STRING, SPEED, MTT, HUB, CONTEXT-ENTRIES, ROOT-HUB-PORT-NUMBER, NUMBER-OF-PORTS, PARENT-HUB-SLOT-ID, PARENT-PORT-NUMBER, TT-THINK-TIME, MULT, INTERVAL, CERR, EP-TYPE, MAX-BURST-SIZE, MAX-PACKET-SIZE, DCS, TR-DEQUEUE-POINTER-LO, TR-DEQUEUE-POINTER-HI, AVERAGE-TRB-LENGTH, MAX-ESIT-PAYLOAD-LO}
+use Rattle.context_block.specs.Fields.{DROP-FLAGS, ADD-FLAGS, DROP-FLAG, ROUTE-STRING, SPEED, MTT, HUB, CONTEXT-ENTRIES, ROOT-HUB-PORT-NUMBER, NUMBER-OF-PORTS, PARENT-HUB-SLOT-ID, PARENT-PORT-NUMBER, TT-THINK-TIME, MULT, INTERVAL, MAX-ESIT-PAYLOAD-HI, CERR, EP-TYPE, MAX-BURST-SIZE, MAX-PACKET-SIZE, DCS, TR-DEQUEUE-POINTER-LO, TR-DEQUEUE-POINTER-HI, AVERAGE-TRB-LENGTH, MAX-ESIT-PAYLOAD-LO}
 use Rattle.context_block.specs.FieldWrite.{FieldWrite, ◌:=◌}
 
 -- `perper_change`: drop flags 2 to 31 cleared, and of the add flags A0 alone set.
@@ -60,14 +60,27 @@ basic_fields speed e =
     ∷ (EP-TYPE := endpoint_type e.transfer_type e.address)
     ∷ (MAX-PACKET-SIZE := e.max_packet_size) ∷ []
 
+-- What its packets per microframe give it; one that is not periodic gets nothing.
+unfoldable pub plain_fields : ℕ → EndpointDescriptor → List FieldWrite
+plain_fields speed e =
+    cond (is_periodic e.transfer_type) (periodic_fields (burst_of speed e) (esit_payload e.max_packet_size (burst_of speed e))) []
+
+-- What its companion gives it (xHCI 1.2, section 6.2.3, tables 6-8, 6-9 and 6-11): its burst; a periodic one also its mult, and its bytes
+-- per interval as payload, the high part of which is 0, and as average length.
+unfoldable pub companion_fields : EndpointDescriptor → List FieldWrite
+companion_fields e =
+    (MAX-BURST-SIZE := e.burst)
+    ∷ cond (is_periodic e.transfer_type)
+    ((MULT := e.mult)
+    ∷ (MAX-ESIT-PAYLOAD-HI := 0)
+    ∷ (AVERAGE-TRB-LENGTH := e.bytes_per_interval)
+    ∷ (MAX-ESIT-PAYLOAD-LO := e.bytes_per_interval) ∷ [])
+    []
+
 -- An endpoint's block, from its descriptor and its ring. Fields that are not named keep what they hold.
 unfoldable pub endpoint_fields : ℕ → EndpointDescriptor → ℕ → List FieldWrite
 endpoint_fields speed e ring =
-    basic_fields speed e
-    ++ (ring_fields ring
-    ++ cond (is_periodic e.transfer_type)
-    (periodic_fields (burst_of speed e) (esit_payload e.max_packet_size (burst_of speed e)))
-    [])
+    basic_fields speed e ++ (ring_fields ring ++ cond (is_super speed) (companion_fields e) (plain_fields speed e))
 
 -- The Dci of an endpoint word.
 unfoldable pub word_dci : ℕ → ℕ

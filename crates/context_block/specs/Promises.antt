@@ -1,6 +1,6 @@
 -- What a block's fields read after each list of settings, whatever the block of 32 bytes held: proofs/Promises.antt proves each `..Promise`.
-use Rattle.std.specs.Prelude.{ℕ, ◌/◌, ◌%◌, ◌^◌, ◌<◌, Bool, true, cond, List, [], ◌∷◌, ◌++◌, ◌≢◌, ◌≡◌, eqb, ltb, length}
-use Rattle.def.specs.Speed.{FULL, HIGH, first_packet_size}
+use Rattle.std.specs.Prelude.{ℕ, ◌/◌, ◌%◌, ◌^◌, ◌<◌, Bool, true, false, cond, List, [], ◌∷◌, ◌++◌, ◌≢◌, ◌≡◌, eqb, ltb, length}
+use Rattle.def.specs.Speed.{FULL, HIGH, is_super, first_packet_size}
 use Rattle.descriptor.specs.declared.EndpointDescriptor.{EndpointDescriptor}
 use Rattle.descriptor.specs.Word.{endpoint_descriptor}
 use Rattle.descriptor.specs.Endpoint.{endpoint_type, xhci_interval, is_periodic, periodic_burst, esit_payload}
@@ -9,7 +9,7 @@ use Rattle.context_field.specs.declared.Field.{Field}
 use Rattle.context_field.specs.Field.{read_field, InBlock}
 use Rattle.context_block.specs.Fields.{DROP-FLAGS, ADD-FLAGS, DROP-FLAG, ADD-FLAG, CONFIGURATION-VALUE, INTERFACE-NUMBER, ALTERNATE-SETTING, ROUTE-STRING, SPEED, MTT, HUB, CONTEXT-ENTRIES, ROOT-HUB-PORT-NUMBER, NUMBER-OF-PORTS, PARENT-HUB-SLOT-ID, PARENT-PORT-NUMBER, TT-THINK-TIME, MULT, MAX-PSTREAMS, INTERVAL, MAX-ESIT-PAYLOAD-HI, CERR, EP-TYPE, MAX-BURST-SIZE, MAX-PACKET-SIZE, DCS, TR-DEQUEUE-POINTER-LO, TR-DEQUEUE-POINTER-HI, AVERAGE-TRB-LENGTH, MAX-ESIT-PAYLOAD-LO, apart_from_all}
 use Rattle.context_block.specs.FieldWrite.{FieldWrite, ◌:=◌, fields_written}
-use Rattle.context_block.specs.Blocks.{changed, address_slot, address_endpoint, error_count, endpoint_fields, some_dci, drop_flags, hub_fields}
+use Rattle.context_block.specs.Blocks.{changed, ring_fields, address_slot, address_endpoint, error_count, periodic_fields, burst_of, basic_fields, endpoint_fields, some_dci, drop_flags, hub_fields}
 
 -- Every field listed reads the value beside it.
 unfoldable pub Holds : List ℕ → List FieldWrite → Type 0
@@ -143,23 +143,37 @@ AddressEndpointPromise =
     Leaves block (address_endpoint speed ring)
     ((CERR := 3) ∷ (EP-TYPE := 4) ∷ (MAX-PACKET-SIZE := first_packet_size speed) ∷ (AVERAGE-TRB-LENGTH := 8) ∷ ring_reads ring)
 
--- An endpoint's block: four of its fields stay at an endpoint that is not periodic, two at any.
-unfoldable pub endpoint_reads : List ℕ → ℕ → EndpointDescriptor → ℕ → List FieldWrite
-endpoint_reads block speed e ring =
+-- An endpoint's block at speeds 1 to 3: four of its fields stay at an endpoint that is not periodic, two at any.
+unfoldable pub plain_reads : List ℕ → ℕ → EndpointDescriptor → List FieldWrite
+plain_reads block speed e =
     let periodic = is_periodic e.transfer_type in
     let burst = periodic_burst e.transfer_type e.packets_per_microframe speed in
     let payload = esit_payload e.max_packet_size burst in
-    (INTERVAL := xhci_interval e.interval e.transfer_type speed)
-    ∷ (CERR := error_count e.transfer_type)
-    ∷ (EP-TYPE := endpoint_type e.transfer_type e.address)
-    ∷ (MAX-PACKET-SIZE := e.max_packet_size)
-    ∷ (ring_reads ring
-    ++ (made_if periodic block MAX-BURST-SIZE burst
+    made_if periodic block MAX-BURST-SIZE burst
     ∷ made_if periodic block MULT 0
     ∷ made_if periodic block AVERAGE-TRB-LENGTH payload
     ∷ made_if periodic block MAX-ESIT-PAYLOAD-LO payload
     ∷ unchanged block MAX-PSTREAMS
-    ∷ unchanged block MAX-ESIT-PAYLOAD-HI ∷ []))
+    ∷ unchanged block MAX-ESIT-PAYLOAD-HI ∷ []
+
+-- At speeds 4 and 5 its burst is the companion's at any endpoint; four fields more are at a periodic one, and stay at another.
+unfoldable pub companion_reads : List ℕ → EndpointDescriptor → List FieldWrite
+companion_reads block e =
+    let periodic = is_periodic e.transfer_type in
+    (MAX-BURST-SIZE := e.burst)
+    ∷ made_if periodic block MULT e.mult
+    ∷ made_if periodic block AVERAGE-TRB-LENGTH e.bytes_per_interval
+    ∷ made_if periodic block MAX-ESIT-PAYLOAD-LO e.bytes_per_interval
+    ∷ unchanged block MAX-PSTREAMS
+    ∷ made_if periodic block MAX-ESIT-PAYLOAD-HI 0 ∷ []
+
+unfoldable pub endpoint_reads : List ℕ → ℕ → EndpointDescriptor → ℕ → List FieldWrite
+endpoint_reads block speed e ring =
+    (INTERVAL := xhci_interval e.interval e.transfer_type speed)
+    ∷ (CERR := error_count e.transfer_type)
+    ∷ (EP-TYPE := endpoint_type e.transfer_type e.address)
+    ∷ (MAX-PACKET-SIZE := e.max_packet_size)
+    ∷ (ring_reads ring ++ cond (is_super speed) (companion_reads block e) (plain_reads block speed e))
 
 abbrev pub EndpointPromise : Type 0
 EndpointPromise =
@@ -167,3 +181,17 @@ EndpointPromise =
     length block ≡ 32 →
     ring < 2 ^ 64 →
     Leaves block (endpoint_fields speed (endpoint_descriptor w) ring) (endpoint_reads block speed (endpoint_descriptor w) ring)
+
+-- What an endpoint's block gets without companions.
+unfoldable pub fields_before : ℕ → EndpointDescriptor → ℕ → List FieldWrite
+fields_before speed e ring =
+    basic_fields speed e
+    ++ (ring_fields ring
+    ++ cond (is_periodic e.transfer_type)
+    (periodic_fields (burst_of speed e) (esit_payload e.max_packet_size (burst_of speed e)))
+    [])
+
+-- At speeds 1 to 3 that is all.
+abbrev pub BeforePromise : Type 0
+BeforePromise =
+    (speed : ℕ) (e : EndpointDescriptor) (ring : ℕ) → is_super speed ≡ false → endpoint_fields speed e ring ≡ fields_before speed e ring

@@ -10,7 +10,7 @@ use def::Dci;
 
 // The Dci of an endpoint word.
 #[tactic(auto, using(descriptor::proofs::Laws::dci_small), unfolding(crate::specs::Blocks::word_dci))]
-pub fn word_dci(w: u32) -> Dci
+pub fn word_dci(w: u64) -> Dci
     ensures { (result.0 ≡ word_dci w) × (result.0 < 32) }
 {
     let e = descriptor::endpoint_descriptor(w);
@@ -18,7 +18,7 @@ pub fn word_dci(w: u32) -> Dci
 }
 
 // Endpoint words as flags: the bit of each Dci that one of them has is set.
-pub fn word_flags(words: &[u32]) -> u32
+pub fn word_flags(words: &[u64]) -> u32
     ensures { result ≡ flags_of words.now }
 {
     let mut flags = 0;

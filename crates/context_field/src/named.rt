@@ -138,6 +138,12 @@ impl Field {
         width: 8,
     };
 
+    pub const MAX_ESIT_PAYLOAD_HI: Field = Field {
+        word: 0,
+        low: 24,
+        width: 8,
+    };
+
     pub const CERR: Field = Field {
         word: 1,
         low: 1,

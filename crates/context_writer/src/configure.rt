@@ -26,7 +26,7 @@ pub fn begin_configure(ctx: &mut [u8], interface: u8, alternate: u8)
 }
 
 // The drop flags of some endpoint words.
-pub fn drop_endpoints(ctx: &mut [u8], words: &[u32])
+pub fn drop_endpoints(ctx: &mut [u8], words: &[u64])
     requires { 32 ≤ length ctx.old }
     ensures { (spacing : ℕ) → ctx.new ≡ written spacing (in_block CONTROL (drop_flags words.now)) ctx.old }
 {
@@ -55,7 +55,7 @@ pub fn add_endpoints(
     ctx: &mut [u8],
     spacing: usize,
     speed: u8,
-    words: &[u32],
+    words: &[u64],
     dcis: &[u8],
     rings: &[u64],
 )
@@ -88,7 +88,7 @@ pub fn highest_staying(ctx: &[u8], dcis: &[u8]) -> u8
 }
 
 // The highest Dci of added words, or one that is higher.
-pub fn highest_added(least: u8, words: &[u32]) -> u8
+pub fn highest_added(least: u8, words: &[u64]) -> u8
     requires { 1 ≤ least }
     ensures { result ≡ max least (highest_dci (word_dcis words.now)) }
 {
@@ -118,8 +118,8 @@ pub fn prepare_configure_context(
     speed: u8,
     interface: u8,
     alternate: u8,
-    dropped: &[u32],
-    added: &[u32],
+    dropped: &[u64],
+    added: &[u64],
     queue_dcis: &[u8],
     queue_rings: &[u64],
     dcis: &[u8],

@@ -64,8 +64,8 @@ fn rollback_interface_configuration(
     outcomes: &[u8],
     n: usize,
     a: ClaimPlan,
-    old_words: &[u32],
-    new_words: &[u32],
+    old_words: &[u64],
+    new_words: &[u64],
     code: u8,
 ) -> CourseEnd
     requires room { Room a.args.spacing (length ctx.old) a.old a.all }
@@ -102,8 +102,8 @@ fn switch(
     outcomes: &[u8],
     n: usize,
     a: ClaimPlan,
-    old_words: &[u32],
-    new_words: &[u32],
+    old_words: &[u64],
+    new_words: &[u64],
 ) -> CourseEnd
     requires room { Room a.args.spacing (length ctx.old) a.old a.all }
     requires n_in_bounds { n + 3 ≤ length log.old }
@@ -138,8 +138,8 @@ fn configure(
     outcomes: &[u8],
     n: usize,
     a: ClaimPlan,
-    old_words: &[u32],
-    new_words: &[u32],
+    old_words: &[u64],
+    new_words: &[u64],
 ) -> CourseEnd
     requires room { Room a.args.spacing (length ctx.old) a.old a.all }
     requires count_in_bounds { n + a.old.count + 4 ≤ length log.old }
@@ -176,8 +176,8 @@ pub fn claim_interface(
     log: &mut [u32],
     outcomes: &[u8],
     a: ClaimPlan,
-    old_words: &[u32],
-    new_words: &[u32],
+    old_words: &[u64],
+    new_words: &[u64],
 ) -> CourseEnd
     requires room { Room a.args.spacing (length ctx.old) a.old a.all }
     requires in_bounds { LOG-ROOM ≤ length log.old }

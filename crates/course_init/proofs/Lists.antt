@@ -10,8 +10,7 @@ use lib.Dec.{eqb}
 use lib.ListN.{length, get_or, take, drop, drop_of_length-le}
 use lib.Seq.{take-suc, drop-cons}
 use Rattle.descriptor.specs.Word.{kind, CONFIGURATION}
-use Rattle.descriptor_list.specs.Valid.{begins_with_configuration, configurations, valid_list}
-use Rattle.descriptor_list.proofs.Laws.{valid_begins}
+use Rattle.descriptor_list.specs.Valid.{begins_with_configuration, configurations}
 use Rattle.course_init.specs.Reading.{first_configurations}
 
 module _ (w : ℕ) (l : List ℕ) where
@@ -93,14 +92,11 @@ unfolding configurations
 first_all [] = none_left 0
 first_all (w ∷ l) = first_begun w l (eqb (kind w) CONFIGURATION) refl (first_all l)
 
-begun_none : (l : List ℕ) → begins_with_configuration l ≡ true → first_configurations 0 l ≡ []
+-- before the first one there is no word
+pub begun_none : (l : List ℕ) → begins_with_configuration l ≡ true → first_configurations 0 l ≡ []
 unfolding begins_with_configuration
 begun_none [] e = none_left 0
 begun_none (w ∷ l) e = first_none w l e
-
--- before the first one a valid list has no word
-pub valid_none : (l : List ℕ) → valid_list l ≡ true → first_configurations 0 l ≡ []
-valid_none l v = begun_none l (valid_begins l v)
 
 -- a list with configurations has words
 pub some_words : (l : List ℕ) → 0 < configurations l → eqb (length l) 0 ≡ false

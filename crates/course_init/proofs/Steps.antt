@@ -12,7 +12,7 @@ use denote.Enum.Declared.{tag_of}
 use Rattle.std.specs.Prelude.{Some, None, Result, Ok, Err}
 use lib.ListN.{length, get_or, set}
 use Rattle.descriptor.specs.Word.{configuration_value}
-use Rattle.descriptor_list.specs.Valid.{configurations, valid_list}
+use Rattle.descriptor_list.specs.Valid.{begins_with_configuration, configurations}
 use Rattle.answer.proofs.Numbers.{AnyBut, other_answer}
 use Rattle.answer.specs.declared.Answer.{Answer}
 use Rattle.answer.specs.declared.Answer.TheVariants as answer
@@ -40,7 +40,7 @@ use Rattle.course_init.specs.Reading.{BringUp, control_ring, first_configuration
 use Rattle.course_init.specs.Init.{step, bring_up_settings, bring_up_set, bring_up_configs, bring_up_configuration, bring_up_packet, bring_up_header, bring_up_address}
 use Rattle.course_init.specs.Parts.{or_ended, bring_up_left}
 use Rattle.course_init.specs.declared.run.InitEnd.{InitEnd}
-use Rattle.course_init.proofs.Lists.{valid_none, first_all, first_empty, some_words}
+use Rattle.course_init.proofs.Lists.{begun_none, first_all, first_empty, some_words}
 
 -- room for a set configuration without endpoints
 pub first_room : (s ctx : ℕ) (old : Queues) → Spaced s ctx → old.count ≡ 0 → Room s ctx old old
@@ -98,11 +98,11 @@ module _
 
   module _ {A : Type 0} (ctx routes : List ℕ) (next : Course Brought) (r : InitEnd) (rest : A → Played Brought) (h : NotDone s) where
     -- where nothing was read yet
-    pub stopped_before : (list : List ℕ) → valid_list list ≡ true →
+    pub stopped_before : (list : List ℕ) → begins_with_configuration list ≡ true →
         r ≡ record { answer = answer_of s; count = n + 1; value = None; configurations = 0 } →
         played o n (step c nothing_read ctx routes next) log ≡ or_ended (Err r) list ctx routes left rest
     unfolding or_ended nothing_read
-    stopped_before list v e = stopped nothing_read ctx routes next h ∙ rw (e, valid_none list v)
+    stopped_before list v e = stopped nothing_read ctx routes next h ∙ rw (e, begun_none list v)
 
     -- where the value was read, and k configurations
     pub stopped_after : (a : BringUp) (k : ℕ) →
@@ -113,12 +113,12 @@ module _
 
 -- a header that is refused
 pub header_refused : {A : Type 0} (o list ctx routes log : List ℕ) (x : Answer) (r : InitEnd) (rest : A → Played Brought) (course : Course Brought) →
-    valid_list list ≡ true →
+    begins_with_configuration list ≡ true →
     r ≡ record { answer = x; count = 2; value = None; configurations = 0 } →
     course ≡ ends (brought x nothing_read ctx routes) →
     played o 2 course log ≡ or_ended (Err r) list ctx routes log rest
 unfolding or_ended nothing_read
-header_refused o list ctx routes log x r rest course v e f = rw (f, e, played_ends, valid_none list v)
+header_refused o list ctx routes log x r rest course v e f = rw (f, e, played_ends, begun_none list v)
 
 -- Configuration descriptors, of which i of k are read.
 module _ (a : BringUp) (spacing : ℕ) (ctx routes o log : List ℕ) (k i : ℕ) (all : k ≡ configurations a.list) (h : i < k) where

@@ -10,7 +10,7 @@ pub fn count_words(list: &[u32], k: usize) -> usize
 {
     let mut left = k;
     for (i, &w) in list.iter().enumerate() {
-        if descriptor::word_kind(w) == Some(WordKind::Configuration) {
+        if descriptor::word_kind(w as u64) == Some(WordKind::Configuration) {
             if left == 0 {
                 return i;
             }

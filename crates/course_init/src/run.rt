@@ -2,7 +2,8 @@
 ghost use Rattle.std.specs.Prelude.{◌≡◌, true, List, ℕ, ◌+◌, ◌≤◌, length};
 ghost use Rattle.def.specs.Speed.{exponent_ok};
 ghost use Rattle.command.specs.Command.{LOG-ROOM};
-ghost use Rattle.descriptor_list.specs.Valid.{valid_list, configurations};
+ghost use Rattle.descriptor_list.specs.Valid.{begins_with_configuration, configurations};
+ghost use Rattle.descriptor_list.specs.Companions.{valid_at, Joinable};
 ghost use Rattle.command.specs.declared.Command.TheVariants as commands;
 ghost use Rattle.command.specs.Course.{played};
 ghost use Rattle.context.specs.Place.{Spaced};
@@ -89,7 +90,7 @@ pub fn address(
 ) -> InitEnd
     requires spaced { Spaced spacing (length ctx.old) }
     requires in_bounds { LOG-ROOM ≤ length log.old }
-    requires list_value { valid_list list.now ≡ true }
+    requires list_value { valid_at a.speed list.now ≡ true }
     ensures { (rings : List ℕ) → ring ≡ least rings → leaves_read result list.now ctx.new routes.new log.new
         ≡ played outcomes.now 0
         (bring_up_address (bring_up_of a rings hubs.now list.now) spacing ctx.old routes.old) log.old }
@@ -111,7 +112,7 @@ pub fn address(
 fn read_header(log: &mut [u32], outcomes: &[u8], a: BringUpArgs) -> Result<(), InitEnd>
     requires { LOG-ROOM ≤ length log.old }
     ensures packet_value { result ≡ Ok tt → exponent_ok a.speed a.packet ≡ true }
-    ensures log_value { (rings hubs list ctx routes : List ℕ) (spacing : ℕ) → valid_list list ≡ true →
+    ensures log_value { (rings hubs list ctx routes : List ℕ) (spacing : ℕ) → begins_with_configuration list ≡ true →
         played outcomes.now 0 (step commands.Address nothing_read ctx routes (bring_up_header (bring_up_of a rings hubs list) spacing ctx routes))
         log.old
         ≡ or_ended result list ctx routes log.new
@@ -143,7 +144,7 @@ fn read_descriptors(
     list: &[u32],
 ) -> Result<usize, InitEnd>
     requires in_bounds { LOG-ROOM ≤ length log.old }
-    requires list_value { valid_list list.now ≡ true }
+    requires list_value { valid_at a.speed list.now ≡ true }
     ensures all_read { (n : ℕ) → result ≡ Ok n → n ≡ configurations list.now }
     ensures log_value { (rings hubs ctx routes : List ℕ) (spacing : ℕ) →
         played outcomes.now 2
@@ -186,6 +187,7 @@ fn set_first(
     list: &[u32],
 ) -> InitEnd
     requires spaced { Spaced spacing (length ctx.old) }
+    requires joinable { Joinable list.now }
     requires all_read { (read ≡ configurations list.now) × ((read ≤ 8) × (LOG-ROOM ≤ length log.old)) }
     ensures { (rings hubs : List ℕ) →
         leaves_read result list.now ctx.new routes.new log.new
@@ -199,7 +201,7 @@ fn set_first(
         slot: a.slot,
         spacing,
         speed: a.speed,
-        value: descriptor::configuration_value(list[0]),
+        value: descriptor::configuration_value(list[0] as u64),
         held: Settings::NONE,
         old: Queues::NONE,
     };

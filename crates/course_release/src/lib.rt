@@ -34,7 +34,7 @@ fn configure(
     outcomes: &[u8],
     n: usize,
     a: ReleaseArgs,
-    words: &[u32],
+    words: &[u64],
 ) -> CourseEnd
     requires room { Room a.spacing (length ctx.old) a.old a.all }
     requires count_in_bounds { n + a.old.count + 1 ≤ length log.old }
@@ -77,7 +77,7 @@ pub fn release_interface(
     log: &mut [u32],
     outcomes: &[u8],
     a: ReleaseArgs,
-    words: &[u32],
+    words: &[u64],
 ) -> CourseEnd
     requires room { Room a.spacing (length ctx.old) a.old a.all }
     requires in_bounds { LOG-ROOM ≤ length log.old }

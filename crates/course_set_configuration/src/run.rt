@@ -2,6 +2,7 @@
 ghost use Rattle.std.specs.Prelude.{◌≡◌, List, ℕ, ◌+◌, ◌*◌, ◌≤◌, length};
 ghost use Rattle.answer.specs.declared.Answer.TheVariants as answer;
 ghost use Rattle.command.specs.Course.{on_sent, played};
+ghost use Rattle.descriptor_list.specs.Companions.{joined, Joinable};
 ghost use Rattle.course_steps.specs.Arrays.{course_leaves, Room};
 ghost use Rattle.course_set_configuration.specs.SetConfiguration.{settings_of, set_publish, set_restore, set_switch, set_configure, set_course};
 
@@ -36,9 +37,10 @@ pub fn run_set_configuration(
     list: &[u32],
 ) -> CourseEnd
     requires room { Room a.spacing (length ctx.old) a.old a.old }
+    requires joinable { Joinable list.now }
     requires count_in_bounds { n + 2 * a.old.count + 3 ≤ length log.old }
     ensures { course_leaves result ctx.new routes.new log.new
-        ≡ played outcomes.now n (set_course (settings_of a list.now) ctx.old routes.old) log.old }
+        ≡ played outcomes.now n (set_course (settings_of a (joined list.now)) ctx.old routes.old) log.old }
 {
     let stop = course_steps::stop_endpoints(log, outcomes, n, a.old);
     match stop.sent {
@@ -63,9 +65,10 @@ fn configure(
     list: &[u32],
 ) -> CourseEnd
     requires room { Room a.spacing (length ctx.old) a.old a.old }
+    requires joinable { Joinable list.now }
     requires count_in_bounds { n + a.old.count + 3 ≤ length log.old }
     ensures { course_leaves result ctx.new routes.new log.new
-        ≡ played outcomes.now n (set_configure (settings_of a list.now) ctx.old routes.old)
+        ≡ played outcomes.now n (set_configure (settings_of a (joined list.now)) ctx.old routes.old)
         log.old }
 {
     held::prepare_drop(ctx, a, list);
@@ -90,9 +93,10 @@ fn switch(
     list: &[u32],
 ) -> CourseEnd
     requires room { Room a.spacing (length ctx.old) a.old a.old }
+    requires joinable { Joinable list.now }
     requires count_in_bounds { n + a.old.count + 2 ≤ length log.old }
     ensures { course_leaves result ctx.new routes.new log.new
-        ≡ played outcomes.now n (set_switch (settings_of a list.now) ctx.old routes.old)
+        ≡ played outcomes.now n (set_switch (settings_of a (joined list.now)) ctx.old routes.old)
         log.old }
 {
     let next = n + 1;
@@ -126,10 +130,11 @@ fn restore(
     code: u8,
 ) -> CourseEnd
     requires room { Room a.spacing (length ctx.old) a.old a.old }
+    requires joinable { Joinable list.now }
     requires count_in_bounds { n + a.old.count + 1 ≤ length log.old }
     ensures { (routes : List ℕ) →
         course_leaves result ctx.new routes log.new
-        ≡ played outcomes.now n (set_restore (settings_of a list.now) code ctx.old routes) log.old }
+        ≡ played outcomes.now n (set_restore (settings_of a (joined list.now)) code ctx.old routes) log.old }
 {
     held::prepare_restore(ctx, a, list);
     let next = n + 1;

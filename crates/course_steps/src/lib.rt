@@ -125,8 +125,8 @@ pub fn prepare_configure(
     speed: u8,
     interface: u8,
     alternate: u8,
-    dropped: &[u32],
-    added: &[u32],
+    dropped: &[u64],
+    added: &[u64],
     q: Queues,
     all: Queues,
 )

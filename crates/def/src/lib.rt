@@ -2,7 +2,7 @@
 #![tactic(auto)]
 
 ghost use Rattle.std.specs.Prelude.{◌≡◌, true};
-ghost use Rattle.def.specs.Speed.{speed_known, first_packet_size, exponent_ok, header_packet_size};
+ghost use Rattle.def.specs.Speed.{speed_known, is_super, first_packet_size, exponent_ok, header_packet_size};
 
 // A device slot of the controller: 1 to N.
 #[derive(Clone, Copy, PartialEq, Eq)]
@@ -33,6 +33,14 @@ pub fn speed_known(speed: u8) -> bool
     ensures { result ≡ speed_known speed }
 {
     (FULL..=SUPER_PLUS).contains(&speed)
+}
+
+// Whether a device of this speed has companions in its list.
+#[tactic(auto, unfolding(crate::specs::Speed::is_super))]
+pub fn is_super(speed: u8) -> bool
+    ensures { result ≡ is_super speed }
+{
+    (SUPER..=SUPER_PLUS).contains(&speed)
 }
 
 const FIRST_PACKET_SIZES: [u16; 6] = [0, 64, 8, 64, 512, 512];

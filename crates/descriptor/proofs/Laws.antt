@@ -12,7 +12,7 @@ use Rattle.laws.proofs.Computed.{all, all_below}
 use Rattle.laws.proofs.Tests.{and_left, and_right}
 use Rattle.def.specs.Speed.{FULL, HIGH, SUPER-PLUS}
 use Rattle.descriptor.specs.Endpoint.{dci_of, endpoint_type, halvings, held_exponent, periodic_interval, isochronous_interval, xhci_interval, is_periodic, periodic_burst, esit_payload}
-use Rattle.descriptor.specs.Word.{ENDPOINT, kind, direction_in, endpoint_number, type_number, transfer_type, endpoint_descriptor, endpoint_ok, word_ok}
+use Rattle.descriptor.specs.Word.{ENDPOINT, kind, direction_in, endpoint_number, type_number, transfer_type, companion_burst, companion_mult, companion_bytes, endpoint_descriptor, endpoint_ok, word_ok}
 use Rattle.descriptor.specs.declared.TransferType.{TransferType}
 use Rattle.descriptor.specs.declared.TransferType.TheVariants.{Control, Isochronous, Bulk, Interrupt}
 
@@ -25,9 +25,12 @@ pub record FieldsFit (w : ℕ) : Type 0 where
   pub size : (endpoint_descriptor w).max_packet_size < 2 ^ 11
   pub packets : (endpoint_descriptor w).packets_per_microframe < 4
   pub interval : (endpoint_descriptor w).interval < 256
+  pub burst : (endpoint_descriptor w).burst < 16
+  pub mult : (endpoint_descriptor w).mult < 4
+  pub bytes : (endpoint_descriptor w).bytes_per_interval < 65536
 
 pub fields_fit : (w : ℕ) → FieldsFit w
-unfolding direction_in endpoint_number type_number endpoint_descriptor
+unfolding direction_in endpoint_number type_number endpoint_descriptor companion_burst companion_mult companion_bytes
 fields_fit w =
     record {
       direction = omega arith;
@@ -37,6 +40,9 @@ fields_fit w =
       size = omega arith;
       packets = omega arith;
       interval = omega arith;
+      burst = omega arith;
+      mult = omega arith;
+      bytes = omega arith;
     }
 
 -- The highest bit of the address is IN.

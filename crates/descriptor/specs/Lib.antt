@@ -1,2 +1,3 @@
 pub mod Endpoint
+pub mod Promises
 pub mod Word

@@ -14,7 +14,7 @@ use Rattle.descriptor_configuration.specs.Words.{up_to_configuration}
 abbrev pub stays : ℕ → Bool
 stays w = not (is_kind Configuration w)
 
-taken : (l : List ℕ) → take (prefix_len stays l) l ≡ up_to_configuration l
+pub taken : (l : List ℕ) → take (prefix_len stays l) l ≡ up_to_configuration l
 unfolding up_to_configuration
 taken [] = refl
 taken (w ∷ l) = go (decided (eqb (kind w) CONFIGURATION)) (taken l)

@@ -1,2 +1,4 @@
+pub mod Companions
 pub mod Lookup
+pub mod Promises
 pub mod Valid

@@ -1,4 +1,7 @@
 mod Back
+mod Before
+mod Cameras
+mod Companion
 mod Examples
 pub mod Made
 mod Promises

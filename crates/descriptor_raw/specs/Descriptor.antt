@@ -1,7 +1,7 @@
--- The descriptors of USB 2.0, section 9.6. A descriptor is the list of its bytes; a field of two bytes has the low one first.
-use Rattle.std.specs.Prelude.{ℕ, ◌+◌, ◌*◌, ◌/◌, ◌%◌, Bool, cond, List, eqb, get_or}
+-- The descriptors of USB 2.0, section 9.6, and the companion of USB 3.2, section 9.6.7. A descriptor is the list of its bytes; a field of two bytes has the low one first.
+use Rattle.std.specs.Prelude.{ℕ, ◌+◌, ◌*◌, ◌/◌, ◌%◌, Bool, cond, ◌&&◌, List, eqb, get_or}
 use Rattle.descriptor_raw.specs.declared.DescriptorKind.{DescriptorKind}
-use Rattle.descriptor_raw.specs.declared.DescriptorKind.TheVariants.{Configuration, Interface, Endpoint, Other}
+use Rattle.descriptor_raw.specs.declared.DescriptorKind.TheVariants.{Configuration, Interface, Endpoint, Companion, Other}
 
 -- Descriptor types (table 9-5).
 abbrev pub CONFIGURATION-TYPE : ℕ
@@ -12,6 +12,10 @@ INTERFACE-TYPE = 4
 
 abbrev pub ENDPOINT-TYPE : ℕ
 ENDPOINT-TYPE = 5
+
+-- (At speeds 1 to 3 a companion is one of the other types.)
+abbrev pub COMPANION-TYPE : ℕ
+COMPANION-TYPE = 48
 
 -- Where the fields stand: of every descriptor,
 abbrev pub LENGTH : ℕ
@@ -43,6 +47,16 @@ ALTERNATE-SETTING = 3
 abbrev pub NUM-ENDPOINTS : ℕ
 NUM-ENDPOINTS = 4
 
+-- of a companion (USB 3.2, section 9.6.7),
+abbrev pub MAX-BURST : ℕ
+MAX-BURST = 2
+
+abbrev pub COMPANION-ATTRIBUTES : ℕ
+COMPANION-ATTRIBUTES = 3
+
+abbrev pub BYTES-PER-INTERVAL : ℕ
+BYTES-PER-INTERVAL = 4
+
 -- of an endpoint (table 9-13).
 abbrev pub ENDPOINT-ADDRESS : ℕ
 ENDPOINT-ADDRESS = 2
@@ -66,16 +80,20 @@ packets_less_one field = field / 2048 % 4
 abbrev pub packet_field : ℕ → ℕ → ℕ
 packet_field size less_one = size + 2048 * less_one
 
--- The size of a descriptor by its type; one of another type has at least a length and a type.
-unfoldable pub size_of : ℕ → ℕ
-size_of type =
-    cond (eqb type CONFIGURATION-TYPE) 9 (cond (eqb type INTERFACE-TYPE) 9 (cond (eqb type ENDPOINT-TYPE) 7 2))
+-- The size of a descriptor by its type, and whether the device is of speed 4 or 5; one of another type has at least a length and a type.
+unfoldable pub size_of : Bool → ℕ → ℕ
+size_of super type =
+    cond (eqb type CONFIGURATION-TYPE) 9
+    (cond (eqb type INTERFACE-TYPE) 9
+    (cond (eqb type ENDPOINT-TYPE) 7
+    (cond (super && eqb type COMPANION-TYPE) 6 2)))
 
 -- The kind of a descriptor by its type.
 unfoldable pub kind_of : ℕ → DescriptorKind
 kind_of type =
     cond (eqb type CONFIGURATION-TYPE) Configuration
-    (cond (eqb type INTERFACE-TYPE) Interface (cond (eqb type ENDPOINT-TYPE) Endpoint Other))
+    (cond (eqb type INTERFACE-TYPE) Interface
+    (cond (eqb type ENDPOINT-TYPE) Endpoint (cond (eqb type COMPANION-TYPE) Companion Other)))
 
 abbrev pub byte_at : ℕ → List ℕ → ℕ
 byte_at place d = get_or d place 0
@@ -91,3 +109,6 @@ is_interface d = eqb (byte_at TYPE d) INTERFACE-TYPE
 
 abbrev pub is_endpoint : List ℕ → Bool
 is_endpoint d = eqb (byte_at TYPE d) ENDPOINT-TYPE
+
+abbrev pub is_companion : List ℕ → Bool
+is_companion d = eqb (byte_at TYPE d) COMPANION-TYPE

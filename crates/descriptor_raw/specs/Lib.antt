@@ -1,3 +1,5 @@
+pub mod Before
+pub mod Cameras
 pub mod Claims
 pub mod Descriptor
 pub mod Marked

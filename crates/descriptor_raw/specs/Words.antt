@@ -1,6 +1,6 @@
--- 01's descriptor words, made of their fields.
+-- The descriptor words of 01 and 02, made of their fields.
 use Rattle.std.specs.Prelude.{ℕ, ◌+◌, ◌-◌, ◌*◌, ◌/◌, ◌%◌, ◌^◌}
-use Rattle.descriptor.specs.Word.{CONFIGURATION, ALTERNATE, ENDPOINT}
+use Rattle.descriptor.specs.Word.{CONFIGURATION, ALTERNATE, ENDPOINT, COMPANION}
 use Rattle.descriptor_raw.specs.Descriptor.{packet_size, packets_less_one}
 
 -- A field at its place in a word of 32 bits: `width` bits after the `used` highest ones.
@@ -23,3 +23,8 @@ endpoint_word address attributes packet interval =
     + placed 9 11 (packet_size packet)
     + placed 20 2 (packets_less_one packet + 1)
     + placed 22 8 interval
+
+-- Of a companion's attributes bits 1 and 0 are the mult. A burst above 15, which no word holds, is judged apart.
+unfoldable pub companion_word : ℕ → ℕ → ℕ → ℕ
+companion_word burst attributes bytes =
+    placed 0 2 COMPANION + placed 2 4 (burst % 16) + placed 6 2 (attributes % 4) + placed 8 16 bytes

@@ -1,15 +1,16 @@
 -- The writer: descriptor words to bytes.
 use Rattle.std.specs.Prelude.{ℕ, ◌+◌, ◌-◌, ◌/◌, ◌%◌, Bool, true, not, cond, ◌&&◌, List, [], ◌∷◌, ◌++◌, eqb, leb, length, set, replicate}
-use Rattle.descriptor.specs.Word.{CONFIGURATION, ALTERNATE, ENDPOINT, kind, configuration_value, interface_number, alternate_setting, type_number, endpoint_descriptor}
-use Rattle.descriptor_list.specs.Valid.{valid_list}
-use Rattle.function_answer.specs.declared.Refusal.TheVariants.{TooShort, DescriptorList, Malformed}
+use Rattle.def.specs.Speed.{speed_known}
+use Rattle.descriptor.specs.Word.{CONFIGURATION, ALTERNATE, ENDPOINT, COMPANION, kind, configuration_value, interface_number, alternate_setting, type_number, companion_burst, companion_mult, companion_bytes, endpoint_descriptor}
+use Rattle.descriptor_list.specs.Companions.{list_ok, companions_fit}
+use Rattle.function_answer.specs.declared.Refusal.TheVariants.{TooShort, Speed, DescriptorList, Companion, Malformed}
 use Rattle.function_answer.specs.Answer.{Left, accepts, unless}
-use Rattle.descriptor_raw.specs.Descriptor.{CONFIGURATION-TYPE, INTERFACE-TYPE, ENDPOINT-TYPE, LENGTH, TYPE, TOTAL-LENGTH, NUM-INTERFACES, CONFIGURATION-VALUE, CONFIGURATION-ATTRIBUTES, INTERFACE-NUMBER, ALTERNATE-SETTING, NUM-ENDPOINTS, ENDPOINT-ADDRESS, ENDPOINT-ATTRIBUTES, MAX-PACKET-SIZE, INTERVAL, packet_field, size_of}
+use Rattle.descriptor_raw.specs.Descriptor.{CONFIGURATION-TYPE, INTERFACE-TYPE, ENDPOINT-TYPE, COMPANION-TYPE, LENGTH, TYPE, TOTAL-LENGTH, NUM-INTERFACES, CONFIGURATION-VALUE, CONFIGURATION-ATTRIBUTES, INTERFACE-NUMBER, ALTERNATE-SETTING, NUM-ENDPOINTS, ENDPOINT-ADDRESS, ENDPOINT-ATTRIBUTES, MAX-PACKET-SIZE, INTERVAL, MAX-BURST, COMPANION-ATTRIBUTES, BYTES-PER-INTERVAL, packet_field, size_of}
 use Rattle.descriptor_raw.specs.Claims.{bytes_after, interfaces_after, endpoints_after}
 
 -- A descriptor of a type, with every other byte 0.
 abbrev pub blank_descriptor : ℕ → List ℕ
-blank_descriptor type = set (set (replicate (size_of type) 0) LENGTH (size_of type)) TYPE type
+blank_descriptor type = set (set (replicate (size_of true type) 0) LENGTH (size_of true type)) TYPE type
 
 abbrev pub with_byte : ℕ → ℕ → List ℕ → List ℕ
 with_byte place value d = set d place value
@@ -39,6 +40,11 @@ endpoint_bytes address type packet interval =
     (with_two_bytes MAX-PACKET-SIZE packet
     (with_byte ENDPOINT-ATTRIBUTES type (with_byte ENDPOINT-ADDRESS address (blank_descriptor ENDPOINT-TYPE))))
 
+unfoldable pub companion_descriptor : ℕ → ℕ → ℕ → List ℕ
+companion_descriptor burst mult bytes =
+    with_two_bytes BYTES-PER-INTERVAL bytes
+    (with_byte COMPANION-ATTRIBUTES mult (with_byte MAX-BURST burst (blank_descriptor COMPANION-TYPE)))
+
 -- The packet size field of a word.
 unfoldable pub word_packets : ℕ → ℕ
 word_packets w =
@@ -48,10 +54,11 @@ word_packets w =
 unfoldable pub descriptor_of : ℕ → List (List ℕ) → List ℕ
 descriptor_of w after =
     cond (eqb (kind w) CONFIGURATION)
-    (configuration_descriptor (size_of CONFIGURATION-TYPE + bytes_after after) (interfaces_after after) (configuration_value w))
+    (configuration_descriptor (size_of true CONFIGURATION-TYPE + bytes_after after) (interfaces_after after) (configuration_value w))
     (cond (eqb (kind w) ALTERNATE)
     (interface_descriptor (interface_number w) (alternate_setting w) (endpoints_after after))
-    (endpoint_bytes (endpoint_descriptor w).address (type_number w) (word_packets w) (endpoint_descriptor w).interval))
+    (cond (eqb (kind w) COMPANION) (companion_descriptor (companion_burst w) (companion_mult w) (companion_bytes w))
+    (endpoint_bytes (endpoint_descriptor w).address (type_number w) (word_packets w) (endpoint_descriptor w).interval)))
 
 unfoldable pub all_descriptors : List ℕ → List (List ℕ)
 all_descriptors [] = []
@@ -71,10 +78,12 @@ packets_given [] = true
 packets_given (w ∷ l) =
     not (eqb (kind w) ENDPOINT && eqb (endpoint_descriptor w).packets_per_microframe 0) && packets_given l
 
--- What the writer answers and leaves in the bytes that it is lent: 3, 4, 20 in this order.
-unfoldable pub write_descriptors : List ℕ → List ℕ → Left
-write_descriptors list buffer =
+-- What the writer answers and leaves in the bytes that it is lent: 3, 6, 4, 26, 20 in this order.
+unfoldable pub write_descriptors : ℕ → List ℕ → List ℕ → Left
+write_descriptors speed list buffer =
     unless (leb 2304 (length buffer)) TooShort buffer
-    (unless (valid_list list) DescriptorList buffer
+    (unless (speed_known speed) Speed buffer
+    (unless (list_ok speed list) DescriptorList buffer
+    (unless (companions_fit speed list) Companion buffer
     (unless (packets_given list) Malformed buffer
-    (accepts (written_bytes list) buffer)))
+    (accepts (written_bytes list) buffer)))))

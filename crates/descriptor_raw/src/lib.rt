@@ -1,4 +1,4 @@
-// Raw configuration descriptors (USB 2.0 section 9.6): what their reader and their writer share.
+// Raw configuration descriptors (USB 2.0 section 9.6, USB 3.2 section 9.6.7): what their reader and their writer share.
 #![tactic(auto)]
 
 mod marks;
@@ -17,6 +17,8 @@ pub const INTERFACE: u8 = 4;
 
 pub const ENDPOINT: u8 = 5;
 
+pub const COMPANION: u8 = 48;
+
 // How many words the reader is lent at least, and how many bytes the writer.
 pub const READ_WORDS: usize = 256;
 
@@ -28,6 +30,7 @@ pub enum DescriptorKind {
     Configuration,
     Interface,
     Endpoint,
+    Companion,
     Other,
 }
 
@@ -40,6 +43,7 @@ impl From<u8> for DescriptorKind {
             CONFIGURATION => DescriptorKind::Configuration,
             INTERFACE => DescriptorKind::Interface,
             ENDPOINT => DescriptorKind::Endpoint,
+            COMPANION => DescriptorKind::Companion,
             _ => DescriptorKind::Other,
         }
     }

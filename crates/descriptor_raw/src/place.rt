@@ -17,6 +17,13 @@ pub const ALTERNATE_SETTING: usize = 3;
 
 pub const NUM_ENDPOINTS: usize = 4;
 
+// of a companion,
+pub const MAX_BURST: usize = 2;
+
+pub const COMPANION_ATTRIBUTES: usize = 3;
+
+pub const BYTES_PER_INTERVAL: usize = 4;
+
 // of an endpoint.
 pub const ENDPOINT_ADDRESS: usize = 2;
 

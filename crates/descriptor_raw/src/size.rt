@@ -5,4 +5,6 @@ pub const INTERFACE: usize = 9;
 
 pub const ENDPOINT: usize = 7;
 
+pub const COMPANION: usize = 6;
+
 pub const LEAST: usize = 2;

@@ -30,7 +30,7 @@ none_left l e = rw e
 pub walked : (s : Descriptors) → YieldsList Yields (λ d. d.bytes.now) s (descriptors s.bytes.now)
 walked s =
     YieldsList-from_shown Yields (λ d. d.bytes.now) (λ t. descriptors t.bytes.now)
-    (λ t u h. none_left t.bytes.now h) (λ t x u h. h.next) s
+    (λ t u h. none_left t.bytes.now h) (λ t x u h. h.cut_off.next) s
 
 -- What a closure tests of a descriptor.
 abbrev pub is_kind : DescriptorKind → List ℕ → Bool

@@ -3,4 +3,5 @@ mod Exits
 mod Gather
 mod Judged
 mod Rest
+mod Settled
 mod Step

@@ -52,15 +52,16 @@ fn borne_out(d: Descriptor, after: Descriptors) -> bool
 {
     match d.kind() {
         DescriptorKind::Configuration => {
-            d.two_bytes(place::TOTAL_LENGTH) == d.bytes.len() + count_bytes(after)
+            d.two_bytes(place::TOTAL_LENGTH) as usize == d.bytes.len() + count_bytes(after)
                 && d.bytes[place::NUM_INTERFACES] as usize == count_interfaces(after)
         }
         DescriptorKind::Interface => {
             d.bytes[place::NUM_ENDPOINTS] as usize == count_endpoints(after)
         }
-        DescriptorKind::Endpoint => d.two_bytes(place::MAX_PACKET_SIZE) / place::PACKETS_LSB % 4
-            != 3,
-        DescriptorKind::Other => true,
+        DescriptorKind::Endpoint => {
+            d.two_bytes(place::MAX_PACKET_SIZE) as usize / place::PACKETS_LSB % 4 != 3
+        }
+        _ => true,
     }
 }
 

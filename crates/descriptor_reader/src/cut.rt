@@ -5,11 +5,12 @@ ghost use Rattle.descriptor_raw.specs.Read.{descriptors, whole, all_whole};
 
 use descriptor_raw::{DescriptorKind, place, size};
 
-// A descriptor that has the bytes that its length says, and its type's size at least.
+// A descriptor that has the bytes that its length says, and its type's size at least, of a device with companions or without.
 #[derive(Clone, Copy)]
 pub struct Descriptor<'a> {
     pub bytes: &'a [u8],
-    pub ghost whole: { whole bytes.now ≡ true },
+    pub companions: bool,
+    pub ghost whole: { whole companions bytes.now ≡ true },
 }
 
 impl<'a> Descriptor<'a> {
@@ -20,11 +21,11 @@ impl<'a> Descriptor<'a> {
     }
 
     // A field of two bytes.
-    pub fn two_bytes(self, at: usize) -> usize
+    pub fn two_bytes(self, at: usize) -> u16
         requires { at + 1 < length self.bytes.now }
         ensures { result ≡ two_bytes_at at self.entry.bytes.now }
     {
-        u16::from_le_bytes([self.bytes[at], self.bytes[at + 1]]) as usize
+        u16::from_le_bytes([self.bytes[at], self.bytes[at + 1]])
     }
 }
 
@@ -32,18 +33,19 @@ impl<'a> Descriptor<'a> {
 #[derive(Clone, Copy)]
 pub struct Descriptors<'a> {
     bytes: &'a [u8],
-    pub ghost whole: { all_whole (descriptors bytes.now) ≡ true },
+    companions: bool,
+    pub ghost whole: { all_whole companions (descriptors bytes.now) ≡ true },
 }
 
 impl<'a> Descriptors<'a> {
     // The descriptors of bytes, if all are whole.
-    pub fn of(bytes: &'a [u8]) -> Option<Descriptors<'a>>
-        ensures { MatchOption result (all_whole (descriptors bytes.now) ≡ false) (λ ds. ds.bytes.now ≡ bytes.now) }
+    pub fn of(bytes: &'a [u8], companions: bool) -> Option<Descriptors<'a>>
+        ensures { MatchOption result (all_whole companions (descriptors bytes.now) ≡ false) (λ ds. (ds.bytes.now ≡ bytes.now) × (ds.companions ≡ companions)) }
     {
-        if !lengths_fit(bytes) {
+        if !lengths_fit(bytes, companions) {
             return None;
         }
-        Some(Descriptors { bytes })
+        Some(Descriptors { bytes, companions })
     }
 }
 
@@ -61,26 +63,34 @@ impl<'a> Iterator for Descriptors<'a> {
         let n = *self.bytes.first()? as usize;
         let (bytes, rest) = self.bytes.split_at(n);
         self.bytes = rest;
-        Some(Descriptor { bytes })
+        Some(Descriptor {
+            bytes,
+            companions: self.companions,
+        })
     }
 }
 
 // The size of a descriptor by its type, the least one of another type.
 #[tactic(auto, unfolding(descriptor_raw::specs::Descriptor::size_of, descriptor_raw::specs::Descriptor::kind_of))]
-fn size_of(kind: u8) -> usize
-    ensures { result ≡ size_of kind }
+fn size_of(kind: u8, companions: bool) -> usize
+    ensures { result ≡ size_of companions kind }
 {
     match DescriptorKind::from(kind) {
         DescriptorKind::Configuration => size::CONFIGURATION,
         DescriptorKind::Interface => size::INTERFACE,
         DescriptorKind::Endpoint => size::ENDPOINT,
+        DescriptorKind::Companion => if companions {
+            size::COMPANION
+        } else {
+            size::LEAST
+        },
         DescriptorKind::Other => size::LEAST,
     }
 }
 
 // Whether each descriptor has its type's size at least, and none goes past the end.
-fn lengths_fit(bytes: &[u8]) -> bool
-    ensures { result ≡ all_whole (descriptors bytes.now) }
+fn lengths_fit(bytes: &[u8], companions: bool) -> bool
+    ensures { result ≡ all_whole companions (descriptors bytes.now) }
 {
     let mut rest = bytes;
     while !rest.is_empty() {
@@ -91,7 +101,7 @@ fn lengths_fit(bytes: &[u8]) -> bool
         if rest.len() < n {
             return false;
         }
-        if n < size_of(rest[place::TYPE]) {
+        if n < size_of(rest[place::TYPE], companions) {
             return false;
         }
         (_, rest) = rest.split_at(n);

@@ -1,19 +1,19 @@
 -- One turn of the walk that finds what a configuration says.
 use Prim.Native.Nat.{ℕ, ◌+◌, ◌-◌, ◌*◌, ◌≤◌, ◌<◌}
-use mathlib.Core.Path.{◌≡◌}
+use mathlib.Core.Path.{◌≡◌, sym, ◌∙◌}
 use mathlib.Core.Logic.{◌≢◌}
 use mathlib.Core.Bool.{Bool, true, false, cond}
 use mathlib.Core.List.{List, [], ◌∷◌}
 use native.Mathlib.Nat.{zero-add}
 use native.Mathlib.Omega.{arith}
 use lib.ListN.{length, get_or, drop, replicate, drop_of_length-le}
-use Rattle.descriptor.specs.Word.{CONFIGURATION, ALTERNATE, kind, interface_number}
+use Rattle.descriptor.specs.Word.{CONFIGURATION, ALTERNATE, ENDPOINT, COMPANION, kind, interface_number}
 use Rattle.descriptor_list.proofs.Next.{drop_next}
 use Rattle.descriptor_raw.specs.declared.marks.Marks.{Marks}
 use Rattle.descriptor_raw.specs.Marked.{has_mark, MarkedWith}
 use Rattle.descriptor_raw.specs.Claims.{up_to, bytes_of, interface_numbers, bytes_after, interfaces_after}
 use Rattle.descriptor_raw.specs.Write.{descriptor_of, all_descriptors}
-use Rattle.descriptor_raw.proofs.Made.{numbers_after, configuration_bytes, configuration_numbers, interface_bytes, interface_numbers_lem, endpoint_bytes_lem, endpoint_numbers}
+use Rattle.descriptor_raw.proofs.Made.{numbers_after, configuration_bytes, configuration_numbers, interface_bytes, interface_numbers_lem, endpoint_bytes_lem, endpoint_numbers, companion_bytes_lem, companion_numbers}
 use Rattle.descriptor_raw.proofs.Unmarked.{unmarked, unmarked_all, none_left, met_other, met}
 use Rattle.descriptor_writer.specs.Written.{ClaimedAs}
 
@@ -94,15 +94,31 @@ module _ (list : List ℕ) (marks : Marks) (bytes i : ℕ) (g : Claiming list ma
             interfaces_left = met marks _ _ _ g.interfaces_left x next numbers_interface s m;
           }
 
-    pub claiming_endpoint : kind (get_or list i 0) ≢ CONFIGURATION → kind (get_or list i 0) ≢ ALTERNATE → Claiming list marks (bytes + 7) (i + 1)
-    claiming_endpoint c a =
-        let b : bytes_after (descriptors_from list i) ≡ 7 + bytes_after (descriptors_from list (i + 1)) =
-        rw (from_next list i h) (endpoint_bytes_lem _ _ c a) in
-        let n : numbers_after (descriptors_from list i) ≡ numbers_after (descriptors_from list (i + 1)) =
-        rw (from_next list i h) (endpoint_numbers _ _ c a) in
+    -- a word whose descriptor adds bytes only
+    claiming_other : (n : ℕ) → n ≤ 9 →
+        bytes_after (descriptors_from list i) ≡ n + bytes_after (descriptors_from list (i + 1)) →
+        numbers_after (descriptors_from list i) ≡ numbers_after (descriptors_from list (i + 1)) →
+        Claiming list marks (bytes + n) (i + 1)
+    claiming_other n few b e =
         record {
           few_bytes = omega (arith, g.few_bytes);
           few_interfaces = omega (arith, g.few_interfaces);
           bytes_left = omega (arith, g.bytes_left);
-          interfaces_left = met_other marks _ _ _ g.interfaces_left n;
+          interfaces_left = met_other marks _ _ _ g.interfaces_left e;
         }
+
+    pub claiming_endpoint : kind (get_or list i 0) ≡ ENDPOINT → Claiming list marks (bytes + 7) (i + 1)
+    claiming_endpoint k =
+        let c : kind (get_or list i 0) ≢ CONFIGURATION = λ x. let z : ◌≡◌ {A = ℕ} 2 0 = sym k ∙ x in omega arith in
+        let a : kind (get_or list i 0) ≢ ALTERNATE = λ x. let z : ◌≡◌ {A = ℕ} 2 1 = sym k ∙ x in omega arith in
+        let x : kind (get_or list i 0) ≢ COMPANION = λ x. let z : ◌≡◌ {A = ℕ} 2 3 = sym k ∙ x in omega arith in
+        claiming_other 7 (omega arith) (rw (from_next list i h) (endpoint_bytes_lem _ _ c a x)) (rw (from_next list i h) (endpoint_numbers _ _ c a x))
+
+    pub claiming_companion : kind (get_or list i 0) ≡ COMPANION → Claiming list marks (bytes + 6) (i + 1)
+    claiming_companion k =
+        claiming_other 6 (omega arith) (rw (from_next list i h) (companion_bytes_lem _ _ k)) (rw (from_next list i h) (companion_numbers _ _ k))
+
+-- What is no other kind's is a companion's.
+pub companion_left : (w : ℕ) → kind w ≢ CONFIGURATION → kind w ≢ ALTERNATE → kind w ≢ ENDPOINT → kind w ≡ COMPANION
+unfolding kind
+companion_left w c a e = omega arith

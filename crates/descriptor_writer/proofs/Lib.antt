@@ -1,4 +1,5 @@
 mod Claiming
+mod Counted
 mod Exits
 mod Packets
 mod Placed

@@ -1,62 +1,28 @@
 -- What is put for a word, and the bytes of a list.
-use Prim.Native.Nat.{ℕ, suc, ◌+◌, ◌-◌, ◌*◌, ◌/◌, ◌%◌, ◌≤◌, ◌<◌}
+use Prim.Native.Nat.{ℕ, suc, ◌+◌, ◌-◌, ◌*◌, ◌≤◌, ◌<◌}
 use mathlib.Core.Path.{◌≡◌, refl, sym, ap, ◌∙◌}
-use mathlib.Core.Logic.{◌≢◌, inl, inr}
-use mathlib.Core.Bool.{true}
+use mathlib.Core.Logic.{◌≢◌}
 use mathlib.Core.List.{List, [], ◌∷◌, ◌++◌, append_assoc, append-nil}
 use native.Mathlib.Nat.{add-zero, zero-add}
 use native.Mathlib.Omega.{arith}
-use borrow.Author.Tests.{eqb-true, eqb-false}
-use lib.Dec.{eqb}
 use lib.ListN.{length, take, drop, set, length-take, drop_of_length-le, length-append, length-drop}
 use borrow.Rule.Slice.PartMut.{put_mid}
 use Rattle.std.proofs.lemmas.List.{take_all}
 use lib.Seq.{sets, sets-eq, length-sets, drop-drop}
-use Rattle.laws.proofs.Tests.{and_left, and_right}
-use Rattle.laws.proofs.Cases.{Decided, decided}
-use Rattle.descriptor.specs.Word.{CONFIGURATION, ALTERNATE, ENDPOINT, kind, configuration_value, interface_number, alternate_setting, type_number, endpoint_descriptor, word_ok}
+use Rattle.descriptor.specs.Word.{CONFIGURATION, ALTERNATE, ENDPOINT, COMPANION, kind, configuration_value, interface_number, alternate_setting, type_number, companion_burst, companion_mult, companion_bytes, endpoint_descriptor}
 use Rattle.descriptor.specs.declared.EndpointDescriptor.{EndpointDescriptor}
 use Rattle.descriptor.proofs.Laws.{fields_fit}
-use Rattle.descriptor_list.specs.Lookup.{endpoint_run}
-use Rattle.descriptor_list.specs.Valid.{words_ok}
-use Rattle.descriptor_list.proofs.Laws.{run_inside}
 use Rattle.descriptor_raw.specs.Descriptor.{size_of}
-use Rattle.descriptor_raw.specs.Claims.{up_to, endpoints, endpoints_after}
-use Rattle.descriptor_raw.specs.Write.{configuration_descriptor, interface_descriptor, endpoint_bytes, word_packets, descriptor_of, all_descriptors, joined, written_bytes}
-use Rattle.descriptor_raw.proofs.Valid.{endpoint_kind, packets_first, packets_rest}
-use Rattle.descriptor_raw.proofs.Made.{made_configuration, made_interface, made_endpoint, configuration_endpoints, interface_endpoints, endpoint_endpoints, made_length}
+use Rattle.descriptor_raw.specs.Claims.{endpoints_after}
+use Rattle.descriptor_raw.specs.Write.{configuration_descriptor, interface_descriptor, endpoint_bytes, companion_descriptor, word_packets, descriptor_of, all_descriptors, joined, written_bytes}
+use Rattle.descriptor_raw.proofs.Valid.{packets_first, packets_rest}
+use Rattle.descriptor_raw.proofs.Made.{made_configuration, made_interface, made_companion, made_endpoint, made_length}
 use Rattle.descriptor_writer.specs.declared.claims.Claims.{Claims}
 use Rattle.descriptor_writer.specs.Written.{ClaimedAs, Listed, Room}
 
--- The endpoint words of a list's front are the endpoints of its descriptors.
-pub endpoints_run : (l : List ℕ) → words_ok l ≡ true → endpoints_after (all_descriptors l) ≡ endpoint_run l
-unfolding words_ok endpoints_after up_to endpoints all_descriptors endpoint_run
-endpoints_run [] ok = refl
-endpoints_run (w ∷ l) ok =
-    go (decided (eqb (kind w) CONFIGURATION)) (decided (eqb (kind w) ALTERNATE)) (endpoints_run l (and_right (word_ok w) _ ok))
-  where
-    go : Decided (eqb (kind w) CONFIGURATION) → Decided (eqb (kind w) ALTERNATE) → endpoints_after (all_descriptors l) ≡ endpoint_run l →
-        endpoints_after (all_descriptors (w ∷ l)) ≡ endpoint_run (w ∷ l)
-    go (inl p) a e = let k : kind w ≡ CONFIGURATION = eqb-true _ _ p in configuration_endpoints w (all_descriptors l) k ∙ rw k
-    go (inr c) (inl p) e = let k : kind w ≡ ALTERNATE = eqb-true _ _ p in interface_endpoints w (all_descriptors l) k ∙ rw k
-    go (inr c) (inr a) e =
-        let c' : kind w ≢ CONFIGURATION = eqb-false _ _ c in
-        let a' : kind w ≢ ALTERNATE = eqb-false _ _ a in
-        let k : kind w ≡ ENDPOINT = endpoint_kind w (and_left _ (words_ok l) ok) c' a' in
-        endpoint_endpoints w (all_descriptors l) c' a' ∙ rw (k, e)
-
 -- what follows a word of a list that may be written
-module _ (w : ℕ) (after : List ℕ) (r : Listed (w ∷ after)) where
-  pub first_ok : word_ok w ≡ true
-  unfolding words_ok
-  first_ok = and_left _ (words_ok after) r.words
-
-  rest_ok : words_ok after ≡ true
-  unfolding words_ok
-  rest_ok = and_right (word_ok w) _ r.words
-
-  rest_listed : Listed after
-  rest_listed = record { short = omega (arith, r.short); words = rest_ok; packets = packets_rest w after r.packets }
+rest_listed : (w : ℕ) (after : List ℕ) → Listed (w ∷ after) → Listed after
+rest_listed w after r = record { short = omega (arith, r.short); packets = packets_rest w after r.packets }
 
 -- Bytes of a descriptor put to the front of others.
 abbrev pub Put : ℕ → List ℕ → List ℕ → List ℕ → ℕ → Type 0
@@ -86,41 +52,48 @@ module _ (w : ℕ) (after : List ℕ) (room : ℕ) (r : Room w after room) (byte
 
   pub put_interface :
       kind w ≡ ALTERNATE →
-      (interface alternate run : ℕ) →
-      run ≡ endpoint_run after →
+      (interface alternate endpoints : ℕ) →
+      endpoints ≡ endpoints_after (all_descriptors after) →
       interface ≡ interface_number w →
       alternate ≡ alternate_setting w →
-      d ≡ interface_descriptor interface alternate run →
+      d ≡ interface_descriptor interface alternate endpoints →
       Put w after bytes (d ++ drop 9 bytes) 9
   unfolding interface_descriptor size_of
-  put_interface e interface alternate run n v u s =
-      let f : endpoints_after (all_descriptors after) ≡ run = endpoints_run after (rest_ok w after r.listed) ∙ sym n in
-      let t : descriptor_of w (all_descriptors after) ≡ d = made_interface _ _ e ∙ rw (f, ← v, ← u) (sym s) in
+  put_interface e interface alternate endpoints f v u s =
+      let t : descriptor_of w (all_descriptors after) ≡ d = made_interface _ _ e ∙ rw (← f, ← v, ← u) (sym s) in
       let n : length d ≡ 9 = rw s in
       (rw (t, n), rw t (front bytes d 9 n (omega (arith, r.space))))
 
   pub put_endpoint :
       kind w ≡ ENDPOINT →
-      (e : EndpointDescriptor) →
-      e ≡ endpoint_descriptor w →
-      d ≡ endpoint_bytes e.address (w / 0x80_0000 % 4) (e.max_packet_size + 2048 * (e.packets_per_microframe - 1)) e.interval →
+      d ≡ endpoint_bytes (endpoint_descriptor w).address (type_number w) (word_packets w) (endpoint_descriptor w).interval →
       Put w after bytes (d ++ drop 7 bytes) 7
-  unfolding endpoint_bytes word_packets type_number size_of
-  put_endpoint k e m s =
+  unfolding endpoint_bytes size_of
+  put_endpoint k s =
       let c : kind w ≢ CONFIGURATION = λ x. let z : ◌≡◌ {A = ℕ} 2 0 = sym k ∙ x in omega arith in
       let a : kind w ≢ ALTERNATE = λ x. let z : ◌≡◌ {A = ℕ} 2 1 = sym k ∙ x in omega arith in
-      let t : descriptor_of w (all_descriptors after) ≡ d = made_endpoint _ _ c a ∙ rw (← m) (sym s) in
+      let x : kind w ≢ COMPANION = λ x. let z : ◌≡◌ {A = ℕ} 2 3 = sym k ∙ x in omega arith in
+      let t : descriptor_of w (all_descriptors after) ≡ d = made_endpoint _ _ c a x ∙ sym s in
       let n : length d ≡ 7 = rw s in
       (rw (t, n), rw t (front bytes d 7 n (omega (arith, r.space))))
 
--- a run of endpoint words after a word of a list of 256 is a byte
-pub run_small : (w : ℕ) (after : List ℕ) (room run : ℕ) → Room w after room → run ≡ endpoint_run after → run < 256
-run_small w after room run r e = omega (arith, run_inside after, r.listed.short)
+  pub put_companion :
+      kind w ≡ COMPANION →
+      d ≡ companion_descriptor (companion_burst w) (companion_mult w) (companion_bytes w) →
+      Put w after bytes (d ++ drop 6 bytes) 6
+  unfolding companion_descriptor size_of
+  put_companion k s =
+      let t : descriptor_of w (all_descriptors after) ≡ d = made_companion _ _ k ∙ sym s in
+      let n : length d ≡ 6 = rw s in
+      (rw (t, n), rw t (front bytes d 6 n (omega (arith, r.space))))
+
+-- a count of endpoints after a word of a list of 256 is a byte
+pub endpoints_small : (w : ℕ) (after : List ℕ) (room n : ℕ) → Room w after room → n ≤ length after → n < 256
+endpoints_small w after room n r e = omega (arith, r.listed.short)
 
 -- and its packets are given
-pub packets_some : (w : ℕ) (after : List ℕ) (room : ℕ) → Room w after room → kind w ≡ ENDPOINT → (e : EndpointDescriptor) →
-    e ≡ endpoint_descriptor w → 1 ≤ e.packets_per_microframe
-packets_some w after room r k e m = rw m (packets_first w after r.listed.packets k)
+pub packets_some : (w : ℕ) (after : List ℕ) (room : ℕ) → Room w after room → kind w ≡ ENDPOINT → 1 ≤ (endpoint_descriptor w).packets_per_microframe
+packets_some w after room r k = packets_first w after r.listed.packets k
 
 -- stores of two lists one after the other
 sets_append : (l : List ℕ) (at : ℕ) (p q : List ℕ) → sets l at (p ++ q) ≡ sets (sets l at p) (at + length p) q

@@ -1,7 +1,6 @@
 -- What the parts of the writer take and give.
 use Rattle.std.specs.Prelude.{ℕ, ◌*◌, ◌≤◌, ◌≡◌, Bool, true, not, ◌&&◌, List, ◌∷◌, eqb, length}
 use Rattle.descriptor.specs.Word.{ENDPOINT, kind, endpoint_descriptor}
-use Rattle.descriptor_list.specs.Valid.{words_ok}
 use Rattle.descriptor_raw.specs.Claims.{bytes_after, interfaces_after}
 use Rattle.descriptor_raw.specs.Write.{all_descriptors, packets_given}
 use Rattle.descriptor_writer.specs.declared.claims.Claims.{Claims}
@@ -20,7 +19,6 @@ pub record ClaimedAs (after : List ℕ) (claims : Claims) : Type 0 where
 -- A list that may be written.
 pub record Listed (list : List ℕ) : Type 0 where
   pub short : length list ≤ 256
-  pub words : words_ok list ≡ true
   pub packets : packets_given list ≡ true
 
 -- A word and those after it, and room for its descriptor.

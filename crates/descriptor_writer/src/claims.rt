@@ -1,5 +1,7 @@
 // What a configuration says of the words after it.
-ghost use Rattle.std.specs.Prelude.{◌≤◌, length};
+ghost use Rattle.std.specs.Prelude.{◌≤◌, ◌≡◌, length};
+ghost use Rattle.descriptor_raw.specs.Claims.{endpoints_after};
+ghost use Rattle.descriptor_raw.specs.Write.{all_descriptors};
 ghost use Rattle.descriptor_writer.specs.Written.{ClaimedAs};
 
 use descriptor::WordKind;
@@ -19,22 +21,36 @@ pub fn claims_after(after: &[u32]) -> Claims
     let mut marks = Marks::NONE;
     let mut bytes = 0;
     for w in after {
-        let kind = descriptor::word_kind(*w);
-        if kind == Some(WordKind::Configuration) {
-            return Claims {
-                bytes,
-                interfaces: marks.count,
-            };
-        }
-        if kind == Some(WordKind::Alternate) {
-            bytes += size::INTERFACE;
-            marks.mark(descriptor::interface_number(*w));
-        } else {
-            bytes += size::ENDPOINT;
+        match descriptor::word_kind(*w as u64) {
+            Some(WordKind::Configuration) => {
+                return Claims {
+                    bytes,
+                    interfaces: marks.count,
+                };
+            }
+            Some(WordKind::Alternate) => {
+                bytes += size::INTERFACE;
+                marks.mark(descriptor::interface_number(*w as u64));
+            }
+            Some(WordKind::Endpoint) => bytes += size::ENDPOINT,
+            // a companion
+            None => bytes += size::COMPANION,
         }
     }
     Claims {
         bytes,
         interfaces: marks.count,
     }
+}
+
+// How many endpoint words there are before the next alternate or configuration word.
+pub fn count_endpoints(after: &[u32]) -> usize
+    ensures { (result ≡ endpoints_after (all_descriptors after.now)) × (result ≤ length after.now) }
+{
+    after
+        .iter()
+        .take_while(|w| descriptor::word_kind(**w as u64) != Some(WordKind::Configuration)
+            && descriptor::word_kind(**w as u64) != Some(WordKind::Alternate))
+        .filter(|w| descriptor::word_kind(**w as u64) == Some(WordKind::Endpoint))
+        .count()
 }

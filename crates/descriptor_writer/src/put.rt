@@ -4,19 +4,17 @@ ghost use Rattle.std.proofs.lemmas.List.Edits.{sets};
 ghost use Rattle.descriptor_raw.specs.Write.{descriptor_of, all_descriptors, written_bytes};
 ghost use Rattle.descriptor_writer.specs.Written.{Listed, Room};
 
-use super::claims::claims_after;
-use super::made::{configuration_descriptor, endpoint_bytes, interface_descriptor};
+use super::claims::{claims_after, count_endpoints};
+use super::made::{companion_of, configuration_descriptor, endpoint_of, interface_descriptor};
 use descriptor::WordKind;
-use descriptor_raw::{place, size};
-
-// The packets per microframe in the packet size field.
-const PACKETS_LSB: u16 = place::PACKETS_LSB as u16;
+use descriptor_raw::size;
 
 // Puts the descriptor of a word to the front of bytes. Says how many bytes it has.
 fn put_descriptor(w: u32, after: &[u32], bytes: &mut [u8]) -> usize
     requires { Room w after.now (length bytes.old) }
     ensures { (result ≡ length (descriptor_of w (all_descriptors after.now))) × (bytes.new ≡ sets bytes.old 0 (descriptor_of w (all_descriptors after.now))) }
 {
+    let w = w as u64;
     match descriptor::word_kind(w) {
         Some(WordKind::Configuration) => {
             let c = claims_after(after);
@@ -26,23 +24,21 @@ fn put_descriptor(w: u32, after: &[u32], bytes: &mut [u8]) -> usize
             size::CONFIGURATION
         }
         Some(WordKind::Alternate) => {
-            let endpoints = descriptor_list::endpoint_run(after, 0);
             let interface = descriptor::interface_number(w);
             let alternate = descriptor::alternate_setting(w);
-            let d = interface_descriptor(interface, alternate, endpoints);
+            let d = interface_descriptor(interface, alternate, count_endpoints(after));
             bytes[..size::INTERFACE].copy_from_slice(&d);
             size::INTERFACE
         }
         Some(WordKind::Endpoint) => {
-            let e = descriptor::endpoint_descriptor(w);
-            let kind = (w / descriptor::TYPE_LSB % 4) as u8;
-            let packets = e.packets_per_microframe as u16;
-            let packet = e.max_packet_size + PACKETS_LSB * (packets - 1);
-            let d = endpoint_bytes(e.address, kind, packet, e.interval);
-            bytes[..size::ENDPOINT].copy_from_slice(&d);
+            bytes[..size::ENDPOINT].copy_from_slice(&endpoint_of(w));
             size::ENDPOINT
         }
-        None => unreachable!(),
+        // a companion
+        None => {
+            bytes[..size::COMPANION].copy_from_slice(&companion_of(w));
+            size::COMPANION
+        }
     }
 }
 

@@ -12,6 +12,8 @@ use lib.ListN.{length, take}
 use Rattle.laws.proofs.Cases.{or_cases}
 use Rattle.def.specs.Speed.{speed_known}
 use Rattle.descriptor_list.specs.Valid.{valid_list}
+use Rattle.descriptor_list.specs.Companions.{valid_at, Joinable}
+use Rattle.descriptor_list.proofs.Companions.{valid_promise, joinable}
 use Rattle.record_endpoint.specs.Endpoint.{addresses, addresses_fit}
 use Rattle.record_endpoint.specs.EndpointMap.{endpoint_map_of}
 use Rattle.record_endpoint.proofs.Clean.{front_of}
@@ -21,7 +23,7 @@ use Rattle.record_settings.specs.Match.{endpoints_match}
 use Rattle.record_checks.proofs.Together.{SoundRings, rings_told}
 use Rattle.record_checks.proofs.Stored.{SoundStore, store_told}
 use Rattle.device.specs.declared.record.Device.{Device}
-use Rattle.device.specs.Device.{list_of, endpoint_map_in, held_of, quarantined_of, given_of}
+use Rattle.device.specs.Device.{words_of, list_of, endpoint_map_in, held_of, quarantined_of, given_of}
 use Rattle.device.specs.Sound.{slot_sound, counts_fit, lists_sound, live_rings, rings_sound, store_sound, sound}
 
 pub record PlaceFacts (d : Device) : Type 0 where
@@ -43,6 +45,7 @@ pub record CountFacts (d : Device) : Type 0 where
 pub record SoundFacts (d : Device) : Type 0 where
   pub place : PlaceFacts d
   pub counts : CountFacts d
+  pub valid : valid_at d.port_speed (words_of d) ≡ true
   pub list : valid_list (list_of d) ≡ true
   pub settings : settings_sound (list_of d) (held_of d) ≡ true
   pub addresses_fit_lem : addresses_fit (addresses (take d.ep_count d.eps)) ≡ true
@@ -110,9 +113,9 @@ store_facts d e = store_told (given_of d) (live_rings d) (quarantined_of d) e
 
 -- what a sound record says
 pub sound_facts : (d : Device) → sound d ≡ true → SoundFacts d
-unfolding sound lists_sound
+unfolding sound lists_sound list_of
 sound_facts d e =
-    let list = valid_list (list_of d) in
+    let list = valid_at d.port_speed (words_of d) in
     let settings = settings_sound (list_of d) (held_of d) in
     let fit = addresses_fit (addresses (take d.ep_count d.eps)) in
     let match = endpoints_match (list_of d) (held_of d) (endpoint_map_in d) in
@@ -127,7 +130,8 @@ sound_facts d e =
     record {
       place = place_facts d e1.0;
       counts = count_facts d e2.0;
-      list = e4.0;
+      valid = e4.0;
+      list = valid_promise d.port_speed (words_of d) e4.0;
       settings = e5.0;
       addresses_fit_lem = e6.0;
       endpoints = e6.1;
@@ -138,7 +142,7 @@ sound_facts d e =
 -- The code's test of the lists, on the endpoints in use alone, says whether the record is sound where its place and counts are.
 module _ (d : Device) (room : length d.eps ≡ 30) (slot : slot_sound d ≡ true) (counts : counts_fit d ≡ true)
     (hs : List Held) (held : hs ≡ held_of d) (lists : Bool)
-    (tested : lists ≡ sound_lists (list_of d) hs (addresses (take d.ep_count d.eps))
+    (tested : lists ≡ sound_lists d.port_speed (words_of d) hs (addresses (take d.ep_count d.eps))
     (endpoint_map_of (length (take d.ep_count d.eps)) (take d.ep_count d.eps) (take d.ep_count d.ep_interfaces))) where
   lists_as : lists ≡ lists_sound d
   unfolding lists_sound endpoint_map_in
@@ -152,6 +156,10 @@ module _ (d : Device) (room : length d.eps ≡ 30) (slot : slot_sound d ≡ true
   pub unsound_lists : lists ≡ false → lists ≡ sound d
   unfolding sound
   unsound_lists e = e ∙ sym (rw (slot, counts, ← lists_as, e))
+
+-- what the code asks of its list where it looks words up
+pub list_joinable : (d : Device) → sound d ≡ true → Joinable (words_of d)
+list_joinable d e = joinable d.port_speed (words_of d) (sound_facts d e).valid
 
 -- a usable sound record has no quarantined ring
 pub none_quarantined : (d : Device) → d.usable ≡ true → sound d ≡ true → quarantined_of d ≡ []

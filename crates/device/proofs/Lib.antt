@@ -1,4 +1,5 @@
 pub mod AskLaws
+pub mod Before
 pub mod ClaimLaws
 pub mod Compared
 pub mod Contexts

@@ -13,7 +13,7 @@ use Rattle.laws.proofs.Tests.{and_left, and-true, not_both}
 use Rattle.laws.proofs.Distinct.{elem_none, elem_here, elem_cases}
 use Rattle.answer.specs.declared.Answer.{Answer}
 use Rattle.answer.specs.Answer.{is_broken, is_cut, is_lost}
-use Rattle.descriptor_list.specs.Valid.{valid_list}
+use Rattle.descriptor_list.specs.Companions.{valid_at}
 use Rattle.record_ring.specs.Rings.{ring_ok, entered}
 use Rattle.record_ring.proofs.Entered.{entered_none, elem_left, elem_right, elem_either}
 use Rattle.record_endpoint.specs.declared.endpoint_map.EndpointMap.{EndpointMap}
@@ -29,13 +29,13 @@ use Rattle.record_checks.proofs.Laws.{Apart, placed_given, control_ok, clean_in,
 use Rattle.record_checks.proofs.Together.{SoundRings, rings_sound as rings_sound_told}
 use Rattle.record_checks.proofs.Stored.{SoundStore, store_sound as store_sound_told}
 use Rattle.device.specs.declared.record.Device.{Device}
-use Rattle.device.specs.Device.{list_of, endpoint_map_in, held_of, quarantined_of, given_of, Same, keep, put, lost, valued, endpoint_arrays, setting_arrays, ring_array, with_endpoints, with_held, with_configuration, with_quarantined, unusable}
+use Rattle.device.specs.Device.{words_of, list_of, endpoint_map_in, held_of, quarantined_of, given_of, Same, keep, put, lost, valued, endpoint_arrays, setting_arrays, ring_array, with_endpoints, with_held, with_configuration, with_quarantined, unusable}
 use Rattle.device.specs.Sound.{slot_sound, counts_fit, lists_sound, live_rings, rings_sound, store_sound, sound}
 use Rattle.device.specs.Left.{marked}
 use Rattle.device.specs.Claim.{quarantines}
 use Rattle.device.proofs.Counts.{sound_counts_lem}
 use Rattle.device.proofs.Facts.{SoundFacts, sound_facts, none_quarantined}
-use Rattle.device.proofs.Updates.{same_self, same_then, rebuilt_same, live_of, with_endpoints_map, with_endpoints_live, with_held_held, with_quarantined_quarantined}
+use Rattle.device.proofs.Updates.{same_self, same_then, same_list, rebuilt_same, live_of, with_endpoints_map, with_endpoints_live, with_held_held, with_quarantined_quarantined}
 
 -- A sound record made of d: with d's own fields, these held settings and these endpoints; as up as it was, and usable where it is not lost.
 pub record Made (d e : Device) (hs : List Held) (c : EndpointMap) (lost : Bool) : Type 0 where
@@ -53,10 +53,10 @@ made_usable m l = m.usable ∙ rw l
 -- What makes a record sound.
 
 pub sound_if :
-    (d : Device) → slot_sound d ≡ true → counts_fit d ≡ true → valid_list (list_of d) ≡ true → settings_sound (list_of d) (held_of d) ≡ true →
+    (d : Device) → slot_sound d ≡ true → counts_fit d ≡ true → valid_at d.port_speed (words_of d) ≡ true → settings_sound (list_of d) (held_of d) ≡ true →
     addresses_fit (addresses (live_of d)) ≡ true → endpoints_match (list_of d) (held_of d) (endpoint_map_in d) ≡ true → rings_sound d ≡ true →
     store_sound d ≡ true → sound d ≡ true
-unfolding sound lists_sound live_of
+unfolding sound lists_sound list_of live_of
 sound_if d p q r s t u v w = rw (p, q, r, s, t, u, v, w)
 
 rings_if : (d : Device) → SoundRings d.usable (live_rings d) (quarantined_of d) → rings_sound d ≡ true
@@ -77,10 +77,10 @@ sound_place d s = and_left (slot_sound d) _ s
 
 -- The mark keeps a record sound.
 pub unusable_sound : (d : Device) → sound d ≡ true → sound (unusable d) ≡ true
-unfolding slot_sound counts_fit list_of held_of endpoint_map_in live_of live_rings quarantined_of given_of unusable
+unfolding slot_sound counts_fit words_of list_of held_of endpoint_map_in live_of live_rings quarantined_of given_of unusable
 unusable_sound d s =
     let f : SoundFacts d = sound_facts d s in
-    sound_if (unusable d) (sound_place d s) (sound_counts_lem d s) f.list f.settings f.addresses_fit_lem f.endpoints
+    sound_if (unusable d) (sound_place d s) (sound_counts_lem d s) f.valid f.settings f.addresses_fit_lem f.endpoints
     (rings_if (unusable d)
     (record {
       few = f.rings.few;
@@ -133,8 +133,8 @@ module _ (d e : Device) (hs : List Held) (c : EndpointMap) (s : sound d ≡ true
   pub base_sound : sound e ≡ true
   base_sound =
       let f : SoundFacts d = sound_facts d s in
-      sound_if e (same_place d e b.same ∙ sound_place d s) counts_fit_lem (rw b.same.list f.list)
-      (rw (b.same.list, b.held) settings) (rw b.live (endpoints_fit c)) (rw (b.same.list, b.held, b.endpoints) match)
+      sound_if e (same_place d e b.same ∙ sound_place d s) counts_fit_lem (rw (b.same.list, b.same.speed) f.valid)
+      (rw (same_list d e b.same, b.held) settings) (rw b.live (endpoints_fit c)) (rw (same_list d e b.same, b.held, b.endpoints) match)
       (rings_if e (rw live_rings_lem b.rings)) (store_if e (rw (live_rings_lem, b.same.given) b.store))
 
 -- A record with the mark that an answer leaves.

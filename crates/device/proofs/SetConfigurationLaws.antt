@@ -50,11 +50,11 @@ pub set_left :
     (d : Device) (value : ℕ) (x : Check) (held : Settings) (c n : EndpointMap) (old : Queues) (o ctx routes log ctx' routes' log' : List ℕ) (e : CourseEnd)
     (y : Device) (r : Called) →
     x ≡ record_check d (length ctx) (length routes) (length log) Pass → x ≡ Pass → held_by held ≡ held_of d → c ≡ endpoint_map_in d → QueuesAs old c.rings →
-    arrays.course_leaves e ctx' routes' log' ≡ played o 0 (set_course (settings_of (args_of d value held old) (take d.list_len d.list)) ctx routes) log →
+    arrays.course_leaves e ctx' routes' log' ≡ played o 0 (set_course (settings_of (args_of d value held old) (list_of d)) ctx routes) log →
     y ≡ cond e.moved (cond (is_accepted e.answer) (with_configuration value d) d) d → n ≡ no_endpoints →
     r ≡ handed e (cond e.moved (with_held [] (with_endpoints n y)) (with_endpoints (with_active Any e.active c) y)) →
     leaves r ctx' routes' log' ≡ set_configuration d ctx routes log o value
-unfolding set_configuration on_check list_of set_record bare ended
+unfolding set_configuration on_check set_record bare ended
 set_left d value x held c n old o ctx routes log ctx' routes' log' e y r k p w h s run ey en er =
     rw (er, then_configured e.moved e.answer d y [] n (with_active Any e.active c) value ey, en, h)
     (sym (rw (← k, p, ← settings_of_lem d value held c old w h s, ← run)))

@@ -1,6 +1,6 @@
 -- What an update makes of what a record says.
 use Prim.Native.Nat.{ℕ, ◌-◌}
-use mathlib.Core.Path.{◌≡◌, refl, ◌∙◌}
+use mathlib.Core.Path.{◌≡◌, refl, ap, ◌∙◌}
 use mathlib.Core.List.{List}
 use lib.ListN.{length, take, replicate}
 use lib.Seq.{take-append_seam}
@@ -14,8 +14,9 @@ use Rattle.record_endpoint.specs.EndpointMap.{endpoints_of}
 use Rattle.record_endpoint.proofs.Clean.{CleanMap, map_back}
 use Rattle.record_settings.specs.Held.{Held}
 use Rattle.record_settings.proofs.Laws.{held_padded}
+use Rattle.descriptor_list.specs.Companions.{joined}
 use Rattle.device.specs.declared.record.Device.{Device}
-use Rattle.device.specs.Device.{list_of, endpoint_map_in, held_of, quarantined_of, given_of, Same, Status, HeldArrays, keep, rebuilt, with_endpoints, with_held, with_quarantined}
+use Rattle.device.specs.Device.{words_of, list_of, endpoint_map_in, held_of, quarantined_of, given_of, Same, Status, HeldArrays, keep, rebuilt, with_endpoints, with_held, with_quarantined}
 
 -- a record has its own
 pub same_self : (d : Device) → Same d d
@@ -37,11 +38,16 @@ same_then d e f s t =
       given_count = t.given_count ∙ s.given_count;
     }
 
+-- and the list that lookup works on
+pub same_list : (d e : Device) → Same d e → list_of e ≡ list_of d
+unfolding list_of
+same_list d e s = ap joined s.list
+
 -- Whatever becomes of the other parts: the frame of every update. (What a part says that is kept, computes.)
 pub rebuilt_same :
     (status : Status → Status) (endpoints : Endpoints → Endpoints) (settings : HeldArrays → HeldArrays)
     (quarantine : List ℕ × ℕ → List ℕ × ℕ) (d : Device) → Same d (rebuilt keep status endpoints settings quarantine d)
-unfolding rebuilt list_of given_of
+unfolding rebuilt words_of given_of
 rebuilt_same status endpoints settings quarantine d =
     record { slot = refl; max_slots = refl; spacing = refl; speed = refl; list = refl; list_length = refl; control = refl; given = refl; given_count = refl }
 

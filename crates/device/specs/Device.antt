@@ -1,6 +1,7 @@
 -- What a record says, and what a call makes of it.
 use Rattle.std.specs.Prelude.{ℕ, ◌≡◌, Bool, true, false, List, length, take, replicate}
 use Rattle.descriptor_list.specs.Valid.{LIST-ROOM}
+use Rattle.descriptor_list.specs.Companions.{joined}
 use Rattle.record_ring.specs.Rings.{RING-ROOM, entered}
 use Rattle.record_ring.specs.Store.{GIVEN-ROOM, free_rings}
 use Rattle.record_endpoint.specs.Order.{PLACES}
@@ -13,9 +14,13 @@ use Rattle.record_endpoint.specs.Endpoint.{blank, padded, rings_of}
 use Rattle.record_settings.specs.Held.{HELD-ROOM, Held, held_in, interfaces_of, alternates_of}
 use Rattle.device.specs.declared.record.Device.{Device}
 
--- The descriptor list, the endpoints by place, the held settings, the quarantined rings and the given ones of a record.
+-- The words of a record's descriptor list.
+unfoldable pub words_of : Device → List ℕ
+words_of d = take d.list_len d.list
+
+-- The same with each endpoint word and its companion as one; the endpoints by place, the held settings, the quarantined rings and the given ones.
 unfoldable pub list_of : Device → List ℕ
-list_of d = take d.list_len d.list
+list_of d = joined (words_of d)
 
 unfoldable pub endpoint_map_in : Device → EndpointMap
 endpoint_map_in d = endpoint_map_of d.ep_count d.eps d.ep_interfaces
@@ -51,7 +56,7 @@ pub record Same (d e : Device) : Type 0 where
   pub max_slots : e.max_slots ≡ d.max_slots
   pub spacing : e.spacing ≡ d.spacing
   pub speed : e.port_speed ≡ d.port_speed
-  pub list : list_of e ≡ list_of d
+  pub list : words_of e ≡ words_of d
   pub list_length : e.list_len ≡ d.list_len
   pub control : e.control ≡ d.control
   pub given : given_of e ≡ given_of d

@@ -1,4 +1,5 @@
 pub mod Ask
+pub mod Before
 pub mod Calls
 pub mod Check
 pub mod Claim

@@ -5,7 +5,7 @@ use Rattle.record_checks.specs.Rings.{sound_rings}
 use Rattle.record_checks.specs.Store.{sound_store}
 use Rattle.record_checks.specs.Sound.{sound_slot, sound_counts, sound_lists}
 use Rattle.device.specs.declared.record.Device.{Device}
-use Rattle.device.specs.Device.{list_of, endpoint_map_in, held_of, quarantined_of, given_of}
+use Rattle.device.specs.Device.{words_of, endpoint_map_in, held_of, quarantined_of, given_of}
 
 unfoldable pub slot_sound : Device → Bool
 slot_sound d = sound_slot d.slot.0 d.max_slots d.spacing d.port_speed
@@ -15,7 +15,7 @@ unfoldable pub counts_fit : Device → Bool
 counts_fit d = sound_counts d.list_len d.ep_count d.held_count d.quarantined_count d.given_count
 
 unfoldable pub lists_sound : Device → Bool
-lists_sound d = sound_lists (list_of d) (held_of d) (addresses (take d.ep_count d.eps)) (endpoint_map_in d)
+lists_sound d = sound_lists d.port_speed (words_of d) (held_of d) (addresses (take d.ep_count d.eps)) (endpoint_map_in d)
 
 -- The endpoints' rings and control's.
 unfoldable pub live_rings : Device → List ℕ

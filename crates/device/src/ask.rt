@@ -16,6 +16,7 @@ use descriptor_list::EndpointWords;
 use record_checks::Lengths;
 use record_endpoint::PLACES;
 use record_ring::GivenRings;
+use record_settings::SettingWords;
 
 // What an ask hands back: its answer and, of an accepted one, the flags of the endpoints that a claim would drop and add, and the rings
 // that it would draw, the first `count` of an array. Of a refused one all else is 0. No Result: the exported ask, the one caller, gives
@@ -103,16 +104,17 @@ fn show_claim(d: Device, interface: u8, alternate: u8, found: EndpointWords) -> 
     ensures { PreviewAs result (answers.Accepted, ask_of d interface alternate) }
 {
     let args = claim::claim_args(d, interface, alternate);
-    let words = d.list();
-    let old_words = claim::old_words(words, args);
-    let new_words = found.in_list(words);
+    let list = d.list();
+    let old = claim::old_words(list, args);
+    let new = SettingWords::found_in(list, found);
+    let new_words = new.words();
     let c = endpoint_map::endpoint_map_in(d);
     let given = GivenRings { rings: d.given() };
     Preview {
         answer: Answer::Accepted,
         interface,
         alternate,
-        drops: context_block::word_flags(old_words),
+        drops: context_block::word_flags(old.words()),
         adds: context_block::word_flags(new_words),
         rings: record_checks::drawn_in_order(given, &c.rings, d.control, new_words),
         count: new_words.len(),

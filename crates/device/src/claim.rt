@@ -3,10 +3,12 @@ ghost use Rattle.std.specs.Prelude.{◌≡◌, ◌≤◌, ℕ, List, [], Some, O
 ghost use Rattle.std.specs.Option.{option_map_or};
 ghost use Rattle.answer.specs.Check.{Pass, check_of, CheckedAs};
 ghost use Rattle.descriptor_list.specs.declared.EndpointWords as words;
+ghost use Rattle.descriptor_list.specs.Companions.{joined, Joinable};
 ghost use Rattle.descriptor_list.specs.Lookup.{find_endpoints};
 ghost use Rattle.record_ring.specs.Rings.{entered};
 ghost use Rattle.record_endpoint.specs.EndpointMap.{QueuesAs};
 ghost use Rattle.record_settings.specs.Held.{HELD-ROOM, setting_words, with_setting};
+ghost use Rattle.record_settings.specs.Words.{words_in};
 ghost use Rattle.course_steps.specs.Arrays as arrays;
 ghost use Rattle.device.specs.Device.{list_of, endpoint_map_in, held_of, quarantined_of};
 ghost use Rattle.device.specs.Left.{leaves, refused, ended};
@@ -23,6 +25,7 @@ use descriptor_list::EndpointWords;
 use record_checks::Lengths;
 use record_endpoint::{EndpointMap, Owner, PLACES, Queues};
 use record_ring::GivenRings;
+use record_settings::SettingWords;
 
 impl Device {
     // The old endpoints are stopped and dropped, those of the setting added with rings drawn from the free ones, and the device switched.
@@ -91,9 +94,10 @@ pub fn run_claim(
         Err(a) => return update::refused(d, a),
     };
     let args = claim_args(d, interface, alternate);
-    let words = d.list();
-    let old_words = old_words(words, args);
-    let new_words = found.in_list(words);
+    let list = d.list();
+    let old = old_words(list, args);
+    let new = SettingWords::found_in(list, found);
+    let new_words = new.words();
     let c = endpoint_map::endpoint_map_in(d);
     let given = GivenRings { rings: d.given() };
     let pending = record_checks::drawn_rings(given, &c.rings, d.control, new_words);
@@ -104,7 +108,7 @@ pub fn run_claim(
         pending: record_endpoint::queues_of(pending),
         all: record_endpoint::queues_of(c.rings),
     };
-    let e = course_claim::claim_interface(ctx, routes, log, outcomes, plan, old_words, new_words);
+    let e = course_claim::claim_interface(ctx, routes, log, outcomes, plan, old.words(), new_words);
     claim_end(d, c, interface, alternate, pending, plan.pending, e)
 }
 
@@ -123,12 +127,13 @@ pub fn claim_args(d: Device, interface: u8, alternate: u8) -> ClaimArgs
 }
 
 // The endpoint words of the setting that the interface holds.
-pub fn old_words<'a>(list: &'a [u32], a: ClaimArgs) -> &'a [u32]
-    ensures { result.now ≡ option_map_or (setting_words list.now a.interface) a.held_alternate [] }
+pub fn old_words(list: &[u32], a: ClaimArgs) -> SettingWords
+    requires { Joinable list.now }
+    ensures { words_in result ≡ option_map_or (setting_words (joined list.now) a.interface) a.held_alternate [] }
 {
     match a.held_alternate {
-        Some(alternate) => record_settings::setting_words(list, a.interface, alternate),
-        None => &list[..0],
+        Some(alternate) => SettingWords::of_setting(list, a.interface, alternate),
+        None => SettingWords::NONE,
     }
 }
 

@@ -5,17 +5,17 @@ ghost use Rattle.descriptor_list.specs.Valid.{LIST-ROOM};
 ghost use Rattle.record_ring.specs.Rings.{RING-ROOM};
 ghost use Rattle.record_ring.specs.Store.{GIVEN-ROOM};
 ghost use Rattle.record_settings.specs.Held.{HELD-ROOM, held_by};
-ghost use Rattle.device.specs.Device.{list_of, held_of, quarantined_of, given_of};
+ghost use Rattle.device.specs.Device.{words_of, held_of, quarantined_of, given_of};
 
 use super::record::Device;
 use record_settings::Settings;
 
 impl Device {
-    // the descriptor list
-    #[tactic(auto, unfolding(crate::specs::Device::list_of))]
+    // the words of the descriptor list
+    #[tactic(auto, unfolding(crate::specs::Device::words_of))]
     pub(crate) fn list(&self) -> &[u32]
         requires { self.now.list_len ≤ LIST-ROOM }
-        ensures { result.now ≡ list_of self.now }
+        ensures { result.now ≡ words_of self.now }
     {
         &self.list[..self.list_len]
     }

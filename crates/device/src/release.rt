@@ -13,6 +13,7 @@ use answer::Answer;
 use course_release::ReleaseArgs;
 use record_checks::Lengths;
 use record_endpoint::{Owner, PLACES};
+use record_settings::SettingWords;
 
 impl Device {
     // The interface's endpoints are stopped and dropped, its setting is no longer held.
@@ -47,8 +48,15 @@ impl Device {
             old: record_endpoint::queues_of(own),
             all: record_endpoint::queues_of(c.rings),
         };
-        let setting = record_settings::setting_words(self.list(), interface, alternate);
-        let e = course_release::release_interface(ctx, routes, log, outcomes, args, setting);
+        let setting = SettingWords::of_setting(self.list(), interface, alternate);
+        let e = course_release::release_interface(
+            ctx,
+            routes,
+            log,
+            outcomes,
+            args,
+            setting.words(),
+        );
         let held = self.settings().without_setting(interface);
         let others = record_endpoint::claimed_endpoints(interface, [0u64; PLACES], c);
         update::at_end(self, c, e, Owner::Interface(interface), others, held)

@@ -24,7 +24,7 @@ impl Device {
         let settings = self.settings();
         let eps = &self.eps[..self.ep_count];
         let owners = &self.ep_interfaces[..self.ep_count];
-        record_checks::lists_sound(self.list(), &settings, eps, owners)
+        record_checks::lists_sound(self.list(), self.port_speed, &settings, eps, owners)
             && record_checks::rings_sound(
                 self.usable,
                 eps,

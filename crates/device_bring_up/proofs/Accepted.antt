@@ -9,7 +9,8 @@ use lib.Dec.{eqb}
 use lib.ListN.{length, take, replicate}
 use lib.Seq.{take-append_seam}
 use Rattle.laws.specs.Distinct.{elem, distinct}
-use Rattle.descriptor_list.proofs.Laws.{valid_length}
+use Rattle.descriptor_list.specs.Companions.{valid_at}
+use Rattle.descriptor_list.proofs.Companions.{listed}
 use Rattle.laws.proofs.Tests.{and_left}
 use Rattle.laws.proofs.Distinct.{elem_none, elem_cases}
 use Rattle.record_ring.specs.Rings.{ring_ok, rings_ok, not_among}
@@ -26,7 +27,7 @@ use Rattle.record_settings.specs.Match.{endpoints_match}
 use Rattle.record_settings.proofs.Laws.{match_none}
 use Rattle.record_checks.specs.Rings.{each_once}
 use Rattle.device.specs.declared.record.Device.{Device}
-use Rattle.device.specs.Device.{list_of, endpoint_map_in, held_of, quarantined_of, given_of}
+use Rattle.device.specs.Device.{words_of, list_of, endpoint_map_in, held_of, quarantined_of, given_of}
 use Rattle.device.specs.Sound.{slot_sound, counts_fit, live_rings, rings_sound, store_sound, sound}
 use Rattle.device.proofs.Made.{sound_if}
 use Rattle.device.proofs.Updates.{live_of}
@@ -62,9 +63,9 @@ module _ (a : BringUp) (spacing : ℕ) (e : Brought) where
   record_quarantined = refl
 
   -- its list is what was read
-  pub record_list : list_of (brought_record a spacing e) ≡ e.read.list
-  unfolding list_of padded brought_record
-  record_list = take-append_seam e.read.list (replicate (256 - length e.read.list) 0)
+  pub record_words : words_of (brought_record a spacing e) ≡ e.read.list
+  unfolding words_of padded brought_record
+  record_words = take-append_seam e.read.list (replicate (256 - length e.read.list) 0)
 
   -- its given rings are those of the bring-up
   pub record_given : given_of (brought_record a spacing e) ≡ a.rings
@@ -97,13 +98,13 @@ module _ (a : BringUp) (ctx routes log : ℕ) (p : Passed a ctx routes log) (e :
   counts : counts_fit d ≡ true
   unfolding d counts_fit brought_record
   counts =
-      let few : length a.list ≤ 256 = valid_length a.list p.list in
+      let few : length a.list ≤ 256 = (listed a.speed a.list p.list).short in
       let given : length a.rings ≤ 64 = ((given_promise a.rings).0 p.rings).room in
       rw (w, le-leb (length a.list) 256 few, le-leb (length a.rings) 64 given)
 
-  list : list_of d ≡ a.list
+  list : words_of d ≡ a.list
   unfolding d
-  list = record_list a (spacing_of ctx) e ∙ w
+  list = record_words a (spacing_of ctx) e ∙ w
 
   settings : settings_sound (list_of d) (held_of d) ≡ true
   unfolding d settings_sound interfaces_of all_found each_setting distinct
@@ -136,7 +137,11 @@ module _ (a : BringUp) (ctx routes log : ℕ) (p : Passed a ctx routes log) (e :
         kept_given = λ x h. elem_none x h;
       }))
 
+  valid : valid_at d.port_speed (words_of d) ≡ true
+  unfolding d brought_record
+  valid = rw list p.list
+
   -- it is sound
   pub record_sound : sound (brought_record a (spacing_of ctx) e) ≡ true
   unfolding d live_of
-  record_sound = sound_if d place counts (rw list p.list) settings fit match rings store
+  record_sound = sound_if d place counts valid settings fit match rings store

@@ -11,7 +11,7 @@ use lib.ListN.{length}
 use Rattle.laws.proofs.Tests.{and_left, and_right}
 use Rattle.laws.proofs.Cases.{or_cases}
 use Rattle.def.specs.Speed.{speed_known}
-use Rattle.descriptor_list.specs.Valid.{valid_list}
+use Rattle.descriptor_list.specs.Companions.{list_ok, companions_fit, valid_at}
 use Rattle.hub.specs.Chain.{chain_ok}
 use Rattle.record_ring.specs.Store.{given_ok}
 use Rattle.answer.specs.declared.Answer.{Answer}
@@ -76,7 +76,7 @@ pub record Passed (a : BringUp) (ctx routes log : ℕ) : Type 0 where
   pub table : routes ≡ 32 * (a.max_slots + 1)
   pub room : 64 ≤ log
   pub speed : speed_known a.speed ≡ true
-  pub list : valid_list a.list ≡ true
+  pub list : valid_at a.speed a.list ≡ true
   pub chain : chain_ok a.hubs a.parent ≡ true
   pub rings : given_ok a.rings ≡ true
 
@@ -97,7 +97,7 @@ module _ (a : BringUp) where
   -- what it says that they passed
   pub passed : (ctx routes log : ℕ) (next : Check) → slot_check a ctx routes log (device_check a next) ≡ Pass →
       Passed a ctx routes log × (next ≡ Pass)
-  unfolding slot_check device_check
+  unfolding slot_check device_check valid_at
   passed ctx routes log next e =
       let s = leb 1 a.slot in
       let t = leb a.slot a.max_slots in
@@ -107,9 +107,10 @@ module _ (a : BringUp) where
       let e3 : (eqb routes (32 * (a.max_slots + 1)) ≡ true) × _ = pass_if _ _ _ e2.1 in
       let e4 : (leb 64 log ≡ true) × _ = pass_if _ _ _ e3.1 in
       let e5 : (speed_known a.speed ≡ true) × _ = pass_if _ _ _ e4.1 in
-      let e6 : (valid_list a.list ≡ true) × _ = pass_if _ _ _ e5.1 in
-      let e7 : (chain_ok a.hubs a.parent ≡ true) × _ = pass_if _ _ _ e6.1 in
-      let e8 : (given_ok a.rings ≡ true) × _ = pass_if _ _ _ e7.1 in
+      let e6 : (list_ok a.speed a.list ≡ true) × _ = pass_if _ _ _ e5.1 in
+      let e7 : (companions_fit a.speed a.list ≡ true) × _ = pass_if _ _ _ e6.1 in
+      let e8 : (chain_ok a.hubs a.parent ≡ true) × _ = pass_if _ _ _ e7.1 in
+      let e9 : (given_ok a.rings ≡ true) × _ = pass_if _ _ _ e8.1 in
       let right : (t && u) ≡ true = and_right s (t && u) e1.0 in
       let l : Lengths ctx =
       lengths ctx
@@ -125,9 +126,9 @@ module _ (a : BringUp) where
           table = eqb-true _ _ e3.0;
           room = leb-true _ _ e4.0;
           speed = e5.0;
-          list = e6.0;
-          chain = e7.0;
-          rings = e8.0;
+          list = rw (e6.0, e7.0);
+          chain = e8.0;
+          rings = e9.0;
         },
-        e8.1,
+        e9.1,
       )

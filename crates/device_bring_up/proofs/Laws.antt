@@ -11,7 +11,8 @@ use lib.ListN.{length, get_or, length-set}
 use lib.Seq.{get_or-set_same, get_or-set_other}
 use Rattle.laws.proofs.Tests.{not_both}
 use Rattle.def.specs.Speed.{speed_known, exponent_ok}
-use Rattle.descriptor_list.specs.Valid.{configurations, valid_list}
+use Rattle.descriptor_list.specs.Valid.{configurations}
+use Rattle.descriptor_list.specs.Companions.{list_ok, companions_fit}
 use Rattle.hub.specs.Chain.{chain_ok}
 use Rattle.record_ring.specs.Store.{given_ok}
 use Rattle.record_ring.proofs.Laws.{ring_nonzero}
@@ -27,7 +28,7 @@ use Rattle.command.proofs.Done.{AllDone}
 use Rattle.context.specs.Place.{spacing_of}
 use Rattle.record_endpoint.specs.EndpointMap.{no_endpoints}
 use Rattle.device.specs.declared.record.Device.{Device}
-use Rattle.device.specs.Device.{list_of, endpoint_map_in, held_of, quarantined_of, given_of, no_device}
+use Rattle.device.specs.Device.{words_of, endpoint_map_in, held_of, quarantined_of, given_of, no_device}
 use Rattle.device.specs.Left.{Left, refused}
 use Rattle.device.specs.Sound.{sound}
 use Rattle.device.specs.Calls.{on_check}
@@ -36,7 +37,7 @@ use Rattle.course_init.proofs.Laws.{EndFacts, address_facts, address_done, addre
 use Rattle.device_bring_up.specs.BringUp.{slot_check, device_check, queue_check, bring_up_check, bring_up_course, brought_record, brought_left, bring_up}
 use Rattle.device.proofs.Laws.{pass_if}
 use Rattle.device_bring_up.proofs.Checks.{Passed, passed}
-use Rattle.device_bring_up.proofs.Accepted.{control_ok, record_given, record_held, record_map, record_quarantined, record_list, record_usable, usable_accepted, record_sound}
+use Rattle.device_bring_up.proofs.Accepted.{control_ok, record_given, record_held, record_map, record_quarantined, record_words, record_usable, usable_accepted, record_sound}
 
 -- An answer before any command: neither accepted nor 14 nor 15.
 pub record Refusal (x : Answer) : Type 0 where
@@ -62,10 +63,11 @@ check_refuses a ctx routes log =
     (refuses_if (eqb (length routes) (32 * (a.max_slots + 1))) answer.RoutesLength _ (record { accepted = refl; broken = refl; cut = refl })
     (refuses_if (leb 64 log) answer.LogTooShort _ (record { accepted = refl; broken = refl; cut = refl })
     (refuses_if (speed_known a.speed) answer.Speed _ (record { accepted = refl; broken = refl; cut = refl })
-    (refuses_if (valid_list a.list) answer.DescriptorList _ (record { accepted = refl; broken = refl; cut = refl })
+    (refuses_if (list_ok a.speed a.list) answer.DescriptorList _ (record { accepted = refl; broken = refl; cut = refl })
+    (refuses_if (companions_fit a.speed a.list) answer.Companion _ (record { accepted = refl; broken = refl; cut = refl })
     (refuses_if (chain_ok a.hubs a.parent) answer.HubChain _ (record { accepted = refl; broken = refl; cut = refl })
     (refuses_if (given_ok a.rings) answer.Rings _ (record { accepted = refl; broken = refl; cut = refl })
-    (refuses_if (eqb (route_of routes a.slot 1) 0) answer.QueueFull Pass (record { accepted = refl; broken = refl; cut = refl }) tt))))))))
+    (refuses_if (eqb (route_of routes a.slot 1) 0) answer.QueueFull Pass (record { accepted = refl; broken = refl; cut = refl }) tt)))))))))
 
 -- A refused bring-up.
 pub record Refused (ctx routes log : List ℕ) (l : Left) : Type 0 where
@@ -118,7 +120,7 @@ pub record BroughtUp (a : BringUp) (ctx routes log : List ℕ) (l : Left) : Type
   pub max_slots : l.device.max_slots ≡ a.max_slots
   pub spacing : l.device.spacing ≡ spacing_of (length ctx)
   pub speed : l.device.port_speed ≡ a.speed
-  pub list : list_of l.device ≡ a.list
+  pub list : words_of l.device ≡ a.list
   pub control : l.device.control ≡ control_ring a
   pub held : held_of l.device ≡ []
   pub endpoints : endpoint_map_in l.device ≡ no_endpoints
@@ -154,7 +156,7 @@ module _ (a : BringUp) (ctx routes log outcomes : List ℕ) where
         max_slots = refl;
         spacing = refl;
         speed = refl;
-        list = record_list a spacing end ∙ w;
+        list = record_words a spacing end ∙ w;
         control = refl;
         held = record_held a spacing end;
         endpoints = record_map a spacing end;

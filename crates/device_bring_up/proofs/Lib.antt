@@ -1,4 +1,5 @@
 pub mod Accepted
+pub mod Before
 pub mod Checks
 pub mod Laws
 mod Steps

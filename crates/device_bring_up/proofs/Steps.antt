@@ -10,8 +10,8 @@ use Rattle.def.specs.Speed.{speed_known}
 use Rattle.hub.specs.Chain.{chain_ok}
 use Rattle.record_ring.specs.Store.{given_ok}
 use Rattle.record_ring.proofs.Promises.{given_promise}
-use Rattle.descriptor_list.specs.Valid.{valid_list}
-use Rattle.descriptor_list.proofs.Laws.{valid_length}
+use Rattle.descriptor_list.specs.Companions.{list_ok, companions_fit, valid_at}
+use Rattle.descriptor_list.proofs.Companions.{listed}
 use Rattle.std.specs.Prelude.{Result, Ok, Err, IsErrAnd, MatchResult}
 use Rattle.transfer.specs.declared.RouteError.{RouteError}
 use Rattle.transfer.specs.declared.RouteError.TheVariants.{QueueFull}
@@ -75,34 +75,39 @@ module _ (a : BringUp) (ctx : ℕ) (routes : List ℕ) (log : ℕ) where
   pub not_entered : (x : Answer) → Refuse x ≡ bring_up_check a ctx routes log → Entered a ctx routes log (Refuse x) routes
   not_entered x e = (e, λ p. let z : ◌≡◌ {A = ℕ} 0 1 = cc in absurd (omega arith), λ y p. refl)
 
-  -- 6, 4, 5, 10
+  -- 6, 4, 26, 5, 10
   module _ (base : bring_up_check a ctx routes log ≡ device_check a (queue_check a routes)) where
     pub speed_refused : speed_known a.speed ≡ false → Entered a ctx routes log (Refuse answer.Speed) routes
     unfolding device_check
     speed_refused e = not_entered answer.Speed (sym (base ∙ rw e))
 
-    pub list_refused : speed_known a.speed ≡ true → valid_list a.list ≡ false → Entered a ctx routes log (Refuse answer.DescriptorList) routes
+    pub list_refused : speed_known a.speed ≡ true → list_ok a.speed a.list ≡ false → Entered a ctx routes log (Refuse answer.DescriptorList) routes
     unfolding device_check
     list_refused e f = not_entered answer.DescriptorList (sym (base ∙ rw (e, f)))
 
-    pub chain_refused : speed_known a.speed ≡ true → valid_list a.list ≡ true → chain_ok a.hubs a.parent ≡ false →
-        Entered a ctx routes log (Refuse answer.HubChain) routes
+    pub companion_refused : speed_known a.speed ≡ true → list_ok a.speed a.list ≡ true → companions_fit a.speed a.list ≡ false →
+        Entered a ctx routes log (Refuse answer.Companion) routes
     unfolding device_check
-    chain_refused e f g = not_entered answer.HubChain (sym (base ∙ rw (e, f, g)))
+    companion_refused e f f2 = not_entered answer.Companion (sym (base ∙ rw (e, f, f2)))
 
-    pub ring_refused : speed_known a.speed ≡ true → valid_list a.list ≡ true → chain_ok a.hubs a.parent ≡ true →
-        given_ok a.rings ≡ false → Entered a ctx routes log (Refuse answer.Rings) routes
+    pub chain_refused : speed_known a.speed ≡ true → list_ok a.speed a.list ≡ true → companions_fit a.speed a.list ≡ true →
+        chain_ok a.hubs a.parent ≡ false → Entered a ctx routes log (Refuse answer.HubChain) routes
     unfolding device_check
-    ring_refused e f g h = not_entered answer.Rings (sym (base ∙ rw (e, f, g, h)))
+    chain_refused e f f2 g = not_entered answer.HubChain (sym (base ∙ rw (e, f, f2, g)))
+
+    pub ring_refused : speed_known a.speed ≡ true → list_ok a.speed a.list ≡ true → companions_fit a.speed a.list ≡ true →
+        chain_ok a.hubs a.parent ≡ true → given_ok a.rings ≡ false → Entered a ctx routes log (Refuse answer.Rings) routes
+    unfolding device_check
+    ring_refused e f f2 g h = not_entered answer.Rings (sym (base ∙ rw (e, f, f2, g, h)))
 
     -- they pass, and 17 decides
     pub entered :
-        speed_known a.speed ≡ true → valid_list a.list ≡ true → chain_ok a.hubs a.parent ≡ true →
-        given_ok a.rings ≡ true → (r : Check) (left : List ℕ) → r ≡ queue_check a routes →
+        speed_known a.speed ≡ true → list_ok a.speed a.list ≡ true → companions_fit a.speed a.list ≡ true →
+        chain_ok a.hubs a.parent ≡ true → given_ok a.rings ≡ true → (r : Check) (left : List ℕ) → r ≡ queue_check a routes →
         left ≡ with_registered routes a.slot 1 (control_ring a) → Entered a ctx routes log r left
     unfolding device_check
-    entered e f g h r left q l = (
-      q ∙ sym (base ∙ rw (e, f, g, h)),
+    entered e f f2 g h r left q l = (
+      q ∙ sym (base ∙ rw (e, f, f2, g, h)),
       λ p. l ∙ queue_pass a routes (sym q ∙ p),
       λ x p. l ∙ queue_refuse a routes x (sym q ∙ p),
     )
@@ -129,7 +134,7 @@ module _
 
   -- what the course needs
   pub course_room : {spacing : ℕ} → spacing ≡ cond (eqb ctx 1056) 32 64 →
-      Spaced spacing ctx × ((64 ≤ log) × (valid_list a.list ≡ true))
+      Spaced spacing ctx × ((64 ≤ log) × (valid_at a.speed a.list ≡ true))
   course_room s = (rw (s ∙ facts.taken) facts.spaced, (facts.room, facts.list))
 
   -- the spacing that the code takes is the context's
@@ -138,4 +143,4 @@ module _
 
   -- and the record
   pub record_room : (a.max_slots ≤ 255) × ((length a.list ≤ 256) × (length a.rings ≤ 64))
-  record_room = (facts.n_high, (valid_length a.list facts.list, ((given_promise a.rings).0 facts.rings).room))
+  record_room = (facts.n_high, ((listed a.speed a.list facts.list).short, ((given_promise a.rings).0 facts.rings).room))

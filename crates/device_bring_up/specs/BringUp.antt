@@ -1,7 +1,8 @@
 -- Bring-up of a slot's device, whole: the checks in 01's order ("Who can cause an answer"), control's route, the course, and the record that its end makes.
 use Rattle.std.specs.Prelude.{ℕ, ◌+◌, ◌*◌, ◌&&◌, ◌||◌, List, eqb, leb, length}
 use Rattle.def.specs.Speed.{speed_known}
-use Rattle.descriptor_list.specs.Valid.{LIST-ROOM, valid_list}
+use Rattle.descriptor_list.specs.Valid.{LIST-ROOM}
+use Rattle.descriptor_list.specs.Companions.{list_ok, companions_fit}
 use Rattle.hub.specs.Chain.{chain_ok}
 use Rattle.transfer.specs.Routes.{route_of, with_route}
 use Rattle.record_ring.specs.Store.{GIVEN-ROOM, given_ok}
@@ -28,19 +29,20 @@ slot_check a ctx routes log next =
     (unless (eqb routes (32 * (a.max_slots + 1))) answer.RoutesLength
     (unless (leb LOG-ROOM log) answer.LogTooShort next)))
 
--- 6, 4, 5, 10, then what follows.
+-- 6, 4, 26, 5, 10, then what follows.
 unfoldable pub device_check : BringUp → Check → Check
 device_check a next =
     unless (speed_known a.speed) answer.Speed
-    (unless (valid_list a.list) answer.DescriptorList
+    (unless (list_ok a.speed a.list) answer.DescriptorList
+    (unless (companions_fit a.speed a.list) answer.Companion
     (unless (chain_ok a.hubs a.parent) answer.HubChain
-    (unless (given_ok a.rings) answer.Rings next)))
+    (unless (given_ok a.rings) answer.Rings next))))
 
 -- 17: the word of Dci 1 is not 0.
 unfoldable pub queue_check : BringUp → List ℕ → Check
 queue_check a routes = unless (eqb (route_of routes a.slot 1) 0) answer.QueueFull Pass
 
--- 11, 1, 2, 3, 6, 4, 5, 10, 17.
+-- 11, 1, 2, 3, 6, 4, 26, 5, 10, 17.
 unfoldable pub bring_up_check : BringUp → ℕ → List ℕ → ℕ → Check
 bring_up_check a ctx routes log = slot_check a ctx (length routes) log (device_check a (queue_check a routes))
 

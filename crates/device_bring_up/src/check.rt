@@ -19,7 +19,7 @@ fn slot_fits(slot: usize, max_slots: usize) -> bool
     1 <= slot && slot <= max_slots && max_slots <= 255
 }
 
-// 11, 1, 2, 3, 6, 4, 5, 10, 17; control's route is registered where they pass.
+// 11, 1, 2, 3, 6, 4, 26, 5, 10, 17; control's route is registered where they pass.
 pub fn enter(
     routes: &mut [u64],
     a: BringUpArgs,
@@ -49,8 +49,11 @@ pub fn enter(
     if !def::speed_known(a.speed) {
         return Err(Answer::Speed);
     }
-    if !descriptor_list::valid_list(list) {
+    if !descriptor_list::list_ok(list, a.speed) {
         return Err(Answer::DescriptorList);
+    }
+    if !descriptor_list::companions_fit(list, a.speed) {
+        return Err(Answer::Companion);
     }
     if !hub::chain_ok(hubs, a.parent) {
         return Err(Answer::HubChain);

@@ -2,7 +2,7 @@
 use Rattle.std.specs.Prelude.{ℕ, ◌≤◌, ◌≡◌, Bool, cond, ⊤, List, length, get_or, Result, Ok, Err}
 use Rattle.std.proofs.lemmas.List.Edits.{sets}
 use Rattle.function_answer.specs.declared.Refusal.{Refusal}
-use Rattle.function_answer.specs.declared.Refusal.TheVariants.{ContextLength, TooShort, DescriptorList, NoEndpoint, Malformed, Settings, OtherConfiguration}
+use Rattle.function_answer.specs.declared.Refusal.TheVariants.{ContextLength, TooShort, DescriptorList, NoEndpoint, Speed, Malformed, Settings, OtherConfiguration, Companion}
 
 -- The numbers of 01 and 02.
 unfoldable pub number : Result ℕ Refusal → ℕ
@@ -11,9 +11,11 @@ number (Err ContextLength) = 1
 number (Err TooShort) = 3
 number (Err DescriptorList) = 4
 number (Err NoEndpoint) = 4
+number (Err Speed) = 6
 number (Err Malformed) = 20
 number (Err Settings) = 23
 number (Err OtherConfiguration) = 24
+number (Err Companion) = 26
 
 -- How many words or bytes were written.
 unfoldable pub count_of : Result ℕ Refusal → ℕ

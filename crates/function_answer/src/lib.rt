@@ -12,9 +12,11 @@ pub enum Refusal {
     DescriptorList,
     // a Dci outside 1 to 31
     NoEndpoint,
+    Speed,
     Malformed,
     Settings,
     OtherConfiguration,
+    Companion,
 }
 
 impl Refusal {
@@ -27,9 +29,11 @@ impl Refusal {
             Refusal::ContextLength => 1,
             Refusal::TooShort => 3,
             Refusal::DescriptorList | Refusal::NoEndpoint => 4,
+            Refusal::Speed => 6,
             Refusal::Malformed => 20,
             Refusal::Settings => 23,
             Refusal::OtherConfiguration => 24,
+            Refusal::Companion => 26,
         }
     }
 }

@@ -1,5 +1,5 @@
 -- The steps of the functions.
-use Prim.Native.Nat.{ℕ, ◌+◌, ◌≤◌, ◌<◌}
+use Prim.Native.Nat.{ℕ, ◌+◌, ◌%◌, ◌^◌, ◌≤◌, ◌<◌}
 use mathlib.Core.Path.{◌≡◌, refl}
 use mathlib.Core.Logic.{inl, inr}
 use mathlib.Core.Bool.{true, false, cond, ◌||◌}
@@ -43,7 +43,7 @@ free_nowhere w i c l e = free_unowned w i c 30 e (get_or-eq_default c.rings 0 (o
 -- `first_owned`
 module _ (words : List ℕ) (i : ℕ) (c : EndpointMap) (k : ℕ) (h : k < length words) where
   pub owned_here : (owner : ℕ) → address_free (get_or words k 0) i c ≡ false → owner ≡ owner_of (get_or words k 0) c →
-      first_owned (drop k words) i c ≡ Endpoint (get_or words k 0) owner
+      first_owned (drop k words) i c ≡ Endpoint (get_or words k 0 % 2 ^ 32) owner
   unfolding first_owned
   owned_here owner f o = rw (drop_next words k h, f, o)
 

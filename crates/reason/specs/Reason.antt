@@ -1,5 +1,5 @@
 -- Why a claim, or a commit, got its answer, from what it left: its record, its answer's number, the words that it logged, and the outcomes.
-use Rattle.std.specs.Prelude.{ℕ, ◌+◌, cond, ◌||◌, List, [], ◌∷◌, eqb, get_or}
+use Rattle.std.specs.Prelude.{ℕ, ◌+◌, ◌%◌, ◌^◌, cond, ◌||◌, List, [], ◌∷◌, eqb, get_or}
 use Rattle.descriptor.specs.Word.{endpoint_descriptor}
 use Rattle.record_endpoint.specs.Order.{place_of}
 use Rattle.record_endpoint.specs.declared.endpoint_map.EndpointMap.{EndpointMap}
@@ -15,10 +15,10 @@ use Rattle.reason.specs.declared.Reason.TheVariants.{Nothing, Alternate, Endpoin
 unfoldable pub owner_of : ℕ → EndpointMap → ℕ
 owner_of w c = get_or c.owners (place_of (endpoint_descriptor w).address) 0
 
--- The first word whose address another interface owns, with its owner.
+-- The first word whose address another interface owns, with its owner: the word of the list, without its companion.
 unfoldable pub first_owned : List ℕ → ℕ → EndpointMap → Reason
 first_owned [] i c = Number 9
-first_owned (w ∷ ws) i c = cond (address_free w i c) (first_owned ws i c) (Endpoint w (owner_of w c))
+first_owned (w ∷ ws) i c = cond (address_free w i c) (first_owned ws i c) (Endpoint (w % 2 ^ 32) (owner_of w c))
 
 -- The same of the words of an alternate, by a record. One that is not sound refuses no claim for an owner.
 unfoldable pub owned_reason : Device → ℕ → ℕ → Reason

@@ -7,6 +7,7 @@ ghost use Rattle.reason.specs.Reason.{owner_of, first_owned, owned_reason, first
 
 use device::Device;
 use record_endpoint::EndpointMap;
+use record_settings::SettingWords;
 
 #[derive(Clone, Copy)]
 pub enum Reason {
@@ -14,7 +15,7 @@ pub enum Reason {
     Nothing,
     // the alternate that is missing
     Alternate { interface: u8, alternate: u8 },
-    // an endpoint word whose address another interface owns
+    // an endpoint word of the list whose address another interface owns
     Endpoint { word: u32, owner: u8 },
     // fewer free rings than endpoint words
     Rings,
@@ -25,7 +26,7 @@ pub enum Reason {
 }
 
 // The interface that owns the address of an endpoint word, if it is another.
-fn other_owner(word: u32, interface: u8, c: &EndpointMap) -> Option<u8>
+fn other_owner(word: u64, interface: u8, c: &EndpointMap) -> Option<u8>
     ensures { MatchOption result (address_free word interface c.now ≡ true)
         (λ owner. (address_free word interface c.now ≡ false) × (owner ≡ owner_of word c.now)) }
 {
@@ -37,12 +38,15 @@ fn other_owner(word: u32, interface: u8, c: &EndpointMap) -> Option<u8>
 }
 
 // The first endpoint word whose address another interface owns.
-fn first_owned(words: &[u32], interface: u8, c: &EndpointMap) -> Reason
+fn first_owned(words: &[u64], interface: u8, c: &EndpointMap) -> Reason
     ensures { result ≡ first_owned words.now interface c.now }
 {
     for &word in words {
         if let Some(owner) = other_owner(word, interface, c) {
-            return Reason::Endpoint { word, owner };
+            return Reason::Endpoint {
+                word: (word % descriptor::COMPANION_LSB) as u32,
+                owner,
+            };
         }
     }
     Reason::Number(9)
@@ -55,9 +59,9 @@ fn owned_reason(d: Device, interface: u8, alternate: u8) -> Reason
     if !d.sound() {
         return Reason::Number(9);
     }
-    let words = record_settings::setting_words(&d.list[..d.list_len], interface, alternate);
+    let setting = SettingWords::of_setting(&d.list[..d.list_len], interface, alternate);
     let c = record_endpoint::endpoint_map_of(&d.eps[..d.ep_count], &d.ep_interfaces[..d.ep_count]);
-    first_owned(words, interface, &c)
+    first_owned(setting.words(), interface, &c)
 }
 
 // The first command of a log whose outcome is not 0; where there is none, the number.

@@ -1,7 +1,8 @@
 -- What 01's sound record asks of a place, of counts, and of the list with the settings and endpoints beside it.
 use Rattle.std.specs.Prelude.{ℕ, Bool, ◌&&◌, ◌||◌, List, eqb, leb}
 use Rattle.def.specs.Speed.{speed_known}
-use Rattle.descriptor_list.specs.Valid.{LIST-ROOM, valid_list}
+use Rattle.descriptor_list.specs.Valid.{LIST-ROOM}
+use Rattle.descriptor_list.specs.Companions.{joined, valid_at}
 use Rattle.record_ring.specs.Rings.{RING-ROOM}
 use Rattle.record_ring.specs.Store.{GIVEN-ROOM}
 use Rattle.record_endpoint.specs.declared.endpoint_map.EndpointMap.{EndpointMap}
@@ -20,7 +21,11 @@ abbrev pub sound_counts : ℕ → ℕ → ℕ → ℕ → ℕ → Bool
 sound_counts words endpoints held quarantined given =
     leb words LIST-ROOM && (leb endpoints PLACES && (leb held HELD-ROOM && (leb quarantined RING-ROOM && leb given GIVEN-ROOM)))
 
--- A valid list, settings that it has, endpoint addresses that have places, endpoints that are those of the settings.
-abbrev pub sound_lists : List ℕ → List Held → List ℕ → EndpointMap → Bool
-sound_lists list hs addresses c =
-    valid_list list && (settings_sound list hs && (addresses_fit addresses && endpoints_match list hs c))
+-- Settings that joined words have, endpoint addresses that have places, endpoints that are those of the settings.
+abbrev pub lists_match : List ℕ → List Held → List ℕ → EndpointMap → Bool
+lists_match words hs addresses c = settings_sound words hs && (addresses_fit addresses && endpoints_match words hs c)
+
+-- A list that is valid at the speed, and these beside it.
+abbrev pub sound_lists : ℕ → List ℕ → List Held → List ℕ → EndpointMap → Bool
+sound_lists speed list hs addresses c =
+    valid_at speed list && lists_match (joined list) hs addresses c

@@ -1,6 +1,8 @@
 // What a claim asks of a setting and of the number of free rings, and which it draws.
 ghost use Rattle.std.specs.Prelude.{◌≡◌, [], ◌≤◌, length};
 ghost use Rattle.answer.specs.Check.{Pass, CheckedAs};
+ghost use Rattle.descriptor_list.specs.Valid.{LIST-ROOM};
+ghost use Rattle.descriptor_list.specs.Companions.{joined};
 ghost use Rattle.descriptor_list.specs.Lookup.{find_endpoints};
 ghost use Rattle.record_ring.specs.Store.{lowest, free_rings};
 ghost use Rattle.record_endpoint.specs.Order.{PLACES};
@@ -9,13 +11,29 @@ ghost use Rattle.record_endpoint.specs.EndpointMap.{pending_rings};
 ghost use Rattle.record_checks.specs.Draw.{draw_check};
 
 use answer::Answer;
-use descriptor_list::EndpointWords;
+use descriptor_list::{EndpointWords, Joined};
 use record_endpoint::{EndpointMap, PLACES};
 use record_ring::GivenRings;
 
-// Where the endpoint words of the setting stand in the list; or 8, 9, 21.
+// Where the endpoint words of the setting stand among the joined words of the list; or 8, 9, 21.
+#[inline(never)]
 pub fn draw_check(
     list: &[u32],
+    interface: u8,
+    alternate: u8,
+    c: EndpointMap,
+    free: usize,
+) -> Result<EndpointWords, Answer>
+    requires { length list.now ≤ LIST-ROOM }
+    ensures { CheckedAs result (draw_check (joined list.now) interface alternate c free Pass) (find_endpoints (joined list.now) interface alternate) }
+{
+    let all = Joined::of(list);
+    check_joined(all.words(), interface, alternate, c, free)
+}
+
+// The same of the words themselves.
+fn check_joined(
+    list: &[u64],
     interface: u8,
     alternate: u8,
     c: EndpointMap,
@@ -36,7 +54,7 @@ pub fn draw_check(
 }
 
 // The lowest free rings for endpoint words, by place: of the given ones those that are not control's and not live.
-pub fn drawn_rings(given: GivenRings, live: &[u64], control: u64, words: &[u32]) -> [u64; PLACES]
+pub fn drawn_rings(given: GivenRings, live: &[u64], control: u64, words: &[u64]) -> [u64; PLACES]
     requires { length words.now ≤ length (free_rings given.rings.now live.now control []) }
     ensures { result ≡ pending_rings words.now (lowest (length words.now) (free_rings given.entry.rings.now live.now control [])) }
 {
@@ -45,7 +63,7 @@ pub fn drawn_rings(given: GivenRings, live: &[u64], control: u64, words: &[u32])
 }
 
 // The same rings in the order of the words, in front of an array.
-pub fn drawn_in_order(given: GivenRings, live: &[u64], control: u64, words: &[u32]) -> [u64; PLACES]
+pub fn drawn_in_order(given: GivenRings, live: &[u64], control: u64, words: &[u64]) -> [u64; PLACES]
     requires { (length words.now ≤ PLACES) × (length words.now ≤ length (free_rings given.rings.now live.now control [])) }
     ensures { result ≡ padded PLACES 0 (lowest (length words.now) (free_rings given.entry.rings.now live.now control [])) }
 {

@@ -1,11 +1,13 @@
 // Whether the fields and lists of a record are sound.
-ghost use Rattle.std.specs.Prelude.{◌≡◌, length};
+ghost use Rattle.std.specs.Prelude.{◌≡◌, ◌≤◌, length};
+ghost use Rattle.descriptor_list.specs.Valid.{LIST-ROOM};
+ghost use Rattle.descriptor_list.specs.Companions.{joined};
 ghost use Rattle.record_endpoint.specs.EndpointMap.{endpoint_map_of};
 ghost use Rattle.record_endpoint.specs.Endpoint.{addresses};
 ghost use Rattle.record_settings.specs.Held.{held_by};
-ghost use Rattle.record_checks.specs.Sound.{sound_slot, sound_counts, sound_lists};
+ghost use Rattle.record_checks.specs.Sound.{sound_slot, sound_counts, lists_match, sound_lists};
 
-use descriptor_list::LIST_ROOM;
+use descriptor_list::{Joined, LIST_ROOM};
 use record_endpoint::{Endpoint, PLACES};
 use record_ring::{GIVEN_ROOM, RING_ROOM};
 use record_settings::{HELD_ROOM, Settings};
@@ -33,11 +35,32 @@ pub fn counts_fit(
 }
 
 // The list, and beside it the endpoints with their owners and the held settings.
-pub fn lists_sound(list: &[u32], settings: &Settings, eps: &[Endpoint], owners: &[u8]) -> bool
-    ensures { result ≡ sound_lists list.now (held_by settings.now) (addresses eps.now) (endpoint_map_of (length eps.now) eps.now owners.now) }
+pub fn lists_sound(
+    list: &[u32],
+    speed: u8,
+    settings: &Settings,
+    eps: &[Endpoint],
+    owners: &[u8],
+) -> bool
+    ensures { result ≡ sound_lists speed list.now (held_by settings.now) (addresses eps.now) (endpoint_map_of (length eps.now) eps.now owners.now) }
 {
-    descriptor_list::valid_list(list)
-        && settings.are_sound(list)
+    descriptor_list::valid_at(list, speed) && beside_list(list, settings, eps, owners)
+}
+
+#[inline(never)]
+fn beside_list(list: &[u32], settings: &Settings, eps: &[Endpoint], owners: &[u8]) -> bool
+    requires { length list.now ≤ LIST-ROOM }
+    ensures { result ≡ lists_match (joined list.now) (held_by settings.now) (addresses eps.now) (endpoint_map_of (length eps.now) eps.now owners.now) }
+{
+    let all = Joined::of(list);
+    lists_match(all.words(), settings, eps, owners)
+}
+
+// The same of joined words.
+fn lists_match(list: &[u64], settings: &Settings, eps: &[Endpoint], owners: &[u8]) -> bool
+    ensures { result ≡ lists_match list.now (held_by settings.now) (addresses eps.now) (endpoint_map_of (length eps.now) eps.now owners.now) }
+{
+    settings.are_sound(list)
         && record_endpoint::addresses_fit(eps)
         && record_settings::endpoints_match(
             list,

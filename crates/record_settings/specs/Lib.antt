@@ -1,3 +1,4 @@
 pub mod Held
 pub mod Match
 pub mod Room
+pub mod Words

@@ -51,7 +51,7 @@ impl Settings {
 
     // Whether the interfaces are distinct and lookup finds their alternates. A loop, since each interface is sought among those before it:
     // `all` over the indices has the same body in a closure.
-    pub fn are_sound(&self, list: &[u32]) -> bool
+    pub fn are_sound(&self, list: &[u64]) -> bool
         ensures { result ≡ settings_sound list.now (held_by self.now) }
     {
         for i in 0..self.count {

@@ -8,7 +8,7 @@ use super::lookup;
 use record_endpoint::{EndpointMap, PLACES};
 
 // The places of endpoint words.
-fn places_of(words: &[u32]) -> [bool; PLACES]
+fn places_of(words: &[u64]) -> [bool; PLACES]
     ensures { result ≡ places_of words.now }
 {
     let mut places = [false; PLACES];
@@ -22,7 +22,7 @@ fn places_of(words: &[u32]) -> [bool; PLACES]
 }
 
 // Whether an interface's endpoints are at the places of its setting's words.
-fn owns_places(list: &[u32], interface: u8, alternate: u8, c: EndpointMap) -> bool
+fn owns_places(list: &[u64], interface: u8, alternate: u8, c: EndpointMap) -> bool
     ensures { result ≡ owns_places (setting_words list.now interface alternate) interface c }
 {
     let places = places_of(lookup::setting_words(list, interface, alternate));
@@ -37,7 +37,7 @@ fn owners_held(settings: &Settings, c: EndpointMap) -> bool
 }
 
 // Whether the endpoints are those of the held settings.
-pub fn endpoints_match(list: &[u32], settings: &Settings, c: EndpointMap) -> bool
+pub fn endpoints_match(list: &[u64], settings: &Settings, c: EndpointMap) -> bool
     ensures { result ≡ endpoints_match list.now (held_by settings.now) c }
 {
     (0..settings.count).all(|i| owns_places(
@@ -49,7 +49,7 @@ pub fn endpoints_match(list: &[u32], settings: &Settings, c: EndpointMap) -> boo
 }
 
 // Whether a word's address has no endpoint of another interface.
-fn address_free(w: u32, interface: u8, c: &EndpointMap) -> bool
+fn address_free(w: u64, interface: u8, c: &EndpointMap) -> bool
     ensures { result ≡ address_free w interface c.now }
 {
     match record_endpoint::place_of(descriptor::endpoint_descriptor(w).address) {
@@ -59,7 +59,7 @@ fn address_free(w: u32, interface: u8, c: &EndpointMap) -> bool
 }
 
 // The same for each word.
-pub fn validate_endpoint_addresses(words: &[u32], interface: u8, c: EndpointMap) -> bool
+pub fn validate_endpoint_addresses(words: &[u64], interface: u8, c: EndpointMap) -> bool
     ensures { result ≡ addresses_free words.now interface c }
 {
     words.iter().all(|&w| address_free(w, interface, &c))

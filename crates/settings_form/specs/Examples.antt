@@ -1,8 +1,9 @@
--- Settings converted: 02's forms of two of them, as many as there can be, and each ground of 23 and 24 with what stands just beside it.
+-- Settings converted: 02's forms of two of them, as many as there can be, each ground of 23 and 24 with what stands just beside it, and
+-- each speed.
 -- proofs/Examples.antt computes them.
 use Rattle.std.specs.Prelude.{ℕ, zero, suc, ◌+◌, ◌*◌, ◌≡◌, List, [], ◌∷◌, replicate, Err}
 use Rattle.function_answer.specs.declared.Refusal.{Refusal}
-use Rattle.function_answer.specs.declared.Refusal.TheVariants.{TooShort, DescriptorList, Settings, OtherConfiguration}
+use Rattle.function_answer.specs.declared.Refusal.TheVariants.{TooShort, Speed, DescriptorList, Companion, Settings, OtherConfiguration}
 use Rattle.function_answer.specs.Answer.{Left, leaves, accepts}
 use Rattle.settings_form.specs.Form.{new_form}
 use Rattle.settings_form.specs.Convert.{to_new, to_old}
@@ -35,10 +36,10 @@ abbrev pub lent : List ℕ
 lent = replicate 66 0xa9
 
 abbrev pub old_to_new : List ℕ → List ℕ → Left
-old_to_new settings list = to_new settings list lent
+old_to_new settings list = to_new 3 settings list lent
 
 abbrev pub new_to_old : List ℕ → List ℕ → Left
-new_to_old settings list = to_old settings list lent
+new_to_old settings list = to_old 3 settings list lent
 
 abbrev pub into : List ℕ → Left
 into output = accepts output lent
@@ -67,7 +68,7 @@ NewExamples =
     × (old_to_new (pairs 0 33) full ≡ refused Settings)
     -- 4 before 23, and 3 before both
     × (old_to_new (0 ∷ []) (0x40000000 ∷ []) ≡ refused DescriptorList)
-    × (to_new (0 ∷ []) (0x40000000 ∷ []) (replicate 65 0) ≡ leaves (Err TooShort) (replicate 65 0))
+    × (to_new 3 (0 ∷ []) (0x40000000 ∷ []) (replicate 65 0) ≡ leaves (Err TooShort) (replicate 65 0))
 
 abbrev pub OldExamples : Type 0
 OldExamples =
@@ -99,7 +100,7 @@ OldExamples =
     × (new_to_old (0x02 ∷ 0x04 ∷ 0x00 ∷ 0x00 ∷ []) two ≡ refused Settings)
     -- 4 before 23, and 3 before both
     × (new_to_old [] (0x40000000 ∷ []) ≡ refused DescriptorList)
-    × (to_old [] (0x40000000 ∷ []) (replicate 65 0) ≡ leaves (Err TooShort) (replicate 65 0))
+    × (to_old 3 [] (0x40000000 ∷ []) (replicate 65 0) ≡ leaves (Err TooShort) (replicate 65 0))
 
 -- 32 pairs, there and back, and the new form of one pair more.
 abbrev pub FullExamples : Type 0
@@ -107,3 +108,31 @@ FullExamples =
     (old_to_new (pairs 0 32) full ≡ into (new_form 1 (pairs 0 32)))
     × (new_to_old (new_form 1 (pairs 0 32)) full ≡ into (pairs 0 32))
     × (new_to_old (new_form 1 (pairs 0 33)) full ≡ refused Settings)
+
+-- The list `one` with an endpoint in each alternate, which have companions or not.
+abbrev pub paired : List ℕ
+paired =
+    0x00400000 ∷ 0x40000000 ∷ 0xa3808410 ∷ 0xcc000800 ∷ 0x40004000 ∷ 0xa3008410 ∷ 0xcc000000 ∷ 0x40c00000 ∷ 0xa5808410 ∷ 0xcc000800 ∷ []
+
+abbrev pub alone : List ℕ
+alone = 0x00400000 ∷ 0x40000000 ∷ 0xa3808410 ∷ 0x40004000 ∷ 0xa3008410 ∷ 0x40c00000 ∷ 0xa5808410 ∷ []
+
+-- Each speed with lists of either kind.
+abbrev pub SpeedExamples : Type 0
+SpeedExamples =
+    (to_new 4 (0 ∷ 1 ∷ 3 ∷ 0 ∷ []) paired lent ≡ into (0x01 ∷ 0x08 ∷ 0x00 ∷ 0x04 ∷ 0x0c ∷ 0x00 ∷ []))
+    × (to_new 5 (0 ∷ 1 ∷ 3 ∷ 0 ∷ []) paired lent ≡ into (0x01 ∷ 0x08 ∷ 0x00 ∷ 0x04 ∷ 0x0c ∷ 0x00 ∷ []))
+    × (to_new 3 (0 ∷ 1 ∷ 3 ∷ 0 ∷ []) paired lent ≡ refused DescriptorList)
+    × (to_new 3 (0 ∷ 1 ∷ 3 ∷ 0 ∷ []) alone lent ≡ into (0x01 ∷ 0x08 ∷ 0x00 ∷ 0x04 ∷ 0x0c ∷ 0x00 ∷ []))
+    × (to_new 4 (0 ∷ 1 ∷ 3 ∷ 0 ∷ []) alone lent ≡ refused Companion)
+    × (to_new 5 (0 ∷ 1 ∷ 3 ∷ 0 ∷ []) alone lent ≡ refused Companion)
+    × (to_old 4 (0x01 ∷ 0x08 ∷ 0x00 ∷ 0x04 ∷ 0x0c ∷ 0x00 ∷ []) paired lent ≡ into (0 ∷ 1 ∷ 3 ∷ 0 ∷ []))
+    × (to_old 3 (0x01 ∷ 0x08 ∷ 0x00 ∷ 0x04 ∷ 0x0c ∷ 0x00 ∷ []) paired lent ≡ refused DescriptorList)
+    × (to_old 5 (0x01 ∷ 0x08 ∷ 0x00 ∷ 0x04 ∷ 0x0c ∷ 0x00 ∷ []) alone lent ≡ refused Companion)
+    -- 26 before 23, 4 before 26, a companion as first word, 6 before 4, and 3 before 6
+    × (to_new 4 (0 ∷ []) alone lent ≡ refused Companion)
+    × (to_new 4 [] (0x00400000 ∷ 0xcc000801 ∷ []) lent ≡ refused DescriptorList)
+    × (to_old 4 [] (0xcc000800 ∷ []) lent ≡ refused DescriptorList)
+    × (to_new 0 [] (0x40000000 ∷ []) lent ≡ refused Speed)
+    × (to_old 6 [] (0x40000000 ∷ []) lent ≡ refused Speed)
+    × (to_old 6 [] [] (replicate 65 0) ≡ leaves (Err TooShort) (replicate 65 0))

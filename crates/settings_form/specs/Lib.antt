@@ -1,3 +1,4 @@
+pub mod Before
 pub mod Bits
 pub mod Convert
 pub mod Examples

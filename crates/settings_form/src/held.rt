@@ -11,8 +11,8 @@ use descriptor::WordKind;
 fn is_configuration(w: u32, value: u8) -> bool
     ensures { result ≡ is_configuration value w }
 {
-    descriptor::word_kind(w) == Some(WordKind::Configuration)
-        && descriptor::configuration_value(w) == value
+    descriptor::word_kind(w as u64) == Some(WordKind::Configuration)
+        && descriptor::configuration_value(w as u64) == value
 }
 
 // The words of the first configuration of a value.
@@ -26,9 +26,9 @@ fn configuration_words<'a>(list: &'a [u32], value: u8) -> Option<&'a [u32]>
 fn has_alternate(words: &[u32], interface: u8, alternate: u8) -> bool
     ensures { result ≡ list_any (is_alternate interface alternate) words.now }
 {
-    words.iter().any(|w| descriptor::word_kind(*w) == Some(WordKind::Alternate)
-        && descriptor::interface_number(*w) == interface
-        && descriptor::alternate_setting(*w) == alternate)
+    words.iter().any(|w| descriptor::word_kind(*w as u64) == Some(WordKind::Alternate)
+        && descriptor::interface_number(*w as u64) == interface
+        && descriptor::alternate_setting(*w as u64) == alternate)
 }
 
 // Whether words have each pair, and interfaces rise.

@@ -16,16 +16,22 @@ pub const ROOM: usize = 66;
 // The bytes of 32 pairs.
 const PAIR_BYTES: usize = 64;
 
-// Both ways: the bytes lent, and the list.
+// Both ways: the bytes lent, the speed, and the list.
 #[tactic(auto, unfolding(crate::specs::Convert::list_check))]
-fn list_check(list: &[u32], lent: usize) -> Result<(), Refusal>
-    ensures { result ≡ list_check list.now lent }
+fn list_check(list: &[u32], speed: u8, lent: usize) -> Result<(), Refusal>
+    ensures { result ≡ list_check speed list.now lent }
 {
     if lent < ROOM {
         return Err(Refusal::TooShort);
     }
-    if !descriptor_list::valid_list(list) {
+    if !def::speed_known(speed) {
+        return Err(Refusal::Speed);
+    }
+    if !descriptor_list::list_ok(list, speed) {
         return Err(Refusal::DescriptorList);
+    }
+    if !descriptor_list::companions_fit(list, speed) {
+        return Err(Refusal::Companion);
     }
     Ok(())
 }
@@ -35,15 +41,15 @@ fn list_check(list: &[u32], lent: usize) -> Result<(), Refusal>
 fn first_value(list: &[u32]) -> Option<u8>
     ensures { MatchOption result (list.now ≡ []) (λ value. value ≡ first_value list.now) }
 {
-    Some(descriptor::configuration_value(*list.first()?))
+    Some(descriptor::configuration_value(*list.first()? as u64))
 }
 
 // Old settings to new ones, into the first bytes that are lent.
 #[tactic(auto, unfolding(crate::specs::Convert::to_new, function_answer::specs::Answer::on_check))]
-pub fn to_new(settings: &[u8], list: &[u32], bytes: &mut [u8]) -> Result<usize, Refusal>
-    ensures { leaves result bytes.new ≡ to_new settings.now list.now bytes.old }
+pub fn to_new(settings: &[u8], list: &[u32], speed: u8, bytes: &mut [u8]) -> Result<usize, Refusal>
+    ensures { leaves result bytes.new ≡ to_new speed settings.now list.now bytes.old }
 {
-    list_check(list, bytes.len())?;
+    list_check(list, speed, bytes.len())?;
     let Some(value) = first_value(list) else {
         return Err(Refusal::Settings);
     };
@@ -56,10 +62,10 @@ pub fn to_new(settings: &[u8], list: &[u32], bytes: &mut [u8]) -> Result<usize, 
 
 // New settings to old ones, into the first bytes that are lent.
 #[tactic(auto, unfolding(crate::specs::Convert::to_old, function_answer::specs::Answer::on_check))]
-pub fn to_old(settings: &[u8], list: &[u32], bytes: &mut [u8]) -> Result<usize, Refusal>
-    ensures { leaves result bytes.new ≡ to_old settings.now list.now bytes.old }
+pub fn to_old(settings: &[u8], list: &[u32], speed: u8, bytes: &mut [u8]) -> Result<usize, Refusal>
+    ensures { leaves result bytes.new ≡ to_old speed settings.now list.now bytes.old }
 {
-    list_check(list, bytes.len())?;
+    list_check(list, speed, bytes.len())?;
     let Some(first) = first_value(list) else {
         return Err(Refusal::Settings);
     };

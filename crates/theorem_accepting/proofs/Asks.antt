@@ -19,7 +19,7 @@ use Rattle.record_ring.specs.Store.{lowest}
 use Rattle.record_ring.proofs.Promises.{lowest_promise}
 use Rattle.record_settings.specs.Held.{setting_words}
 use Rattle.device.specs.declared.record.Device.{Device}
-use Rattle.device.specs.Device.{list_of, free_of}
+use Rattle.device.specs.Device.{words_of, list_of, free_of}
 use Rattle.device.specs.Sound.{sound}
 use Rattle.device.specs.Check.{record_check}
 use Rattle.device.specs.Claim.{claim_check, drawn}
@@ -36,7 +36,7 @@ use Rattle.theorem_slot.proofs.Record.{draws_same}
 use Rattle.theorem_slot.proofs.Rings.{so_far}
 use Rattle.theorem_ask.proofs.Promises.{ask_promise}
 use Rattle.theorem_checks.specs.Descriptors.{Listed}
-use Rattle.theorem_checks.specs.Record.{words_in}
+use Rattle.theorem_checks.specs.Record.{list_in}
 use Rattle.theorem_checks.specs.Checks.{AllHold, fit_conditions, claim_conditions}
 use Rattle.theorem_checks.proofs.Checks.{claim_judged, ask_pass, ask_passes, free_is, is_free, free_distinct}
 use Rattle.theorem_checks.proofs.Descriptors.{lookup_tells, word_dci_is, no_dci}
@@ -78,8 +78,8 @@ module _ (d : Device) (ctx routes log o : List ℕ) (i a : ℕ) (accepted : (ask
             (false_if (elem x (lowest n free)) (λ e. let t = elem_place x (lowest n free) e in out t.0 t.1 t.2));
       }
 
-  listed : Listed (words_in d) i a words
-  unfolding list_of
+  listed : Listed (list_in d) i a words
+  unfolding list_of words_of
   listed = (lookup_tells (list_of d) i a).found (claim_passed d i a facts.0 facts.1).found
 
   commit_routes : Routed d routes → AllDone o LOG-ROOM →

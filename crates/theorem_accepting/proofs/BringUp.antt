@@ -7,7 +7,7 @@ use lib.ListN.{length, length-set, get_or-replicate}
 use Rattle.def.proofs.Laws.{exponent_fits}
 use Rattle.answer.specs.declared.Answer.TheVariants as answer
 use Rattle.transfer.specs.Routes.{route_of, route_index, with_route}
-use Rattle.descriptor_list.proofs.Laws.{valid_configurations}
+use Rattle.descriptor_list.proofs.Companions.{listed}
 use Rattle.record_endpoint.specs.EndpointMap.{no_endpoints}
 use Rattle.record_endpoint.proofs.Laws.{dci_low, dci_high}
 use Rattle.device.specs.Left.{Left}
@@ -66,5 +66,5 @@ bring_up_accepts a ctx routes log outcomes h header nine none done =
     let valid = (passed a (length ctx) (length routes) (length log) (queue_check a routes) p).0.list in
     let e =
     bring_up_done a ctx routes log outcomes p header (exponent_fits a.speed a.packet nine)
-    (λ i low high. done_at outcomes _ i done (omega (arith, valid_configurations a.list valid))) in
+    (λ i low high. done_at outcomes _ i done (omega (arith, (listed a.speed a.list valid).few))) in
     brought_up a ctx routes log _ (bring_up_accepted a ctx routes log outcomes e) e none (bring_up_values a ctx routes log outcomes e)

@@ -12,7 +12,7 @@ use Rattle.record_endpoint.specs.declared.endpoint_map.Owner.TheVariants.{Interf
 use Rattle.record_settings.specs.Held.{is_held, alternate_of, setting_words, without_setting}
 use Rattle.theorem_routing.specs.Routing.{RoutedBy}
 use Rattle.device.specs.declared.record.Device.{Device}
-use Rattle.device.specs.Device.{list_of, endpoint_map_in, held_of, quarantined_of, given_of, Same}
+use Rattle.device.specs.Device.{words_of, list_of, endpoint_map_in, held_of, quarantined_of, given_of, Same}
 use Rattle.device.specs.Sound.{sound}
 use Rattle.device.specs.Left.{Left}
 use Rattle.device.specs.Calls.{hub_update}
@@ -67,7 +67,7 @@ pub record BroughtUp (a : BringUp) (ctx : List ℕ) (l : Left) : Type 0 where
   pub speed : l.device.port_speed ≡ a.speed
   pub configured : l.device.configured ≡ true
   pub value : l.device.current_config_value ≡ value_set a
-  pub list : list_of l.device ≡ a.list
+  pub list : words_of l.device ≡ a.list
   pub control : l.device.control ≡ control_ring a
   pub held : held_of l.device ≡ []
   pub endpoints : endpoint_map_in l.device ≡ no_endpoints

@@ -14,7 +14,7 @@ use Rattle.theorem_slot.specs.Groups.{drawn_from, keeps}
 use Rattle.theorem_slot.specs.Rings.{AfterAddress}
 use Rattle.theorem_slot.specs.Theorem.{State, Turn, called}
 use Rattle.theorem_checks.specs.Descriptors.{dci_of_word, Each, Listed}
-use Rattle.theorem_checks.specs.Record.{words_in, IsFree}
+use Rattle.theorem_checks.specs.Record.{list_in, IsFree}
 use Rattle.theorem_accepting.specs.Accepting.{Routed, AllDone, Accepted}
 
 -- Rings by rising address, as many as words, each free, and each below every free ring that is not among them.
@@ -35,7 +35,7 @@ pub record RoutesAsked (d : Device) (words rings : List ℕ) (l : Left) : Type 0
 
 pub record RingsAsked (d : Device) (ctx routes log outcomes : List ℕ) (interface alternate : ℕ) (rings : List ℕ) (l : Left) : Type 0 where
   pub words : List ℕ
-  pub listed : Listed (words_in d) interface alternate words
+  pub listed : Listed (list_in d) interface alternate words
   pub lowest : LowestFree d (length words) rings
   pub routed : Routed d routes → AllDone outcomes LOG-ROOM → RoutesAsked d words rings l
 

@@ -9,7 +9,8 @@ use lib.Dec.{eqb, leb}
 use lib.ListN.{length}
 use Rattle.laws.specs.Distinct.{elem}
 use Rattle.def.specs.Speed.{HIGH, speed_known, exponent_ok}
-use Rattle.descriptor_list.specs.Valid.{valid_list, configurations}
+use Rattle.descriptor_list.specs.Valid.{configurations}
+use Rattle.descriptor_list.specs.Companions.{list_ok, companions_fit}
 use Rattle.descriptor_list.specs.Lookup.{find_endpoints}
 use Rattle.hub.specs.Chain.{chain_ok}
 use Rattle.hub.specs.ThinkTime.{think_time}
@@ -231,6 +232,7 @@ module _ (ns : List ℕ) where
     pub log : Among answer.LogTooShort
     pub speed : Among answer.Speed
     pub list : Among answer.DescriptorList
+    pub companion : Among answer.Companion
     pub chain : Among answer.HubChain
     pub rings : Among answer.Rings
     pub queue : Among answer.QueueFull
@@ -243,10 +245,11 @@ module _ (ns : List ℕ) where
       (listed_unless (eqb (length routes) (32 * (a.max_slots + 1))) answer.RoutesLength _ m.routes
       (listed_unless (leb 64 log) answer.LogTooShort _ m.log
       (listed_unless (speed_known a.speed) answer.Speed _ m.speed
-      (listed_unless (valid_list a.list) answer.DescriptorList _ m.list
+      (listed_unless (list_ok a.speed a.list) answer.DescriptorList _ m.list
+      (listed_unless (companions_fit a.speed a.list) answer.Companion _ m.companion
       (listed_unless (chain_ok a.hubs a.parent) answer.HubChain _ m.chain
       (listed_unless (given_ok a.rings) answer.Rings _ m.rings
-      (listed_unless (eqb (route_of routes a.slot 1) 0) answer.QueueFull Pass m.queue listed_pass))))))))
+      (listed_unless (eqb (route_of routes a.slot 1) 0) answer.QueueFull Pass m.queue listed_pass)))))))))
 
 module _ (b : Buffers) (d : Device) (routes : List ℕ) where
   AmongThese : Asked → Type 0
@@ -258,7 +261,7 @@ module _ (b : Buffers) (d : Device) (routes : List ℕ) where
       let ns = answers_of (brings_up a) in
       on_listed ns (bring_up_check a (length b.ctx) routes (length b.log)) _ _
       (listed_bring_up ns
-      (record { slot = refl; ctx = refl; routes = refl; log = refl; speed = refl; list = refl; chain = refl; rings = refl; queue = refl })
+      (record { slot = refl; ctx = refl; routes = refl; log = refl; speed = refl; list = refl; companion = refl; chain = refl; rings = refl; queue = refl })
       a (length b.ctx) routes (length b.log))
       (λ x. refl)
       (bring_up_listed ns (record { accepted = refl; failed = λ code. refl; cut = refl }) refl b.outcomes a (spacing_of (length b.ctx))

@@ -8,15 +8,16 @@ use Rattle.hub.specs.Chain.{hub_fits, chain_from, chain_ok}
 use Rattle.hub.specs.Route.{ports, clamp, route_string}
 use Rattle.hub.specs.Route as hub-route
 use Rattle.hub.specs.ThinkTime.{think_time}
-use Rattle.descriptor.specs.Word.{direction_in, endpoint_number, type_number, transfer_type, endpoint_descriptor, kind, configuration_value, interface_number, alternate_setting, endpoint_ok, word_ok}
+use Rattle.descriptor.specs.Word.{direction_in, endpoint_number, type_number, transfer_type, companion_burst, companion_mult, companion_bytes, with_companion, companion_of, endpoint_descriptor, kind, is_companion, configuration_value, interface_number, alternate_setting, endpoint_ok, companion_ok, word_ok}
 use Rattle.descriptor.specs.Endpoint.{dci_of, endpoint_type, held_exponent, periodic_interval, isochronous_interval, xhci_interval, is_periodic, periodic_burst, esit_payload}
 use Rattle.descriptor_list.specs.Lookup.{endpoint_run, of_interface, is_alternate, find_from, find_endpoints}
 use Rattle.descriptor_list.specs.Valid.{begins_with_configuration, words_ok, run_fits, runs_fit, configurations, has_interface, last_alternate, interfaces, valid_list}
+use Rattle.descriptor_list.specs.Companions.{joined_word, joined, companions_ok, list_ok, mult_room, follows, paired_after, paired, companions_fit, valid_at}
 use Rattle.context_field.specs.Field.{word_at, put_word, read_field, with_bits, write_field}
 use Rattle.transfer.specs.Routes.{queues, ring_for, route_index, route_of, with_route, without_slot, registered, with_registered, names, old_match, is_free, new_free, replaced, cleared, published, moved, with_replaced}
 use Rattle.record_ring.specs.Rings.{ring_ok, rings_ok, not_among, entered}
 use Rattle.record_ring.specs.Store.{given_ok, among, inserted, sorted, lowest, least, free_rings}
-use Rattle.context_block.specs.Blocks.{changed, ring_fields, error_count, periodic_fields, burst_of, basic_fields, endpoint_fields, word_dci, some_dci, drop_flags}
+use Rattle.context_block.specs.Blocks.{changed, ring_fields, error_count, periodic_fields, burst_of, basic_fields, plain_fields, companion_fields, endpoint_fields, word_dci, some_dci, drop_flags}
 use Rattle.context_block.specs.Flags.{flags_below, flags_of}
 use Rattle.context.specs.Place.{in_block, on_part, write_at, written, block_at, read_at, spacing_of}
 use Rattle.context.specs.Steps.{add_writes, add_all, highest_dci, word_dcis, staying, context_entries, configure_writes}
@@ -42,7 +43,7 @@ use Rattle.device.specs.Check.{check_marked, record_check, disconnect_check, hub
 use Rattle.device.specs.Claim.{claim_check, drawn, pending_of, claim_in, quarantines, claim_record, claim}
 use Rattle.course_disconnect.specs.Disconnect.{disable, disconnect_course}
 use Rattle.device.specs.Disconnect.{all_revoked, unplugged, rings_in_doubt, disconnect_record, disconnect}
-use Rattle.device.specs.Device.{list_of, endpoint_map_in, held_of, quarantined_of, given_of, free_of, with_endpoints, with_held, no_device, with_configuration, with_quarantined, unusable}
+use Rattle.device.specs.Device.{words_of, list_of, endpoint_map_in, held_of, quarantined_of, given_of, free_of, with_endpoints, with_held, no_device, with_configuration, with_quarantined, unusable}
 use Rattle.device.specs.Ask.{ask, returned, ask_of, ask_check, same_ask, current_check, commit}
 use Rattle.device.specs.Left.{refused, marked, ended}
 use Rattle.device.specs.Release.{release_check, release_in, release_record, release}
@@ -68,7 +69,7 @@ wrong ring = wrong_cases ring ++ (wrong_lists ++ (wrong_paths ++ (wrong_orders +
 
 -- What holds and what does not, both computed.
 computed : (ring : ℕ) → (holds ring ≡ true) × (any (wrong ring) ≡ false)
-unfolding hub-route.route_of_ports speed_known hub_info hub_at hub_fits chain_from chain_ok ports clamp route_of route_string think_time direction_in endpoint_number type_number transfer_type endpoint_descriptor dci_of endpoint_type periodic_interval xhci_interval is_periodic periodic_burst esit_payload word_at put_word read_field with_bits write_field queues ring_for changed ring_fields error_count periodic_fields burst_of basic_fields endpoint_fields word_dci some_dci drop_flags in_block on_part write_at written block_at read_at add_writes add_all highest_dci word_dcis staying context_entries configure_writes first_packet_size header_packet_size kind configuration_value interface_number alternate_setting endpoint_ok word_ok endpoint_run of_interface is_alternate find_from find_endpoints begins_with_configuration words_ok run_fits runs_fit configurations has_interface last_alternate interfaces valid_list route_index with_route registered with_registered names old_match is_free new_free replaced cleared published course-end.published moved with_replaced command_word outcome_at on_sent then words result played resume_from resume_stopped_endpoints or_code undo_stops stop_from stop_endpoints stop_each without_slot disable disconnect_course all_revoked unplugged rings_in_doubt disconnect_record disconnect is_up is_unplugged emptied failed number code_of ring_ok rings_ok given_ok among inserted sorted lowest least free_rings no_endpoints with_endpoint is_active handle_of endpoint_map_from endpoint_map_of gathered endpoint_at endpoints_of owners_of owns is_owned tabulated owned_rings queues_of pending_from pending_rings claimed_ring claimed_owner claimed_active claimed_endpoints active_from with_active queue_dcis queue_rings addresses addresses_fit padded address_at dci_at place_of held_in interfaces_of alternates_of is_held alternate_of held_alternate without_setting with_setting found_words setting_words held_words each_setting all_found settings_sound has_place places_of agree each_from each_place owns_places all_own owners_held endpoints_match addresses_free answer_of configure_failed release_context release_publish release_resume release_configure release_course claim_context undo_context claim_publish claim_switch_back claim_undone claim_undo claim_switch claim_resume claim_configure claim_course drop_context restore_context value_context set_evaluate set_published set_publish set_restored set_restore set_switch set_resume set_configure set_course on_check think_value hub_context hub_course hub_left hub_update check_marked record_check disconnect_check is_thought hub_check claim_check drawn pending_of claim_in quarantines claim_record claim flags_below flags_of same_rings ask_of ask_check same_ask current_check commit list_of endpoint_map_in held_of quarantined_of given_of free_of with_endpoints with_held with_configuration with_quarantined unusable refused marked ended release_check release_in release_record release settings_in bare set_record set_configuration slot_sound counts_fit lists_sound rings_of live_rings not_among entered each_once rings_sound store_sound sound spacing_of bring_up_check step control_ring first_configurations nothing_read read_up_to bring_up_settings bring_up_set bring_up_configs bring_up_device bring_up_header bring_up_course brought_record no_device brought_left bring_up elem distinct left controller.configured is_done controlled enabled_after done_word held_queues plain_route is_held_dci without setting_of claimed_setting queues_of_one given_groups chosen drawn_from keeps claimed_groups broken_groups returned_groups freed_groups doubted_groups groups_after effect_of held_after begun anew observed cut_at context_cut called start slot_check device_check queue_check bring_up_configuration bring_up_packet bring_up_address seen address_free record_after held_exponent isochronous_interval is_super exponent_ok nothing_known interface_set configuration_set configuration_read device_after device_told value_read device_heard device_called ask returned answers_of
+unfolding hub-route.route_of_ports speed_known hub_info hub_at hub_fits chain_from chain_ok ports clamp route_of route_string think_time direction_in endpoint_number type_number transfer_type companion_burst companion_mult companion_bytes with_companion companion_of endpoint_descriptor dci_of endpoint_type periodic_interval xhci_interval is_periodic periodic_burst esit_payload word_at put_word read_field with_bits write_field queues ring_for changed ring_fields error_count periodic_fields burst_of basic_fields plain_fields companion_fields endpoint_fields word_dci some_dci drop_flags in_block on_part write_at written block_at read_at add_writes add_all highest_dci word_dcis staying context_entries configure_writes first_packet_size header_packet_size kind is_companion companion_ok configuration_value interface_number alternate_setting endpoint_ok word_ok endpoint_run of_interface is_alternate find_from find_endpoints begins_with_configuration words_ok run_fits runs_fit configurations has_interface last_alternate interfaces valid_list joined_word joined companions_ok list_ok mult_room follows paired_after paired companions_fit valid_at route_index with_route registered with_registered names old_match is_free new_free replaced cleared published course-end.published moved with_replaced command_word outcome_at on_sent then words result played resume_from resume_stopped_endpoints or_code undo_stops stop_from stop_endpoints stop_each without_slot disable disconnect_course all_revoked unplugged rings_in_doubt disconnect_record disconnect is_up is_unplugged emptied failed number code_of ring_ok rings_ok given_ok among inserted sorted lowest least free_rings no_endpoints with_endpoint is_active handle_of endpoint_map_from endpoint_map_of gathered endpoint_at endpoints_of owners_of owns is_owned tabulated owned_rings queues_of pending_from pending_rings claimed_ring claimed_owner claimed_active claimed_endpoints active_from with_active queue_dcis queue_rings addresses addresses_fit padded address_at dci_at place_of held_in interfaces_of alternates_of is_held alternate_of held_alternate without_setting with_setting found_words setting_words held_words each_setting all_found settings_sound has_place places_of agree each_from each_place owns_places all_own owners_held endpoints_match addresses_free answer_of configure_failed release_context release_publish release_resume release_configure release_course claim_context undo_context claim_publish claim_switch_back claim_undone claim_undo claim_switch claim_resume claim_configure claim_course drop_context restore_context value_context set_evaluate set_published set_publish set_restored set_restore set_switch set_resume set_configure set_course on_check think_value hub_context hub_course hub_left hub_update check_marked record_check disconnect_check is_thought hub_check claim_check drawn pending_of claim_in quarantines claim_record claim flags_below flags_of same_rings ask_of ask_check same_ask current_check commit words_of list_of endpoint_map_in held_of quarantined_of given_of free_of with_endpoints with_held with_configuration with_quarantined unusable refused marked ended release_check release_in release_record release settings_in bare set_record set_configuration slot_sound counts_fit lists_sound rings_of live_rings not_among entered each_once rings_sound store_sound sound spacing_of bring_up_check step control_ring first_configurations nothing_read read_up_to bring_up_settings bring_up_set bring_up_configs bring_up_device bring_up_header bring_up_course brought_record no_device brought_left bring_up elem distinct left controller.configured is_done controlled enabled_after done_word held_queues plain_route is_held_dci without setting_of claimed_setting queues_of_one given_groups chosen drawn_from keeps claimed_groups broken_groups returned_groups freed_groups doubted_groups groups_after effect_of held_after begun anew observed cut_at context_cut called start slot_check device_check queue_check bring_up_configuration bring_up_packet bring_up_address seen address_free record_after held_exponent isochronous_interval is_super exponent_ok nothing_known interface_set configuration_set configuration_read device_after device_told value_read device_heard device_called ask returned answers_of
 computed ring = (refl, refl)
 
 pub all_hold_lem : (ring : ℕ) → holds ring ≡ true

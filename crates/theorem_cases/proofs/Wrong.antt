@@ -1,23 +1,25 @@
 -- Cases, lists, paths, orders of checks and answers that somebody could believe: none of them holds (Cases.antt).
-use Rattle.std.specs.Prelude.{ℕ, Bool, true, false, ◌||◌, List, [], ◌∷◌, eqb, Some}
-use Rattle.def.specs.Speed.{HIGH}
+use Rattle.std.specs.Prelude.{ℕ, Bool, true, false, ◌||◌, List, [], ◌∷◌, eqb, Some, None}
+use Rattle.def.specs.Speed.{HIGH, SUPER, SUPER-PLUS}
+use Rattle.descriptor.specs.Word.{with_companion}
 use Rattle.answer.specs.declared.Answer.TheVariants as answer
 use Rattle.transfer.specs.Routes.{route_of}
 use Rattle.record_endpoint.specs.declared.entry.Handle.TheVariants.{Active}
 use Rattle.device.specs.Claim.{claim}
 use Rattle.device.specs.Disconnect.{disconnect}
+use Rattle.device_bring_up.specs.BringUp.{bring_up}
 use Rattle.theorem_slot.specs.Call.{brings_up, claims, releases, configures, updates_hub, disconnects, left}
 use Rattle.theorem_slot.specs.Plain.{up, unplugged}
 use Rattle.theorem_device_state.specs.DeviceState.{unknown, known}
 use Rattle.theorem_calls.specs.Words.{configure, evaluate, stop, resume, set_interface, set_value, disable}
-use Rattle.theorem_cases.specs.Added.{interrupt81}
+use Rattle.theorem_cases.specs.Added.{word_of, interrupt81, companion, plain_companion}
 use Rattle.theorem_cases.specs.Cases as cases-of
 use Rattle.theorem_cases.specs.Cases.{hubs, inner, added, logged, unplugs, answered, case_holds, same_words}
 use Rattle.theorem_cases.specs.InterfacePaths.{not_switched}
 use Rattle.theorem_cases.specs.DevicePaths.{all_dropped, ended}
 use Rattle.theorem_cases.specs.Example.{ctx, log, alone, second}
 use Rattle.theorem_cases.specs.Example as example
-use Rattle.theorem_cases.specs.Faults.{faults, told, try, crowded, faults_hold}
+use Rattle.theorem_cases.specs.Faults.{faults, told, try, crowded, asked_of, fit, faults_hold}
 use Rattle.theorem_cases.specs.Given.{numbers, releasings, configurings}
 use Rattle.theorem_cases.specs.Lists.{ListOfCalls, first_claim, hears, holding, route, alternates, while_up, none, device, listed_holds}
 use Rattle.theorem_cases.specs.Path.{path, path_holds, paths_of, none_missing, done, cut, fails, device_of, table_of}
@@ -56,6 +58,17 @@ wrong_cases ring =
     ∷ case_holds (answered (claim second.device ctx second.routes log (0 ∷ 0 ∷ 7 ∷ 5 ∷ []) 0 1) 13 7)
     -- one with too few free rings, answered as a bring-up with wrong ones
     ∷ case_holds (answered (claim alone.device ctx alone.routes log example.done 0 0) 10 0)
+    -- a companion at High speed, passed over
+    ∷ case_holds (answered (bring_up (example.asked 1 HIGH 8 None example.super_list) ctx example.free log example.done) 0 0)
+    -- one that begins a list, answered as one elsewhere
+    ∷ case_holds (answered (bring_up (example.asked 1 SUPER 8 None (plain_companion ∷ [])) ctx example.free log example.done) 26 0)
+    -- an endpoint without one, accepted at speed 5
+    ∷ case_holds (answered (bring_up (record (example.asked 1 SUPER-PLUS 8 None example.list) { packet = 9 }) ctx example.free log example.done) 0 0)
+    -- one that takes a ring of its own
+    ∷ case_holds (answered cases-of.super_pair 21 0)
+    -- its burst at periodic endpoints only, and its mult at a bulk one
+    ∷ case_holds (added 32 SUPER (with_companion (word_of 1 1 2 64 1 0) plain_companion) ring 0x00000000 0x00400036 0x00000000 3)
+    ∷ case_holds (added 32 SUPER (with_companion (word_of 1 1 2 64 1 0) (companion 5 2 0)) ring 0x00000200 0x00400536 0x00000000 3)
     -- an unplugging that stops the endpoints only
     ∷ case_holds (unplugs (disconnect second.device ctx second.routes log example.done) (0x40300000 ∷ 0xC0000000 ∷ []) 0)
     ∷ []
@@ -143,6 +156,9 @@ wrong_orders =
     -- the number of free rings before the addresses
     faults_hold
     (faults 21 9 (told (claims 2 0) (try crowded 1056 96 64)) (told (claims 2 0) (try held 1056 96 64)))
+    -- companions before the rest of the list
+    ∷ faults_hold
+    (faults 26 4 (told (asked_of 1 SUPER None (16 ∷ []) (0x40000000 ∷ interrupt81 ∷ [])) fit) (told (asked_of 1 SUPER None (16 ∷ []) (0x40000000 ∷ [])) fit))
     -- the alternate before the length of the log
     ∷ faults_hold (faults 8 3 (told (claims 9 0) (try held 1056 96 63)) (told (claims 0 0) (try held 1056 96 63)))
     -- that an interface is claimed before the length of the log

@@ -1,6 +1,6 @@
 -- An endpoint added over zeros: what 01's Dci 3 case is about.
-use Rattle.std.specs.Prelude.{ℕ, ◌+◌, ◌*◌, ◌^◌, Bool, ◌&&◌, List, [], ◌∷◌, eqb, replicate}
-use Rattle.descriptor.specs.Word.{ENDPOINT}
+use Rattle.std.specs.Prelude.{ℕ, ◌+◌, ◌*◌, ◌^◌, Bool, cond, ◌&&◌, List, [], ◌∷◌, eqb, replicate}
+use Rattle.descriptor.specs.Word.{kind, ENDPOINT, COMPANION}
 use Rattle.context_field.specs.Field.{word_at}
 use Rattle.transfer.specs.Routes.{queues}
 use Rattle.context_block.specs.Fields.{CONTEXT-ENTRIES}
@@ -26,6 +26,19 @@ interrupt81 = word_of 1 1 3 64 1 4
 -- The same of 0x8F.
 abbrev pub interrupt8_f : ℕ
 interrupt8_f = word_of 1 15 3 64 1 4
+
+-- A companion of its fields, and one of burst 5 and 0x123 bytes per interval.
+abbrev pub companion : (burst mult bytes : ℕ) → ℕ
+companion burst mult bytes = COMPANION * 2 ^ 30 + burst * 2 ^ 26 + mult * 2 ^ 24 + bytes * 2 ^ 8
+
+abbrev pub plain_companion : ℕ
+plain_companion = companion 5 0 0x123
+
+-- A list with that one directly behind each endpoint word.
+abbrev pub companions_behind : List ℕ → List ℕ
+companions_behind [] = []
+companions_behind (w ∷ l) =
+    cond (eqb (kind w) ENDPOINT) (w ∷ plain_companion ∷ companions_behind l) (w ∷ companions_behind l)
 
 -- The context of a Configure that adds one word, over zeros and with no endpoint in the record.
 abbrev pub one_added : (spacing speed word ring : ℕ) → List ℕ

@@ -1,6 +1,7 @@
 -- 01's worked examples, held against the definitions that the contracts name.
 use Rattle.std.specs.Prelude.{ℕ, ◌+◌, ◌*◌, ◌^◌, Bool, true, false, cond, ◌&&◌, List, [], ◌∷◌, eqb, take, replicate, Option, Some, None}
-use Rattle.def.specs.Speed.{HIGH, SUPER}
+use Rattle.def.specs.Speed.{HIGH, SUPER, SUPER-PLUS}
+use Rattle.descriptor.specs.Word.{with_companion}
 use Rattle.hub.specs.declared.hub_word.HubInfo.{HubInfo}
 use Rattle.hub.specs.Chain.{chain_ok}
 use Rattle.hub.specs.Route.{route_string}
@@ -19,8 +20,8 @@ use Rattle.device.specs.Left.{Left}
 use Rattle.device.specs.Release.{release}
 use Rattle.device.specs.SetConfiguration.{set_configuration}
 use Rattle.device_bring_up.specs.BringUp.{bring_up}
-use Rattle.theorem_cases.specs.Added.{interrupt81, interrupt8_f, added_holds}
-use Rattle.theorem_cases.specs.Example.{list, given, asked, usual, ctx, log, free, done, alone, brought_up, second}
+use Rattle.theorem_cases.specs.Added.{word_of, interrupt81, interrupt8_f, companion, plain_companion, added_holds}
+use Rattle.theorem_cases.specs.Example.{list, super_list, given, asked, usual, ctx, log, free, done, alone, brought_up, second}
 
 -- One example: what is given, and what 01 expects.
 pub data Case : Type 0 where
@@ -121,6 +122,18 @@ first_claim_at spacing =
     let l = bring_up usual (replicate (33 * spacing) 0) free log done in
     claim l.device (replicate (33 * spacing) 0) l.routes log done 0 0
 
+-- The same at SuperSpeed, with its companion.
+abbrev pub super_claim_at : (spacing : ℕ) → Left
+super_claim_at spacing =
+    let l = bring_up (record (asked 1 SUPER 8 None super_list) { packet = 9 }) (replicate (33 * spacing) 0) free log done in
+    claim l.device (replicate (33 * spacing) 0) l.routes log done 0 0
+
+-- One where the device has a ring for control and one for an endpoint: a companion takes none.
+abbrev pub super_pair : Left
+super_pair =
+    let l = bring_up (record (given (32 ∷ 16 ∷ []) 1 SUPER 8 None super_list) { packet = 9 }) ctx free log done in
+    claim l.device ctx l.routes log done 0 0
+
 -- And released again: nothing is left.
 abbrev pub released : (spacing : ℕ) → Left
 released spacing = let l = first_claim_at spacing in release l.device l.ctx l.routes log done 0
@@ -131,7 +144,7 @@ last spacing =
     let l = bring_up (asked 1 HIGH 8 None (0x00400000 ∷ 0x40000000 ∷ interrupt8_f ∷ [])) (replicate (33 * spacing) 0) free log done in
     claim l.device (replicate (33 * spacing) 0) l.routes log done 0 0
 
--- 01's cases, after them a call for each answer from 0 to 19, 21, 22 and 25, and unpluggings. The ring of the added endpoint is any.
+-- 01's cases, after them a call for each answer from 0 to 19, 21, 22, 25 and 26, and unpluggings. The ring of the added endpoint is any.
 abbrev pub cases : (ring : ℕ) → List Case
 cases ring =
     route hubs (Some outer) 7 0x7
@@ -148,6 +161,11 @@ cases ring =
     ∷ added 32 HIGH interrupt8_f ring 0x00030000 0x0040003E 0x00400040 31
     ∷ claimed 32 (first_claim_at 32) 0x00030000 0x0040003E 0x00400040 3
     ∷ claimed 64 (first_claim_at 64) 0x00030000 0x0040003E 0x00400040 3
+    ∷ added 32 SUPER (with_companion (word_of 1 1 1 64 1 4) (companion 5 2 0x123)) ring 0x00030200 0x00400528 0x01230123 3
+    ∷ added 64 SUPER-PLUS (with_companion (word_of 1 1 1 64 1 4) (companion 5 2 0x123)) ring 0x00030200 0x00400528 0x01230123 3
+    ∷ added 32 SUPER (with_companion (word_of 1 1 2 64 1 0) plain_companion) ring 0x00000000 0x00400536 0x00000000 3
+    ∷ claimed 32 (super_claim_at 32) 0x00030000 0x0040053E 0x01230123 3
+    ∷ claimed 64 (super_claim_at 64) 0x00030000 0x0040053E 0x01230123 3
     ∷ has_entries 32 (released 32) 1
     ∷ has_entries 64 (released 64) 1
     ∷ has_entries 32 (last 32) 31
@@ -160,6 +178,7 @@ cases ring =
     ∷ answered (bring_up usual ctx (replicate 63 0) log done) 2 0
     ∷ answered (bring_up usual ctx free (replicate 63 0) done) 3 0
     ∷ answered (bring_up (asked 1 HIGH 8 None (0xC0000000 ∷ [])) ctx free log done) 4 0
+    ∷ answered (bring_up (asked 1 HIGH 8 None super_list) ctx free log done) 4 0
     ∷ answered (bring_up (asked 1 HIGH 8 (Some 0) list) ctx free log done) 5 0
     ∷ answered (bring_up (asked 1 6 8 None list) ctx free log done) 6 0
     ∷ answered (hub_update second.device ctx second.routes log done 4 false 1) 7 0
@@ -174,12 +193,15 @@ cases ring =
     ∷ answered (bring_up (asked 1 HIGH 4 None list) ctx free log done) 16 0
     ∷ answered (bring_up usual ctx brought_up.routes log done) 17 0
     ∷ answered (release second.device ctx free log done 0) 18 0
-    ∷ answered (bring_up (asked 1 SUPER 8 None list) ctx free log done) 19 0
+    ∷ answered (bring_up (asked 1 SUPER 8 None super_list) ctx free log done) 19 0
+    ∷ answered super_pair 0 0
     ∷ answered (claim alone.device ctx alone.routes log done 0 0) 21 0
     ∷ answered (commit second.device ctx second.routes log done (asking 0 1 0 0 [])) 22 0
     ∷ answered (commit alone.device ctx alone.routes log done (asking 0 0 0 0 [])) 21 0
     ∷ answered (release second.device ctx second.routes log done 1) 25 0
     ∷ answered (release second.device ctx second.routes log done 9) 25 0
+    ∷ answered (bring_up (asked 1 SUPER 8 None list) ctx free log done) 26 0
+    ∷ answered (bring_up (asked 1 SUPER-PLUS 8 None list) ctx free log done) 26 0
     ∷ unplugs (disconnect second.device ctx second.routes log done) (0x40100000 ∷ 0x40300000 ∷ 0xC0000000 ∷ []) 0
     ∷ unplugs (disconnect second.device ctx second.routes log (0 ∷ 7 ∷ 9 ∷ [])) (0x40100000 ∷ 0x40300000 ∷ 0xC0000000 ∷ []) 14
     ∷ unplugs (disconnect second.device ctx second.routes log (5 ∷ 0 ∷ [])) (0x40100000 ∷ 0x40300000 ∷ 0xC0000000 ∷ []) 15

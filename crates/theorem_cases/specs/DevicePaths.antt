@@ -7,6 +7,7 @@ use Rattle.theorem_slot.specs.Call.{brings_up, configures, updates_hub, disconne
 use Rattle.theorem_device_state.specs.DeviceState.{Known, unknown, known}
 use Rattle.theorem_calls.specs.Words.{address, evaluate, configure, stop, resume, set_value, read_header, read_configuration, read_device, read_config, disable}
 use Rattle.theorem_cases.specs.Lists.{route}
+use Rattle.theorem_cases.specs.Added.{companions_behind}
 use Rattle.theorem_cases.specs.Path.{Sent, done, fails, cut, Standing, Path, path, Paths, paths_of}
 use Rattle.theorem_cases.specs.Slot.{first_words, all_words, rings, bring_up_with, usual_bring_up, standing, idle_as, idle, held_as, held, kept, lost, bare, with_word, with_value, first_alternates, telling, told, unheard, gone}
 use Rattle.theorem_cases.specs.InterfacePaths.{one, second_fails, broken}
@@ -261,7 +262,7 @@ unplugging_table =
 abbrev pub other_device_paths : List Paths
 other_device_paths =
     paths_of (unplugged []) (brings_up (bring_up_with HIGH 7 64 all_words)) (one (path (addressed []) answer.ShortHeader nothing_read))
-    ∷ paths_of (unplugged []) (brings_up (bring_up_with SUPER 8 8 all_words))
+    ∷ paths_of (unplugged []) (brings_up (bring_up_with SUPER 8 8 (companions_behind all_words)))
     (one (path (addressed []) answer.PacketExponent (read_as SUPER false 0 [] unknown)))
     ∷ paths_of (unplugged []) (brings_up (bring_up_with HIGH 8 64 [])) (one (path (device_read []) answer.Accepted no_list))
     ∷ paths_of bare (configures 2) (one (path (done configure ∷ done (set_value 2) ∷ done evaluate ∷ []) answer.Accepted (with_value 2 idle)))

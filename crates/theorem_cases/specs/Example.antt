@@ -5,11 +5,15 @@ use Rattle.course_init.specs.Reading.{BringUp}
 use Rattle.device_bring_up.specs.BringUp.{bring_up}
 use Rattle.device.specs.Left.{Left}
 use Rattle.device.specs.Claim.{claim}
-use Rattle.theorem_cases.specs.Added.{interrupt81}
+use Rattle.theorem_cases.specs.Added.{interrupt81, companions_behind}
 
 -- Value 1; interface 0 with alternates 0 and 1, interface 1 with alternate 0, each with 0x81.
 abbrev pub list : List ℕ
 list = 0x00400000 ∷ 0x40000000 ∷ interrupt81 ∷ 0x40004000 ∷ interrupt81 ∷ 0x40400000 ∷ interrupt81 ∷ []
+
+-- With the companions that speeds 4 and 5 want.
+abbrev pub super_list : List ℕ
+super_list = companions_behind list
 
 -- A bring-up on a slot of 1 with some rings, and with three.
 abbrev pub given : (rings : List ℕ) (slot speed header : ℕ) (parent : Option ℕ) (list : List ℕ) → BringUp

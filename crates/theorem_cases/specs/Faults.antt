@@ -1,7 +1,7 @@
 -- The order of checks, computed: of each two that follow each other, a call in which both faults are, answered with the first one's
 -- number, and the same call with the first fault mended, answered with the second one's. 01, "Who can cause an answer".
 use Rattle.std.specs.Prelude.{ℕ, ◌≡◌, Bool, true, false, ◌&&◌, List, [], ◌∷◌, ◌++◌, eqb, leb, length, take, replicate, Option, Some, None}
-use Rattle.def.specs.Speed.{HIGH}
+use Rattle.def.specs.Speed.{HIGH, SUPER, SUPER-PLUS}
 use Rattle.answer.specs.Answer.{number}
 use Rattle.descriptor_list.specs.Lookup.{find_endpoints}
 use Rattle.record_endpoint.specs.declared.endpoint_map.EndpointMap.{EndpointMap}
@@ -10,6 +10,7 @@ use Rattle.record_settings.specs.Match.{addresses_free}
 use Rattle.device.specs.Ask.{asking, ask}
 use Rattle.record_endpoint.specs.declared.entry.Handle.TheVariants.{Active}
 use Rattle.theorem_slot.specs.Call.{Asked, brings_up, claims, commits, releases, configures, updates_hub, disconnects, left}
+use Rattle.theorem_cases.specs.Added.{interrupt81, plain_companion}
 use Rattle.theorem_cases.specs.Path.{Standing, device_of, table_of}
 use Rattle.theorem_cases.specs.Slot.{held, lost, gone, first_alternates}
 
@@ -142,8 +143,11 @@ right = asked_of 1 HIGH None (16 ∷ []) []
 abbrev pub fit : Try
 fit = try empty 1056 96 64
 
--- The faults: slot 3 of 2, speed 6, a list that begins with an alternate, a parent that is not in the list of hubs, ring 8, and a slot
--- that has a control route.
+-- The faults: slot 3 of 2, speed 6, a list that begins with an alternate or a companion, an endpoint without a companion or a companion
+-- without an endpoint, a parent that is not in the list of hubs, ring 8, and a slot that has a control route.
+abbrev pub without : List ℕ
+without = 0 ∷ 0x40000000 ∷ interrupt81 ∷ []
+
 abbrev pub bring_up_faults : List Faults
 bring_up_faults =
     faults 11 1 (told (asked_of 3 HIGH None (16 ∷ []) []) (try empty 1055 96 64)) (told right (try empty 1055 96 64))
@@ -151,6 +155,10 @@ bring_up_faults =
     ∷ faults 2 3 (told right (try empty 1056 97 63)) (told right (try empty 1056 96 63))
     ∷ faults 3 6 (told (asked_of 1 6 None (16 ∷ []) []) (try empty 1056 96 63)) (told (asked_of 1 6 None (16 ∷ []) []) fit)
     ∷ faults 6 4 (told (asked_of 1 6 None (16 ∷ []) (0x40000000 ∷ [])) fit) (told (asked_of 1 HIGH None (16 ∷ []) (0x40000000 ∷ [])) fit)
+    ∷ faults 4 26 (told (asked_of 1 SUPER None (16 ∷ []) (0x40000000 ∷ interrupt81 ∷ [])) fit) (told (asked_of 1 SUPER None (16 ∷ []) without) fit)
+    ∷ faults 4 26 (told (asked_of 1 SUPER-PLUS None (16 ∷ []) (plain_companion ∷ [])) fit)
+    (told (asked_of 1 SUPER-PLUS None (16 ∷ []) (0 ∷ plain_companion ∷ [])) fit)
+    ∷ faults 26 5 (told (asked_of 1 SUPER (Some 0) (16 ∷ []) without) fit) (told (asked_of 1 SUPER (Some 0) (16 ∷ []) []) fit)
     ∷ faults 4 5 (told (asked_of 1 HIGH (Some 0) (16 ∷ []) (0x40000000 ∷ [])) fit) (told (asked_of 1 HIGH (Some 0) (16 ∷ []) []) fit)
     ∷ faults 5 10 (told (asked_of 1 HIGH (Some 0) (8 ∷ []) []) fit) (told (asked_of 1 HIGH None (8 ∷ []) []) fit)
     ∷ faults 10 17 (told (asked_of 1 HIGH None (8 ∷ []) []) (try held 1056 96 64)) (told right (try held 1056 96 64))

@@ -8,7 +8,7 @@ use Rattle.device.specs.Ask.{asking}
 use Rattle.theorem_slot.specs.Call.{Buffers, Asked, brings_up, claims, commits, releases, configures, updates_hub, disconnects, left}
 use Rattle.theorem_calls.specs.Possible.{answers_of}
 use Rattle.theorem_cases.specs.Cases.{same_words}
-use Rattle.theorem_cases.specs.Example.{list, given, asked, usual, ctx, log, free, done, alone, brought_up, second}
+use Rattle.theorem_cases.specs.Example.{list, super_list, given, asked, usual, ctx, log, free, done, alone, brought_up, second}
 
 -- What is lent: with some outcomes; with all done; and with no context, or no log.
 abbrev pub lent : List ℕ → Buffers
@@ -40,6 +40,7 @@ bring_ups =
     ∷ left (brings_up usual) (lent []) no_device free
     ∷ left (brings_up (asked 1 HIGH 9 None list)) enough no_device free
     ∷ left (brings_up usual) enough no_device brought_up.routes
+    ∷ left (brings_up (asked 1 SUPER 8 None super_list)) enough no_device free
     ∷ left (brings_up (asked 1 SUPER 8 None list)) enough no_device free
     ∷ []
 

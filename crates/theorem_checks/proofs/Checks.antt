@@ -42,7 +42,7 @@ use Rattle.record_settings.proofs.Laws.{has_place_lem, setting_place, free_at}
 use Rattle.record_checks.specs.Think.{is_thought, think_check}
 use Rattle.course_init.specs.Reading.{BringUp, control_ring}
 use Rattle.device.specs.declared.record.Device.{Device}
-use Rattle.device.specs.Device.{list_of, endpoint_map_in, held_of, quarantined_of, given_of, free_of}
+use Rattle.device.specs.Device.{words_of, list_of, endpoint_map_in, held_of, quarantined_of, given_of, free_of}
 use Rattle.device.specs.Sound.{live_rings, sound}
 use Rattle.device.specs.Left.{Left, refused, ended}
 use Rattle.device.specs.Check.{record_check, disconnect_check, hub_check}
@@ -59,11 +59,12 @@ use Rattle.theorem_slot.specs.Answers.{is_refused, refused_record}
 use Rattle.theorem_slot.proofs.Ends.{bring_up_sends, claim_sends, release_sends, set_sends, hub_sends, disconnect_sends}
 use Rattle.theorem_slot.proofs.Returned.{sound_returned}
 use Rattle.theorem_ask.proofs.Promises.{same_ask_self, same_ask_told}
-use Rattle.theorem_checks.specs.Descriptors.{address_of, ValidList, Listed}
+use Rattle.theorem_checks.specs.Descriptors.{address_of, IsSuper, ListFits, CompanionsFit, Listed}
 use Rattle.theorem_checks.specs.Hubs.{ChainFits}
-use Rattle.theorem_checks.specs.Record.{words_in, EndpointAt, EndpointRing, IsFree, RingsFit, FreeRings}
+use Rattle.theorem_checks.specs.Record.{list_in, EndpointAt, EndpointRing, IsFree, RingsFit, FreeRings}
 use Rattle.theorem_checks.specs.Checks.{Condition, asked, AllHold, FirstFails, Gives, Fit, ContextFits, RoutesFit, fit_conditions, IsListed, NoneOwned, EnoughFree, claim_conditions, WouldReturn, HoldsSome, release_conditions, ThinkFits, hub_conditions, SlotFits, bring_up_conditions, conditions, Judged, PassExactly, AskJudged, AskPasses}
-use Rattle.theorem_checks.proofs.Descriptors.{valid_tells, lookup_tells}
+use Rattle.theorem_checks.proofs.Descriptors.{lookup_tells}
+use Rattle.theorem_checks.proofs.Companions.{list_tells, companions_tell}
 use Rattle.theorem_checks.proofs.Endpoints.{ring_elem, elem_ring}
 use Rattle.theorem_checks.proofs.Hubs.{chain_tells}
 use Rattle.theorem_checks.proofs.Numbers.{differ_distinct, distinct_differ, each_elem, elem_each}
@@ -156,14 +157,14 @@ module _ (d : Device) (i a : ℕ) where
   words = setting_words (list_of d) i a
 
   found_read : is_found (find_endpoints (list_of d) i a) ≡ true → IsListed d i a
-  unfolding list_of
+  unfolding list_of words_of
   found_read e = record { words = words; listed = (lookup_tells (list_of d) i a).found e }
 
-  pub listed_is : (ws : List ℕ) → Listed (words_in d) i a ws → (is_found (find_endpoints (list_of d) i a) ≡ true) × (words ≡ ws)
-  unfolding list_of
+  pub listed_is : (ws : List ℕ) → Listed (list_in d) i a ws → (is_found (find_endpoints (list_of d) i a) ≡ true) × (words ≡ ws)
+  unfolding list_of words_of
   listed_is ws l = (lookup_tells (list_of d) i a).listed ws l
 
-  pub listed_words : IsListed d i a → Listed (words_in d) i a words
+  pub listed_words : IsListed d i a → Listed (list_in d) i a words
   listed_words l = rw (listed_is l.words l.listed).1 l.listed
 
   module _ (is_sound : sound d ≡ true) where
@@ -466,14 +467,16 @@ bring_up_judged a ctx routes log =
     (λ h4.
     next _ ((1 ≤ a.speed) × (a.speed ≤ 5)) answer.Speed _ _ (speed_read a.speed) (speed_made a.speed)
     (λ h5.
-    next _ (ValidList a.list) answer.DescriptorList _ _ (valid_tells a.list).0 (valid_tells a.list).1
+    next _ (ListFits a.speed a.list) answer.DescriptorList _ _ (list_tells a.speed a.list).0 (list_tells a.speed a.list).1
     (λ h6.
+    next _ (IsSuper a.speed → CompanionsFit a.list) answer.Companion _ _ (companions_tell a.speed a.list).0 (companions_tell a.speed a.list).1
+    (λ h26.
     next _ (ChainFits a.hubs a.parent) answer.HubChain _ _ (chain_tells a.hubs a.parent).0 (chain_tells a.hubs a.parent).1
     (λ h7.
     next _ (RingsFit a.rings) answer.Rings _ _ (rings_fit_read a.rings) (rings_fit_made a.rings)
     (λ h8.
     next _ (get_or routes (32 * a.slot + 1) 0 ≡ 0) answer.QueueFull _ _ (eqb-true (get_or routes (32 * a.slot + 1) 0) 0)
-    (eq-eqb (get_or routes (32 * a.slot + 1) 0) 0) (λ h9. none)))))))))
+    (eq-eqb (get_or routes (32 * a.slot + 1) 0) 0) (λ h9. none))))))))))
 
 -- The calls.
 unfoldable all_refuse : List Condition → Bool

@@ -367,12 +367,12 @@ interfaces_made n l a =
     (at_most_at n (HasInterface l) (interface_numbers l) a (numbers_distinct l) (λ x e. has_read x l (numbers_only x l e)))
 
 -- Valid lists.
-begins_read : (l : List ℕ) → begins_with_configuration l ≡ true → 0 < length l → IsConfiguration (get_or l 0 0)
+pub begins_read : (l : List ℕ) → begins_with_configuration l ≡ true → 0 < length l → IsConfiguration (get_or l 0 0)
 unfolding begins_with_configuration kind
 begins_read [] e h = absurd (omega arith)
 begins_read (w ∷ l) e h = eqb-true (bits 30 2 w) 0 e
 
-begins_made : (l : List ℕ) → (0 < length l → IsConfiguration (get_or l 0 0)) → begins_with_configuration l ≡ true
+pub begins_made : (l : List ℕ) → (0 < length l → IsConfiguration (get_or l 0 0)) → begins_with_configuration l ≡ true
 unfolding begins_with_configuration kind
 begins_made [] f = refl
 begins_made (w ∷ l) f = eq-eqb (bits 30 2 w) 0 (f (omega arith))

@@ -1,4 +1,5 @@
 pub mod Checks
+pub mod Companions
 pub mod Descriptors
 mod Endpoints
 pub mod Hubs

@@ -17,6 +17,8 @@ use Rattle.def.specs.Speed.{speed_known}
 use Rattle.descriptor.specs.Word.{direction_in, endpoint_number, endpoint_descriptor}
 use Rattle.descriptor_list.specs.Lookup.{find_endpoints}
 use Rattle.descriptor_list.specs.Valid.{valid_list}
+use Rattle.descriptor_list.specs.Companions.{list_ok, companions_fit, valid_at}
+use Rattle.descriptor_list.proofs.Companions.{valid_promise}
 use Rattle.record_ring.specs.Rings.{ring_ok, not_among}
 use Rattle.record_ring.specs.Store.{given_ok}
 use Rattle.record_ring.proofs.Laws.{ring_nonzero}
@@ -36,12 +38,13 @@ use Rattle.record_checks.specs.Rings.{each_once}
 use Rattle.record_checks.proofs.Together.{rings_ok_elem, rings_ok_each, once_live, once_kept, once_from, rings_sound as rings_make, both_ways}
 use Rattle.record_checks.proofs.Stored.{store_sound as store_make}
 use Rattle.device.specs.declared.record.Device.{Device}
-use Rattle.device.specs.Device.{list_of, endpoint_map_in, held_of, quarantined_of, given_of}
+use Rattle.device.specs.Device.{words_of, list_of, endpoint_map_in, held_of, quarantined_of, given_of}
 use Rattle.device.specs.Sound.{slot_sound, counts_fit, lists_sound, live_rings, rings_sound, store_sound, sound}
 use Rattle.device.proofs.Facts.{SoundFacts, sound_facts, none_quarantined}
 use Rattle.theorem_checks.specs.Descriptors.{address_of, Listed}
-use Rattle.theorem_checks.specs.Record.{words_in, EndpointAt, HasEndpoint, Holds, Stands, Belongs, IsRing, EndpointRing, Entry, Live, Quarantined, IsGiven, InUse, RingsFit, SoundRecord, SoundTells}
-use Rattle.theorem_checks.proofs.Descriptors.{valid_tells, lookup_tells}
+use Rattle.theorem_checks.specs.Record.{words_in, list_in, EndpointAt, HasEndpoint, Holds, Stands, Belongs, IsRing, EndpointRing, Entry, Live, Quarantined, IsGiven, InUse, RingsFit, SoundRecord, SoundTells}
+use Rattle.theorem_checks.proofs.Descriptors.{lookup_tells}
+use Rattle.theorem_checks.proofs.Companions.{list_tells, companions_tell}
 use Rattle.theorem_checks.proofs.Endpoints.{ring_at_lem, rings_count, rings_made, one_of, inside_lem, ring_elem, elem_ring, fit_place, fit_differ, fit_made}
 use Rattle.theorem_checks.proofs.Numbers.{differ_distinct, distinct_differ, at_most_by, at_most_at}
 use Rattle.theorem_checks.proofs.Settings.{HeldAt, held_read, held_made, apart_read, apart_made, held_one}
@@ -223,8 +226,8 @@ module _ (d : Device) (e : sound d ≡ true) where
 
   -- The words of a held setting.
   pub held_listed : (i : ℕ) → is_held i (held_of d) ≡ true →
-      Listed (words_in d) i (alternate_of i (held_of d)) (setting_words (list_of d) i (alternate_of i (held_of d)))
-  unfolding list_of
+      Listed (list_in d) i (alternate_of i (held_of d)) (setting_words (list_of d) i (alternate_of i (held_of d)))
+  unfolding list_of words_of
   held_listed i h =
       (lookup_tells (list_of d) i (alternate_of i (held_of d))).found
       (held_found (list_of d) (held_of d) (sound_found (list_of d) (held_of d) f.settings) i h)
@@ -340,7 +343,7 @@ module _ (d : Device) (e : sound d ≡ true) where
   interfaces_apart = apart_read d.held_count d.interfaces d.alternates (sound_distinct (list_of d) (held_of d) f.settings)
 
   sound_read : SoundRecord d
-  unfolding list_of quarantined_of given_of elem
+  unfolding words_of valid_at quarantined_of given_of elem
   sound_read =
       record {
         slot_low = f.place.slot_low;
@@ -354,7 +357,8 @@ module _ (d : Device) (e : sound d ≡ true) where
         settings_fit = f.counts.held;
         quarantined_fit = f.counts.quarantined;
         given_fit = f.counts.given;
-        list = (valid_tells (list_of d)).0 f.list;
+        list = (list_tells d.port_speed (words_of d)).0 (and_left (list_ok d.port_speed (words_of d)) _ f.valid);
+        companions = (companions_tell d.port_speed (words_of d)).0 (and_right (list_ok d.port_speed (words_of d)) _ f.valid);
         interfaces = interfaces_apart;
         settings = setting_stands;
         one = λ j k address owner ring other_owner other_ring t u.
@@ -396,17 +400,21 @@ module _ (d : Device) (s : SoundRecord d) where
         le-leb d.given_count 64 s.given_fit,
       )
 
+  listed : valid_at d.port_speed (words_of d) ≡ true
+  unfolding words_of valid_at
+  listed = rw ((list_tells d.port_speed (words_of d)).1 s.list, (companions_tell d.port_speed (words_of d)).1 s.companions)
+
   valid : valid_list (list_of d) ≡ true
   unfolding list_of
-  valid = (valid_tells (list_of d)).1 s.list
+  valid = valid_promise d.port_speed (words_of d) listed
 
   held_distinct : distinct (interfaces_of (held_of d)) ≡ true
   unfolding held_of
   held_distinct = apart_made d.held_count d.interfaces d.alternates s.interfaces
 
-  setting_is : (i a : ℕ) (words : List ℕ) → Listed (words_in d) i a words →
+  setting_is : (i a : ℕ) (words : List ℕ) → Listed (list_in d) i a words →
       (is_found (find_endpoints (list_of d) i a) ≡ true) × (setting_words (list_of d) i a ≡ words)
-  unfolding list_of
+  unfolding list_of words_of
   setting_is i a words l = (lookup_tells (list_of d) i a).listed words l
 
   held_stands : (i : ℕ) → is_held i (held_of d) ≡ true → Stands d i (alternate_of i (held_of d))
@@ -500,8 +508,8 @@ module _ (d : Device) (s : SoundRecord d) where
       (record { owned = λ i p h small. both_ways _ _ (owns_word i p h small) (word_owns i p h small); held = owner_is_held })
 
   lists_ok : lists_sound d ≡ true
-  unfolding lists_sound
-  lists_ok = rw (valid, settings_ok, fits, endpoints_ok)
+  unfolding lists_sound list_of
+  lists_ok = rw (listed, settings_ok, fits, endpoints_ok)
 
   live_distinct : distinct (live_rings d) ≡ true
   unfolding live_rings distinct elem

@@ -13,12 +13,12 @@ use borrow.Author.Tests.{eqb-true, eqb-false, ne_eqb, le-leb, leb-true, ltb-true
 use lib.Dec.{eqb, leb, ltb}
 use lib.ListN.{length, get_or}
 use Rattle.laws.proofs.Tests.{and_left, and_right}
-use Rattle.laws.proofs.Cases.{Decided, decided}
+use Rattle.laws.proofs.Cases.{Decided, decided, false_if}
 use Rattle.laws.proofs.Computed.{all_below}
-use Rattle.def.specs.Speed.{first_packet_size}
+use Rattle.def.specs.Speed.{is_super, first_packet_size}
 use Rattle.descriptor.specs.declared.TransferType.{TransferType}
 use Rattle.descriptor.specs.declared.TransferType.TheVariants.{Isochronous, Bulk, Interrupt}
-use Rattle.descriptor.specs.Word.{direction_in, endpoint_number, type_number, transfer_type, endpoint_descriptor}
+use Rattle.descriptor.specs.Word.{direction_in, endpoint_number, type_number, transfer_type, companion_of, companion_burst, endpoint_descriptor}
 use Rattle.descriptor.specs.Endpoint.{endpoint_type, halvings, held_exponent, periodic_interval, isochronous_interval, xhci_interval, is_periodic, periodic_burst}
 use Rattle.hub.specs.HubWord.{hub_info, hub_at}
 use Rattle.hub.specs.declared.translator.Translator.{Translator}
@@ -28,9 +28,10 @@ use Rattle.hub.specs.Translator.{nearest_high, translator_of}
 use Rattle.context_field.specs.declared.Field.{Field}
 use Rattle.context_block.specs.Fields.{INTERVAL, EP-TYPE, MAX-BURST-SIZE}
 use Rattle.context_block.specs.Blocks.{word_dci}
-use Rattle.context_block.specs.Promises.{Holds, ring_reads, endpoint_reads}
+use Rattle.context_block.specs.FieldWrite.{FieldWrite}
+use Rattle.context_block.specs.Promises.{Holds, ring_reads, plain_reads, companion_reads, endpoint_reads}
 use Rattle.context.specs.Place.{read_at}
-use Rattle.theorem_checks.specs.Descriptors.{bits, address_of}
+use Rattle.theorem_checks.specs.Descriptors.{bits, address_of, IsSuper}
 use Rattle.theorem_checks.specs.Hubs.{ParentOf, Chain}
 use Rattle.theorem_checks.specs.Values.{FirstSizes, type_of, EndpointValues, ConfigureValues, IsHigh, port_on, IsAt, IsNone, Nearest, TranslatorTells, Nibbles, RouteTells}
 use Rattle.theorem_checks.proofs.Descriptors.{word_dci_is, no_dci}
@@ -111,11 +112,11 @@ module _ (byte speed n : ℕ) where
   burst_here packets old (inl e) s = rw (iso n e, s) refl
   burst_here packets old (inr e) s = rw (interrupt n e, s) refl
 
-  no_burst_here : (packets old : ℕ) → (n ≡ 1) ⊎ (n ≡ 3) → (speed ≡ 3 → ⊥) →
+  no_burst_here : (packets old : ℕ) → (n ≡ 1) ⊎ (n ≡ 3) → speed ≤ 2 →
       cond (is_periodic (transfer_type n)) (periodic_burst (transfer_type n) packets speed) old ≡ 0
   unfolding is_periodic periodic_burst
-  no_burst_here packets old (inl e) s = rw (iso n e, ne_eqb speed 3 s) refl
-  no_burst_here packets old (inr e) s = rw (interrupt n e, ne_eqb speed 3 s) refl
+  no_burst_here packets old (inl e) s = rw (iso n e, ne_eqb speed 3 (λ z. omega arith)) refl
+  no_burst_here packets old (inr e) s = rw (interrupt n e, ne_eqb speed 3 (λ z. omega arith)) refl
 
 abbrev power_test : ℕ → Bool
 power_test b = leb (2 ^ (3 + halvings 8 b)) (8 * max b 1) && ltb (8 * max b 1) (2 ^ (3 + halvings 8 b + 1))
@@ -126,14 +127,35 @@ power b h =
     let t = all_below power_test 256 refl b h in
     (leb-true _ _ (and_left (leb (2 ^ (3 + halvings 8 b)) (8 * max b 1)) _ t), ltb-true _ _ (and_right (leb (2 ^ (3 + halvings 8 b)) (8 * max b 1)) _ t))
 
+-- At speeds 4 and 5, and below.
+at_super : (speed : ℕ) → IsSuper speed → is_super speed ≡ true
+unfolding is_super
+at_super speed s = rw (le-leb 4 speed s.0, le-leb speed 5 s.1)
+
+below_super : (speed : ℕ) → speed ≤ 3 → is_super speed ≡ false
+unfolding is_super
+below_super speed h = false_if (leb 4 speed && leb speed 5) (λ e. let l = leb-true 4 speed (and_left (leb 4 speed) _ e) in omega (arith, l))
+
+plain_holds : (block : List ℕ) (b : Bool) (x y : List FieldWrite) → b ≡ false → Holds block (cond b x y) → Holds block y
+plain_holds block b x y e h = rw e at h
+
+companion_holds : (block : List ℕ) (b : Bool) (x y : List FieldWrite) → b ≡ true → Holds block (cond b x y) → Holds block x
+companion_holds block b x y e h = rw e at h
+
+-- A companion's bits, in the word that is joined of both.
+companion_bits : (w : ℕ) → w / 2 ^ 32 / 2 ^ 26 % 2 ^ 4 ≡ bits (32 + 26) 4 w
+companion_bits w = omega arith
+
 -- What a block reads.
 values :
     (speed w old : ℕ) (reads : Field → ℕ) → 1 ≤ type_of w →
     reads INTERVAL ≡ xhci_interval (bits 2 8 w) (transfer_type (type_of w)) speed →
     reads EP-TYPE ≡ endpoint_type (transfer_type (type_of w)) (address_of w) →
-    reads MAX-BURST-SIZE ≡ cond (is_periodic (transfer_type (type_of w))) (periodic_burst (transfer_type (type_of w)) (bits 10 2 w) speed) old →
+    (is_super speed ≡ false →
+    reads MAX-BURST-SIZE ≡ cond (is_periodic (transfer_type (type_of w))) (periodic_burst (transfer_type (type_of w)) (bits 10 2 w) speed) old) →
+    (is_super speed ≡ true → reads MAX-BURST-SIZE ≡ bits (32 + 26) 4 w) →
     EndpointValues speed w reads
-values speed w old reads h i t b =
+values speed w old reads h i t b c =
     let byte = bits 2 8 w in
     let n = type_of w in
     let four : n < 4 = omega arith in
@@ -146,16 +168,19 @@ values speed w old reads h i t b =
       full = λ e s. i ∙ full_here byte speed n e s;
       not_above = λ m. rw (i ∙ halved byte speed n m) p.0;
       highest = λ m. rw (i ∙ halved byte speed n m) p.1;
-      burst = λ k s. b ∙ burst_here byte speed n (bits 10 2 w) old k s;
-      no_burst = λ k s. b ∙ no_burst_here byte speed n (bits 10 2 w) old k s;
+      burst = λ k s. b (below_super speed (omega (arith, s))) ∙ burst_here byte speed n (bits 10 2 w) old k s;
+      companion_burst = λ s. c (at_super speed s);
+      no_burst = λ k s. b (below_super speed (omega (arith, s))) ∙ no_burst_here byte speed n (bits 10 2 w) old k s;
     }
 
 pub configure_values : ConfigureValues
-unfolding read_at Holds ring_reads endpoint_reads endpoint_descriptor direction_in endpoint_number type_number
+unfolding read_at Holds ring_reads plain_reads companion_reads endpoint_reads endpoint_descriptor direction_in endpoint_number type_number companion_of companion_burst
 configure_values s speed interface alternate dropped added queues dcis was ctx r xs ys w e last typed =
     let named = (r.last xs ys w e (no_dci w ys last)).named in
     let v : EndpointValues speed w (read_at s ctx (word_dci w + 1)) =
-    values speed w _ (read_at s ctx (word_dci w + 1)) typed named.0 named.1.1.0 named.1.1.1.1.1.1.1.0 in
+    values speed w _ (read_at s ctx (word_dci w + 1)) typed named.0 named.1.1.0
+    (λ f. (plain_holds _ (is_super speed) _ _ f named.1.1.1.1.1.1.1).0)
+    (λ f. (companion_holds _ (is_super speed) _ _ f named.1.1.1.1.1.1.1).0 ∙ companion_bits w) in
     rw (word_dci_is w) at v
 
 -- Translators.

@@ -9,9 +9,9 @@ use Rattle.device.specs.Ask.{Ask, no_ask, ask}
 use Rattle.device.specs.Left.{Left, refused}
 use Rattle.theorem_slot.specs.Call.{Buffers, Asked, brings_up, claims, commits, releases, configures, updates_hub, disconnects, Call, left}
 use Rattle.theorem_slot.specs.Answers.{refused_record}
-use Rattle.theorem_checks.specs.Descriptors.{address_of, ValidList, Listed}
+use Rattle.theorem_checks.specs.Descriptors.{address_of, IsSuper, ListFits, CompanionsFit, Listed}
 use Rattle.theorem_checks.specs.Hubs.{ChainFits}
-use Rattle.theorem_checks.specs.Record.{words_in, EndpointAt, Holds, SoundRecord, RingsFit, FreeRings}
+use Rattle.theorem_checks.specs.Record.{list_in, EndpointAt, Holds, SoundRecord, RingsFit, FreeRings}
 
 -- What one check asks, and the answer where that does not hold.
 pub record Condition : Type 1 where
@@ -61,17 +61,17 @@ fit_conditions mark d ctx routes log own =
 -- 8: lookup finds the alternate.
 pub record IsListed (d : Device) (interface alternate : ℕ) : Type 0 where
   pub words : List ℕ
-  pub listed : Listed (words_in d) interface alternate words
+  pub listed : Listed (list_in d) interface alternate words
 
 -- 9: no address of it is another interface's.
 abbrev pub NoneOwned : Device → ℕ → ℕ → Type 0
 NoneOwned d interface alternate =
-    (words : List ℕ) → Listed (words_in d) interface alternate words →
+    (words : List ℕ) → Listed (list_in d) interface alternate words →
     (k : ℕ) → k < length words → (j owner ring : ℕ) → EndpointAt d j (address_of (get_or words k 0)) owner ring → owner ≡ interface
 
 -- 21: as many rings are free as it has endpoint words.
 abbrev pub EnoughFree : Device → ℕ → ℕ → Type 0
-EnoughFree d interface alternate = (words : List ℕ) → Listed (words_in d) interface alternate words → FreeRings d (length words)
+EnoughFree d interface alternate = (words : List ℕ) → Listed (list_in d) interface alternate words → FreeRings d (length words)
 
 -- 8, 9, 21, and then what follows.
 abbrev pub claim_conditions : Device → ℕ → ℕ → List Condition → List Condition
@@ -106,7 +106,7 @@ pub record SlotFits (slot slots : ℕ) : Type 0 where
   pub high : slot ≤ slots
   pub bound : slots ≤ 255
 
--- 11, 1, 2, 3, 6, 4, 5, 10, 17: the last, that the word of Dci 1 is 0.
+-- 11, 1, 2, 3, 6, 4, 26, 5, 10, 17: the last, that the word of Dci 1 is 0.
 abbrev pub bring_up_conditions : BringUp → ℕ → List ℕ → ℕ → List Condition
 bring_up_conditions a ctx routes log =
     asked (SlotFits a.slot a.max_slots) answer.SlotLimitReached
@@ -114,7 +114,8 @@ bring_up_conditions a ctx routes log =
     ∷ asked (RoutesFit a.max_slots (length routes)) answer.RoutesLength
     ∷ asked (64 ≤ log) answer.LogTooShort
     ∷ asked ((1 ≤ a.speed) × (a.speed ≤ 5)) answer.Speed
-    ∷ asked (ValidList a.list) answer.DescriptorList
+    ∷ asked (ListFits a.speed a.list) answer.DescriptorList
+    ∷ asked (IsSuper a.speed → CompanionsFit a.list) answer.Companion
     ∷ asked (ChainFits a.hubs a.parent) answer.HubChain
     ∷ asked (RingsFit a.rings) answer.Rings
     ∷ asked (get_or routes (32 * a.slot + 1) 0 ≡ 0) answer.QueueFull

@@ -1,7 +1,9 @@
 -- A valid list of descriptor words and what lookup finds in it, spelled once more: 01, "Descriptor word", in bits, places and lists.
 -- proofs/Descriptors.antt proves that the definitions are these.
-use Rattle.std.specs.Prelude.{ℕ, ◌+◌, ◌*◌, ◌/◌, ◌%◌, ◌^◌, ◌<◌, ◌≤◌, ◌≡◌, ◌⊎◌, ◌↔◌, true, List, ◌∷◌, ◌++◌, length, get_or}
+use Rattle.std.specs.Prelude.{ℕ, suc, ◌+◌, ◌*◌, ◌/◌, ◌%◌, ◌^◌, ◌<◌, ◌≤◌, ◌≡◌, ◌⊎◌, ◌↔◌, true, List, ◌∷◌, ◌++◌, length, get_or}
 use Rattle.descriptor_list.specs.Valid.{valid_list}
+use Rattle.descriptor_list.specs.Companions.{list_ok, companions_fit}
+use Rattle.descriptor_list.specs.Promises.{passed_over}
 use Rattle.record_settings.specs.Held.{is_found, setting_words}
 use Rattle.descriptor_list.specs.Lookup.{find_endpoints}
 
@@ -21,6 +23,10 @@ pub record IsAlternate (interface alternate w : ℕ) : Type 0 where
 
 abbrev pub IsEndpoint : ℕ → Type 0
 IsEndpoint w = bits 30 2 w ≡ 2
+
+-- Kind 3 is the companion of an endpoint.
+abbrev pub IsCompanion : ℕ → Type 0
+IsCompanion w = bits 30 2 w ≡ 3
 
 -- Of an endpoint bit 29 is IN, bits 28 to 25 are the number; in an address IN is bit 7.
 abbrev pub address_of : ℕ → ℕ
@@ -83,6 +89,39 @@ pub record ValidList (l : List ℕ) : Type 0 where
 
 abbrev pub ValidTells : Type 0
 ValidTells = (l : List ℕ) → (valid_list l ≡ true) ↔ ValidList l
+
+-- Speed 4 or 5.
+abbrev pub IsSuper : ℕ → Type 0
+IsSuper speed = (4 ≤ speed) × (speed ≤ 5)
+
+-- A list that does not give 4 at a speed: at most 256 words, companions among them, the first one a configuration's; companions at speeds
+-- 4 and 5 only, without an unused bit; and the words that are none are a valid list.
+pub record ListFits (speed : ℕ) (l : List ℕ) : Type 0 where
+  pub few : length l ≤ 256
+  pub begins : 0 < length l → IsConfiguration (get_or l 0 0)
+  pub companions : (k : ℕ) → k < length l → IsCompanion (get_or l k 0) → IsSuper speed × (get_or l k 0 % 2 ^ 8 ≡ 0)
+  pub others : ValidList (passed_over l)
+
+abbrev pub ListTells : Type 0
+ListTells = (speed : ℕ) (l : List ℕ) → (list_ok speed l ≡ true) ↔ ListFits speed l
+
+-- Word k of a list has a companion directly behind it, with a mult of 0 to 2 if it is an isochronous endpoint's, else 0: bits 24 and 23 of
+-- an endpoint are its type, bits 25 and 24 of a companion its mult.
+pub record HasCompanion (l : List ℕ) (k : ℕ) : Type 0 where
+  pub inside : suc k < length l
+  pub kind : IsCompanion (get_or l (suc k) 0)
+  pub isochronous : bits 23 2 (get_or l k 0) ≡ 1 → bits 24 2 (get_or l (suc k) 0) ≤ 2
+  pub other : (bits 23 2 (get_or l k 0) ≡ 1 → ⊥) → bits 24 2 (get_or l (suc k) 0) ≡ 0
+
+-- A list that does not give 26: each endpoint has its companion, and there is no other.
+pub record CompanionsFit (l : List ℕ) : Type 0 where
+  pub each : (k : ℕ) → k < length l → IsEndpoint (get_or l k 0) → HasCompanion l k
+  pub first : 0 < length l → IsCompanion (get_or l 0 0) → ⊥
+  pub others : (k : ℕ) → suc k < length l → IsCompanion (get_or l (suc k) 0) → IsEndpoint (get_or l k 0)
+
+-- At speeds 1 to 3 nothing is asked of companions: there are none.
+abbrev pub CompanionsTell : Type 0
+CompanionsTell = (speed : ℕ) (l : List ℕ) → (companions_fit speed l ≡ true) ↔ (IsSuper speed → CompanionsFit l)
 
 -- The endpoint words of an interface's alternate in a list: those behind the first word of that alternate, whatever configuration it is in,
 -- up to the next word that is none.

@@ -1,14 +1,19 @@
 -- A sound record, spelled once more over its fields and arrays: 01, "The device record keeps the list", with 02's given rings and
 -- quarantine. proofs/Record.antt proves that the definition is this.
 use Rattle.std.specs.Prelude.{ℕ, ◌%◌, ◌<◌, ◌≤◌, ◌≡◌, ◌⊎◌, ◌↔◌, true, List, length, get_or, take}
+use Rattle.descriptor_list.specs.Companions.{joined}
 use Rattle.record_endpoint.specs.Endpoint.{blank}
 use Rattle.device.specs.declared.record.Device.{Device}
 use Rattle.device.specs.Sound.{sound}
-use Rattle.theorem_checks.specs.Descriptors.{address_of, Differ, Each, AtMost, ValidList, Listed}
+use Rattle.theorem_checks.specs.Descriptors.{address_of, Differ, Each, AtMost, IsSuper, ListFits, CompanionsFit, Listed}
 
 -- The words of the record's list.
 abbrev pub words_in : Device → List ℕ
 words_in d = take d.list_len d.list
+
+-- The same with each companion above the 32 bits of its endpoint's word, where lookup passes over it.
+abbrev pub list_in : Device → List ℕ
+list_in d = joined (words_in d)
 
 -- Endpoint k of a record, with its address, its owner and its ring.
 pub record EndpointAt (d : Device) (k address owner ring : ℕ) : Type 0 where
@@ -34,7 +39,7 @@ pub record Holds (d : Device) (interface alternate : ℕ) : Type 0 where
 -- Lookup finds the alternate, and each address that it lists has an endpoint of the interface.
 pub record Stands (d : Device) (interface alternate : ℕ) : Type 0 where
   pub words : List ℕ
-  pub listed : Listed (words_in d) interface alternate words
+  pub listed : Listed (list_in d) interface alternate words
   pub endpoints : (k : ℕ) → k < length words → HasEndpoint d (address_of (get_or words k 0)) interface
 
 -- An address is one that a setting of its owner lists.
@@ -42,7 +47,7 @@ pub record Belongs (d : Device) (address owner : ℕ) : Type 0 where
   pub alternate : ℕ
   pub held : Holds d owner alternate
   pub words : List ℕ
-  pub listed : Listed (words_in d) owner alternate words
+  pub listed : Listed (list_in d) owner alternate words
   pub at : ℕ
   pub inside : at < length words
   pub same : address_of (get_or words at 0) ≡ address
@@ -99,8 +104,9 @@ pub record SoundRecord (d : Device) : Type 0 where
   pub settings_fit : d.held_count ≤ 32
   pub quarantined_fit : d.quarantined_count ≤ 61
   pub given_fit : d.given_count ≤ 64
-  -- a valid list
-  pub list : ValidList (words_in d)
+  -- a list that is valid at the speed
+  pub list : ListFits d.port_speed (words_in d)
+  pub companions : IsSuper d.port_speed → CompanionsFit (words_in d)
   -- distinct held interfaces
   pub interfaces :
       (j k : ℕ) → j < d.held_count → k < d.held_count → get_or d.interfaces j 0 ≡ get_or d.interfaces k 0 → j ≡ k

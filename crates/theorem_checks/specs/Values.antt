@@ -9,7 +9,7 @@ use Rattle.context_field.specs.declared.Field.{Field}
 use Rattle.context_block.specs.Fields.{INTERVAL, EP-TYPE, MAX-PACKET-SIZE, MAX-BURST-SIZE}
 use Rattle.context.specs.Place.{read_at}
 use Rattle.context.specs.Promises.{AddressReads, ConfigureReads}
-use Rattle.theorem_checks.specs.Descriptors.{bits, dci_of_word}
+use Rattle.theorem_checks.specs.Descriptors.{bits, dci_of_word, IsSuper}
 use Rattle.theorem_checks.specs.Hubs.{Chain}
 
 -- The control endpoint's packet size that Address is given: 64, 8, 64, 512 and 512, by speed.
@@ -36,7 +36,7 @@ Periodic w = (type_of w ≡ 1) ⊎ (type_of w ≡ 3)
 abbrev pub InMilliseconds : ℕ → ℕ → Type 0
 InMilliseconds speed w = ((type_of w ≡ 3) × (speed ≡ 1)) ⊎ (Periodic w × (speed ≡ 2))
 
--- What the block of an added endpoint reads, by its word and the speed.
+-- What the block of an added endpoint reads, by its word and the speed; at speeds 4 and 5 its companion stands above the word's 32 bits.
 pub record EndpointValues (speed w : ℕ) (reads : Field → ℕ) : Type 0 where
   -- EP Type: 1 to 3 of OUT, 5 to 7 of IN
   pub type : reads EP-TYPE ≡ type_of w + 4 * bits 29 1 w
@@ -49,9 +49,10 @@ pub record EndpointValues (speed w : ℕ) (reads : Field → ℕ) : Type 0 where
   -- of others the exponent of the highest power of two that is not above the byte's eighths of milliseconds, 0 taken as 1
   pub not_above : InMilliseconds speed w → 2 ^ reads INTERVAL ≤ 8 * max (bits 2 8 w) 1
   pub highest : InMilliseconds speed w → 8 * max (bits 2 8 w) 1 < 2 ^ (reads INTERVAL + 1)
-  -- packets per microframe less one, 0 stays 0, at High speed; else 0
+  -- packets per microframe less one, 0 stays 0, at High speed; 0 at speeds 1 and 2; at 4 and 5 the companion's, in bits 29 to 26 of it
   pub burst : Periodic w → speed ≡ 3 → reads MAX-BURST-SIZE ≡ bits 10 2 w - 1
-  pub no_burst : Periodic w → (speed ≡ 3 → ⊥) → reads MAX-BURST-SIZE ≡ 0
+  pub no_burst : Periodic w → speed ≤ 2 → reads MAX-BURST-SIZE ≡ 0
+  pub companion_burst : IsSuper speed → reads MAX-BURST-SIZE ≡ bits (32 + 26) 4 w
 
 -- Of several words of a Dci the last counts; of a valid word the type is not 0.
 abbrev pub ConfigureValues : Type 0

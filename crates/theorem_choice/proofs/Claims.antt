@@ -15,8 +15,9 @@ use Rattle.record_settings.specs.Held.{held_in, is_held, alternate_of, setting_w
 use Rattle.answer.specs.declared.Answer.{Answer}
 use Rattle.answer.specs.declared.Answer.TheVariants as answer
 use Rattle.answer.specs.Answer.{number}
+use Rattle.descriptor_list.specs.Companions.{joined}
 use Rattle.device.specs.declared.record.Device.{Device}
-use Rattle.device.specs.Device.{list_of, held_of}
+use Rattle.device.specs.Device.{words_of, list_of, held_of}
 use Rattle.device.specs.Sound.{sound}
 use Rattle.device.specs.Claim.{claim}
 use Rattle.device.proofs.Facts.{sound_facts}
@@ -27,7 +28,7 @@ use Rattle.choice.proofs.Promises.{keeps}
 use Rattle.record_settings.proofs.Laws.{sound_distinct}
 use Rattle.theorem_slot.specs.Call.{Buffers, claims, left}
 use Rattle.theorem_checks.specs.Descriptors.{address_of, Listed}
-use Rattle.theorem_checks.specs.Record.{words_in, Belongs}
+use Rattle.theorem_checks.specs.Record.{list_in, Belongs}
 use Rattle.theorem_checks.specs.Checks.{FirstFails, Gives, IsListed, NoneOwned, claim_conditions, conditions}
 use Rattle.theorem_checks.proofs.Descriptors.{lookup_tells}
 use Rattle.theorem_checks.proofs.Record.{word_address, holds_held, holds_one, sound_tells}
@@ -130,10 +131,11 @@ module _ (d : Device) (names alternates places : List ℕ) (longest : ℕ) (c : 
   begins s z = record { is_sound = s; list = refl; settings = λ i h. not_both false (rw z at h) refl }
 
   one_more : (n : ℕ) (e g : Device) → After n e → TakenIn e g (name n) (alternate n) → After (n + 1) g
+  unfolding list_of
   one_more n e g s t =
       record {
         is_sound = t.is_sound;
-        list = t.same.list ∙ s.list;
+        list = ap joined t.same.list ∙ s.list;
         settings = λ i h. rw t.held (settings i (which (name n) (alternate n) i (held_of e) (rw t.held at h)));
       }
     where
@@ -153,25 +155,25 @@ module _ (d : Device) (names alternates places : List ℕ) (longest : ℕ) (c : 
       rw (← add-one k) (rw m.left at (one_more k (records k) _ (after records n s z l k (omega arith)) (taken_in (records k) m.ctx m.routes m.log m.outcomes (name k) (alternate k) m.accepted)))
 
   module _ (n : ℕ) (h : n < length names) (e : Device) (s : After n e) where
-    list_is : words_in e ≡ list_of d
-    unfolding list_of
+    list_is : list_in e ≡ list_of d
+    unfolding words_of list_of
     list_is = s.list
 
     is_listed : IsListed e (name n) (alternate n)
     is_listed =
         record {
-          words = setting_words (words_in e) (name n) (alternate n);
-          listed = (lookup_tells (words_in e) (name n) (alternate n)).found (rw (list_is, are n h) (candidate_found (list_of d) d.port_speed longest (name n) (get_or places n 0) (c.each n h)));
+          words = setting_words (list_in e) (name n) (alternate n);
+          listed = (lookup_tells (list_in e) (name n) (alternate n)).found (rw (list_is, are n h) (candidate_found (list_of d) d.port_speed longest (name n) (get_or places n 0) (c.each n h)));
         }
 
     -- The words of an alternate that the choice has are those of its place.
-    same_words : (j : ℕ) → j < length names → (words : List ℕ) → Listed (words_in e) (name j) (alternate j) words →
+    same_words : (j : ℕ) → j < length names → (words : List ℕ) → Listed (list_in e) (name j) (alternate j) words →
         words_at (list_of d) (name j) (get_or places j 0) ≡ words
     unfolding words_at
     same_words j g words l =
-        rw (are j g) at (rw list_is at ((lookup_tells (words_in e) (name j) (alternate j)).listed words l).1)
+        rw (are j g) at (rw list_is at ((lookup_tells (list_in e) (name j) (alternate j)).listed words l).1)
 
-    clash : (owner : ℕ) → (owner ≡ name n → ⊥) → (words : List ℕ) → Listed (words_in e) (name n) (alternate n) words → (k : ℕ) → k < length words →
+    clash : (owner : ℕ) → (owner ≡ name n → ⊥) → (words : List ℕ) → Listed (list_in e) (name n) (alternate n) words → (k : ℕ) → k < length words →
         (b : Belongs e (address_of (get_or words k 0)) owner) → Among n owner b.alternate → ⊥
     clash owner q words l k g b m =
         let a = address_of (get_or words k 0) in

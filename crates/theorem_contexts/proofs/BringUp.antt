@@ -13,7 +13,7 @@ use Rattle.def.specs.Speed.{is_super, header_packet_size}
 use Rattle.def.proofs.Laws.{exponent_nine}
 use Rattle.descriptor.specs.Word.{configuration_value}
 use Rattle.descriptor_list.specs.Valid.{configurations}
-use Rattle.descriptor_list.proofs.Laws.{valid_configurations}
+use Rattle.descriptor_list.proofs.Companions.{listed}
 use Rattle.transfer.specs.Routes.{with_route}
 use Rattle.answer.specs.declared.Answer.TheVariants as answer
 use Rattle.answer.specs.Check.{Pass}
@@ -72,7 +72,7 @@ module _ (a : BringUp) (ctx routes log : List ℕ) (pass : bring_up_check a (len
       rw (← t.2) (from t.0)
 
   few : 7 + configurations a.list < length log
-  few = omega (arith, facts.room, valid_configurations a.list facts.list)
+  few = omega (arith, facts.room, (listed a.speed a.list facts.list).few)
 
   s : ℕ
   s = spacing_of (length ctx)

@@ -1,5 +1,6 @@
 pub mod BringUp
 pub mod Claim
+pub mod Companions
 pub mod Ended
 pub mod HubUpdate
 pub mod Intervals

@@ -1,2 +1,3 @@
+pub mod Companions
 pub mod Contexts
 pub mod Intervals

@@ -10,7 +10,7 @@ use lib.ListN.{length, take, length-take}
 use lib.Seq.{length-sets}
 use Rattle.laws.proofs.Tests.{not_both}
 use Rattle.laws.proofs.Cases.{Decided, decided}
-use Rattle.descriptor_list.proofs.Laws.{valid_configurations}
+use Rattle.descriptor_list.proofs.Companions.{listed}
 use Rattle.answer.specs.Answer.{is_accepted}
 use Rattle.command.specs.Course.{words, played}
 use Rattle.context.specs.Place.{spacing_of}
@@ -55,7 +55,7 @@ module _ (a : BringUp) (buffers : Buffers) (table : List ℕ) where
   ran_value : Ran a buffers.ctx table buffers.log buffers.outcomes l → is_accepted l.answer ≡ true → (u : DeviceState) → Configured l.device (told u)
   unfolding device_heard value_read brought_left brought_record bring_up_course played
   ran_value r t u =
-      let few = valid_configurations a.list r.pass.list in
+      let few = (listed a.speed a.list r.pass.list).few in
       let room : length (words o 0 (bring_up_course a spacing buffers.ctx table)) ≤ length buffers.log =
       omega (arith, few, bring_up_words a spacing buffers.ctx table o, r.pass.room) in
       let same : told u ≡ heard (known a.value) o 0 (bring_up_course a spacing buffers.ctx table) u =

@@ -18,7 +18,7 @@ use Rattle.course_init.specs.Reading.{first_configurations}
 use Rattle.theorem_driver.specs.Driven.{partly_read}
 
 -- What is left of a list behind its first k configurations.
-record Behind (k : ℕ) (l : List ℕ) : Type 0 where
+pub record Behind (k : ℕ) (l : List ℕ) : Type 0 where
   pub rest : List ℕ
   pub whole : l ≡ first_configurations k l ++ rest
   pub count : configurations rest ≡ configurations l - k
@@ -36,7 +36,7 @@ module _ (w : ℕ) (l : List ℕ) where
         begins = b.begins;
       }
 
-behind : (k : ℕ) (l : List ℕ) → Behind k l
+pub behind : (k : ℕ) (l : List ℕ) → Behind k l
 unfolding first_configurations configurations begins_with_configuration
 behind k [] = record { rest = []; whole = refl; count = omega arith; begins = refl }
 behind zero (w ∷ l) = go (decided (eqb (kind w) CONFIGURATION)) (behind zero l)
@@ -51,10 +51,10 @@ behind (suc k) (w ∷ l) = go (decided (eqb (kind w) CONFIGURATION)) (behind k l
     go (inr e) b c = kept w l (suc k) (suc k) (rw e) (rw e) c
 
 -- Words 0, each a configuration.
-abbrev zeros : ℕ → List ℕ
+abbrev pub zeros : ℕ → List ℕ
 zeros n = replicate n 0
 
-zeros_begin : (n : ℕ) → begins_with_configuration (zeros n) ≡ true
+pub zeros_begin : (n : ℕ) → begins_with_configuration (zeros n) ≡ true
 unfolding begins_with_configuration kind
 zeros_begin zero = refl
 zeros_begin (suc n) = refl
@@ -84,7 +84,7 @@ unfolding has_interface of_interface kind
 zeros_none i zero = refl
 zeros_none i (suc n) = zeros_none i n
 
-few_configurations : (l : List ℕ) → configurations l ≤ length l
+pub few_configurations : (l : List ℕ) → configurations l ≤ length l
 unfolding configurations
 few_configurations [] = omega arith
 few_configurations (w ∷ l) = go (eqb (kind w) CONFIGURATION) (few_configurations l)
@@ -104,7 +104,7 @@ count_both (w ∷ x) s = go (eqb (kind w) CONFIGURATION) (count_both x s)
     go true h = omega (arith, h)
     go false h = h
 
-begin_both : (x s t : List ℕ) → begins_with_configuration (x ++ s) ≡ true → begins_with_configuration t ≡ true →
+pub begin_both : (x s t : List ℕ) → begins_with_configuration (x ++ s) ≡ true → begins_with_configuration t ≡ true →
     begins_with_configuration (x ++ t) ≡ true
 unfolding begins_with_configuration
 begin_both [] s t e f = f

@@ -9,7 +9,7 @@ use lib.Dec.{eqb}
 use lib.ListN.{length}
 use Rattle.def.specs.Speed.{exponent_ok}
 use Rattle.answer.specs.declared.Answer.TheVariants as answer
-use Rattle.descriptor_list.specs.Valid.{configurations, valid_list}
+use Rattle.descriptor_list.specs.Valid.{begins_with_configuration, configurations}
 use Rattle.command.specs.declared.Command.{Command}
 use Rattle.command.specs.declared.Command.TheVariants as command
 use Rattle.command.specs.declared.Sent.{Sent}
@@ -21,7 +21,7 @@ use Rattle.context.specs.Place.{written}
 use Rattle.context.specs.Steps.{max_packet_writes}
 use Rattle.course_init.specs.Reading.{BringUp, control_ring, Reading, first_configurations, nothing_read, read_up_to, Brought, brought}
 use Rattle.course_init.specs.Init.{step, bring_up_settings, bring_up_set, bring_up_configs, bring_up_device, bring_up_configuration, bring_up_packet, bring_up_header, bring_up_address}
-use Rattle.course_init.proofs.Lists.{first_all, valid_none, none_of}
+use Rattle.course_init.proofs.Lists.{first_all, begun_none, none_of}
 use Rattle.theorem_driver.specs.Driven.{Guess, guessing, Right}
 
 -- Two courses log the same words and end alike.
@@ -53,14 +53,14 @@ alike_step o n c read same ctx routes x y r h = rw r (go (outcome_at o n) refl)
     go (Failed code) e = record { logged = rw e; ended = rw (e, result) }
     go Cut e = record { logged = rw e; ended = rw (e, result) }
 
--- a list with as many configurations as a valid one has words where that one has
-words_alike : (l m : List ℕ) → valid_list l ≡ true → valid_list m ≡ true → configurations l ≡ configurations m →
+-- a list with as many configurations as another has words where that one has
+words_alike : (l m : List ℕ) → begins_with_configuration l ≡ true → begins_with_configuration m ≡ true → configurations l ≡ configurations m →
     eqb (length l) 0 ≡ eqb (length m) 0
 words_alike l m v w e = go (eqb (length l) 0) (eqb (length m) 0) refl refl
   where
     -- a list without configurations is the words before the first one
-    empty : (k : List ℕ) → valid_list k ≡ true → configurations k ≡ 0 → eqb (length k) 0 ≡ true
-    empty k u z = let n : k ≡ [] = sym (first_all k) ∙ rw z (valid_none k u) in rw n
+    empty : (k : List ℕ) → begins_with_configuration k ≡ true → configurations k ≡ 0 → eqb (length k) 0 ≡ true
+    empty k u z = let n : k ≡ [] = sym (first_all k) ∙ rw z (begun_none k u) in rw n
 
     go : (b c : Bool) → eqb (length l) 0 ≡ b → eqb (length m) 0 ≡ c → b ≡ c
     go true true p q = refl
@@ -94,10 +94,10 @@ module _ (a : BringUp) (g : Guess) (o : List ℕ) (spacing : ℕ) (routes : List
       alike_step o (5 + i) (command.ReadConfig i) _ _ ctx routes _ _ (read_up_to_lem i v f)
       (λ h. rw n (configs_alike k (i + 1) ctx (omega (arith, e)) c v (right.config i h)))
 
-  module _ (valid : valid_list a.list ≡ true) (guessed : valid_list g.list ≡ true) where
+  module _ (valid : begins_with_configuration a.list ≡ true) (guessed : begins_with_configuration g.list ≡ true) where
     -- of the list nothing yet
     read_none : first_configurations 0 g.list ≡ first_configurations 0 a.list
-    read_none = valid_none g.list guessed ∙ sym (valid_none a.list valid)
+    read_none = begun_none g.list guessed ∙ sym (begun_none a.list valid)
 
     -- the device descriptor is read
     rest_alike : (ctx : List ℕ) (t : Bool) → g.value ≡ a.value → configurations g.list ≡ configurations a.list →

@@ -1,7 +1,8 @@
 -- A driven bring-up: what a command reads of the device is known only once it is done, so whoever runs the call again after each outcome
 -- gives it guesses for what is still to be read. No command depends on them.
 use Rattle.std.specs.Prelude.{ℕ, ◌+◌, ◌-◌, ◌<◌, ◌≡◌, true, cond, List, [], ◌++◌, ltb, length, get_or, take, replicate}
-use Rattle.descriptor_list.specs.Valid.{configurations, valid_list}
+use Rattle.descriptor_list.specs.Valid.{configurations}
+use Rattle.descriptor_list.specs.Companions.{valid_at}
 use Rattle.command.specs.declared.Command.TheVariants as command
 use Rattle.command.specs.Command.{command_word}
 use Rattle.course_init.specs.Reading.{BringUp, first_configurations}
@@ -74,7 +75,7 @@ pub record Right (a : BringUp) (g : Guess) (i : ℕ) : Type 0 where
 abbrev pub GuessesUnread : Type 0
 GuessesUnread =
     (a : BringUp) (g : Guess) (b : Buffers) (d : Device) (routes : List ℕ) →
-    valid_list a.list ≡ true → valid_list g.list ≡ true → Right a g (length b.outcomes) →
+    valid_at a.speed a.list ≡ true → valid_at a.speed g.list ≡ true → Right a g (length b.outcomes) →
     left (brings_up (guessing a g)) b d routes ≡ left (brings_up a) b d routes
 
 -- Two calls send the same commands up to command i, and that one over the same context.
@@ -87,7 +88,7 @@ pub record SameCommand (i : ℕ) (x y : Asked) (b : Buffers) (d : Device) (route
 abbrev pub CommandsUnguessed : Type 0
 CommandsUnguessed =
     (a : BringUp) (g : Guess) (b : Buffers) (d : Device) (routes : List ℕ) (i : ℕ) →
-    valid_list a.list ≡ true → valid_list g.list ≡ true → Right a g i →
+    valid_at a.speed a.list ≡ true → valid_at a.speed g.list ≡ true → Right a g i →
     i < (left (brings_up a) b d routes).count → SameCommand i (brings_up a) (brings_up (guessing a g)) b d routes
 
 -- The guesses of the drivers in host/ before command i: numbers that are not read yet are 0, and there is no list before the device
@@ -104,8 +105,8 @@ drivers_guess a i =
       list = cond (ltb DEVICE i) (partly_read (i - FIRST-CONFIG) a.list) [];
     }
 
--- So a driven bring-up of a device whose list is valid goes as the whole one: before each command it is as that one, cut there.
+-- So a driven bring-up of a device whose list is valid at its speed goes as the whole one: before each command it is as that one, cut there.
 abbrev pub DrivenAsWhole : Type 0
 DrivenAsWhole =
-    (a : BringUp) (b : Buffers) (d : Device) (routes : List ℕ) (i : ℕ) → valid_list a.list ≡ true →
+    (a : BringUp) (b : Buffers) (d : Device) (routes : List ℕ) (i : ℕ) → valid_at a.speed a.list ≡ true →
     left (brings_up (guessing a (drivers_guess a i))) (cut_at i b) d routes ≡ left (brings_up a) (cut_at i b) d routes

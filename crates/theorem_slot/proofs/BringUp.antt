@@ -15,6 +15,7 @@ use Rattle.laws.proofs.Cases.{Decided, decided}
 use Rattle.transfer.specs.Routes.{Queue, names, ring_for, route_index, route_of, with_route, published}
 use Rattle.transfer.proofs.Laws.{published_at}
 use Rattle.answer.specs.Answer.{number, is_accepted}
+use Rattle.descriptor_list.specs.Companions.{joined}
 use Rattle.command.specs.Course.{Course, words, played}
 use Rattle.context.specs.Place.{spacing_of}
 use Rattle.course_init.specs.Reading.{BringUp, control_ring, Brought}
@@ -23,7 +24,7 @@ use Rattle.record_ring.specs.Rings.{not_among}
 use Rattle.record_ring.specs.Store.{given_ok, least, free_rings}
 use Rattle.record_ring.proofs.Sorted.{elem_not_among}
 use Rattle.record_endpoint.specs.Endpoint.{rings_of}
-use Rattle.device.specs.Device.{quarantined_of, free_of, no_device}
+use Rattle.device.specs.Device.{list_of, quarantined_of, free_of, no_device}
 use Rattle.device.specs.Sound.{live_rings}
 use Rattle.device.specs.Left.{Left}
 use Rattle.device_bring_up.specs.BringUp.{bring_up_course, brought_record, brought_left, bring_up}
@@ -68,14 +69,14 @@ module _ (b : BringUp) (l : Buffers) (routes : List ℕ) where
         (λ x. rw (w.endpoints, has_none x, w.control) refl) (λ x. rw w.quarantined refl))
 
     pub start_good : Good b.slot routes (start b (bring_up b l.ctx routes l.log l.outcomes))
-    unfolding start begun control_ring AllFit pairs is_up is_held_dci plain_route held_queues names ring_for
+    unfolding list_of start begun control_ring AllFit pairs is_up is_held_dci plain_route held_queues names ring_for
     start_good =
         record {
           phase = refl;
           long = bring_up_length b l.ctx routes l.log l.outcomes;
           room = room;
           others = bring_up_outside b l.ctx routes l.log l.outcomes;
-          live = inr (record { is_sound = w.is_sound; place = w.slot; list = w.list; held = sym w.held; fits = tt; groups = given_groups_lem });
+          live = inr (record { is_sound = w.is_sound; place = w.slot; list = ap joined w.list; held = sym w.held; fits = tt; groups = given_groups_lem });
           on = refl;
           enabled = λ x d two h. ne_eqb d 1 (λ e. omega arith);
           parted = parted_given b.rings w.pass.rings;

@@ -19,7 +19,7 @@ use Rattle.command.specs.Command.{outcome_at}
 use Rattle.record_endpoint.specs.Order.{dci_at}
 use Rattle.record_endpoint.proofs.Laws.{dci_high}
 use Rattle.descriptor_list.specs.Valid.{valid_list}
-use Rattle.descriptor_list.proofs.Laws.{valid_configurations}
+use Rattle.descriptor_list.proofs.Companions.{listed}
 use Rattle.context_block.specs.Blocks.{some_dci}
 use Rattle.record_settings.specs.Held.{setting_words}
 use Rattle.record_settings.proofs.Laws.{setting_word}
@@ -348,7 +348,7 @@ unfolding queue_check bring_up_check
 free_accepted b l routes free k h e done =
     let p = (brought-checks.passed b (length l.ctx) (length routes) (length l.log) Pass k).0 in
     bring_up_done b l.ctx routes l.log l.outcomes (whole k) h e
-    (λ n low high. done n (omega (arith, high, valid_configurations b.list p.list)))
+    (λ n low high. done n (omega (arith, high, (listed b.speed b.list p.list).few)))
   where
     queue : queue_check b routes ≡ Pass
     queue = rw free

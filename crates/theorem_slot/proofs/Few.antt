@@ -6,7 +6,7 @@ use native.Mathlib.Omega.{arith}
 use lib.ListN.{length}
 use Rattle.command.specs.Course.{words, played}
 use Rattle.context.specs.Place.{spacing_of}
-use Rattle.descriptor_list.proofs.Laws.{valid_configurations}
+use Rattle.descriptor_list.proofs.Companions.{listed}
 use Rattle.record_endpoint.specs.declared.endpoint_map.Owner.TheVariants.{Interface}
 use Rattle.record_endpoint.specs.EndpointMap.{owned_rings, queues_of, queue_dcis}
 use Rattle.record_endpoint.proofs.Laws.{queues_fit}
@@ -41,7 +41,7 @@ brought a ctx routes log outcomes l (inr r) =
     (omega (
       arith,
       bring_up_words a (spacing_of (length ctx)) ctx routes outcomes,
-      valid_configurations a.list r.pass.list,
+      (listed a.speed a.list r.pass.list).few,
     ))
 
 each : (asked : Asked) (b : Buffers) (d : Device) (routes : List ℕ) → (left asked b d routes).count ≤ 63

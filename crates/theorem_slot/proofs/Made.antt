@@ -15,8 +15,9 @@ use Rattle.record_endpoint.proofs.Laws.{queues_small}
 use Rattle.record_settings.specs.Held.{Held}
 use Rattle.theorem_routing.specs.Routing.{RoutedBy, NamedBy}
 use Rattle.theorem_routing.proofs.Laws.{low_kept, outside_kept, length_kept}
+use Rattle.descriptor_list.specs.Companions.{joined}
 use Rattle.device.specs.declared.record.Device.{Device}
-use Rattle.device.specs.Device.{endpoint_map_in, quarantined_of, given_of}
+use Rattle.device.specs.Device.{list_of, endpoint_map_in, quarantined_of, given_of}
 use Rattle.device.proofs.Made.{Made}
 use Rattle.theorem_slot.specs.Groups.{Groups}
 use Rattle.theorem_slot.specs.Plain.{HeldSetting, Plain, is_held_dci}
@@ -47,11 +48,12 @@ agree_made d e hs c lost g m r q a =
 pub made_live :
     (slot : ℕ) (d e : Device) (p q : Plain) (hs : List Held) (c : EndpointMap) (lost : Bool) → Made d e hs c lost → Live slot d p →
     q.list ≡ p.list → pairs q.held ≡ hs → AllFit c q.held → AgreeWith e q.groups → Live slot e q
+unfolding list_of
 made_live slot d e p q hs c lost m l same held fits groups =
     record {
       is_sound = m.is_sound;
       place = ap (λ x. x.0) m.same.slot ∙ l.place;
-      list = m.same.list ∙ l.list ∙ sym same;
+      list = ap joined m.same.list ∙ l.list ∙ sym same;
       held = held ∙ sym m.held;
       fits = rw m.endpoints fits;
       groups = groups;

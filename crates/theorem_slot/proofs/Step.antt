@@ -17,7 +17,7 @@ use Rattle.answer.specs.Check.{Check, Pass, unless}
 use Rattle.answer.specs.Answer.{number, is_accepted, is_broken, is_cut, is_lost}
 use Rattle.hub.specs.ThinkTime.{think_time}
 use Rattle.def.specs.Speed.{HIGH, speed_known}
-use Rattle.descriptor_list.specs.Valid.{valid_list}
+use Rattle.descriptor_list.specs.Companions.{list_ok, companions_fit}
 use Rattle.hub.specs.Chain.{chain_ok}
 use Rattle.transfer.specs.Routes.{route_of}
 use Rattle.course_init.specs.Reading.{BringUp}
@@ -67,7 +67,7 @@ refused_mild a r = go (or_cases _ _ r)
     other : (k : ℕ) → n ≡ k → 15 < k → (eqb n 0 ≡ false) × ((eqb n 14 || eqb n 15) ≡ false)
     other k e h = (ne_eqb n 0 (λ z. omega arith), rw (ne_eqb n 14 (λ z. omega arith), ne_eqb n 15 (λ z. omega arith)) refl)
 
-    go : ((leb 1 n && leb n 12) ≡ true) ⊎ ((eqb n 17 || (eqb n 21 || (eqb n 22 || eqb n 25))) ≡ true) → (eqb n 0 ≡ false) × ((eqb n 14 || eqb n 15) ≡ false)
+    go : ((leb 1 n && leb n 12) ≡ true) ⊎ ((eqb n 17 || (eqb n 21 || (eqb n 22 || (eqb n 25 || eqb n 26)))) ≡ true) → (eqb n 0 ≡ false) × ((eqb n 14 || eqb n 15) ≡ false)
     go (inl e) =
         let low = leb-true 1 n (and_left (leb 1 n) (leb n 12) e) in
         let high = leb-true n 12 (and_right (leb 1 n) (leb n 12) e) in
@@ -76,9 +76,12 @@ refused_mild a r = go (or_cases _ _ r)
         ⊎_elim (λ s. other 17 (eqb-true n 17 s) (omega arith))
         (λ t.
         ⊎_elim (λ s. other 21 (eqb-true n 21 s) (omega arith))
-        (λ u. ⊎_elim (λ s. other 22 (eqb-true n 22 s) (omega arith)) (λ s. other 25 (eqb-true n 25 s) (omega arith)) (or_cases (eqb n 22) (eqb n 25) u))
-        (or_cases (eqb n 21) (eqb n 22 || eqb n 25) t))
-        (or_cases (eqb n 17) (eqb n 21 || (eqb n 22 || eqb n 25)) e)
+        (λ u.
+        ⊎_elim (λ s. other 22 (eqb-true n 22 s) (omega arith))
+        (λ v. ⊎_elim (λ s. other 25 (eqb-true n 25 s) (omega arith)) (λ s. other 26 (eqb-true n 26 s) (omega arith)) (or_cases (eqb n 25) (eqb n 26) v))
+        (or_cases (eqb n 22) (eqb n 25 || eqb n 26) u))
+        (or_cases (eqb n 21) (eqb n 22 || (eqb n 25 || eqb n 26)) t))
+        (or_cases (eqb n 17) (eqb n 21 || (eqb n 22 || (eqb n 25 || eqb n 26))) e)
 
 -- What the numbers of answers rule out.
 pub accepted_not : {x : Answer} → is_accepted x ≡ false → x ≡ answer.Accepted → ⊥
@@ -192,10 +195,11 @@ mild_bring_up a ctx routes log =
     (mild_unless (eqb (length routes) (32 * (a.max_slots + 1))) answer.RoutesLength _ refl
     (mild_unless (leb 64 log) answer.LogTooShort _ refl
     (mild_unless (speed_known a.speed) answer.Speed _ refl
-    (mild_unless (valid_list a.list) answer.DescriptorList _ refl
+    (mild_unless (list_ok a.speed a.list) answer.DescriptorList _ refl
+    (mild_unless (companions_fit a.speed a.list) answer.Companion _ refl
     (mild_unless (chain_ok a.hubs a.parent) answer.HubChain _ refl
     (mild_unless (given_ok a.rings) answer.Rings _ refl
-    (mild_unless (eqb (route_of routes a.slot 1) 0) answer.QueueFull Pass refl mild_pass))))))))
+    (mild_unless (eqb (route_of routes a.slot 1) 0) answer.QueueFull Pass refl mild_pass)))))))))
 
 -- A refused call logs nothing, and the plain slot stays.
 quiet : Effect → List ℕ → Plain → Bool → Bool → Bool → Plain

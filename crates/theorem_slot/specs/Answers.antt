@@ -21,9 +21,9 @@ use Rattle.device.specs.Device.{endpoint_map_in, no_device}
 use Rattle.device_bring_up.specs.BringUp.{bring_up_course}
 use Rattle.theorem_slot.specs.Call.{Buffers, Asked, brings_up, claims, commits, releases, configures, updates_hub, disconnects, Call, left, cut_at, context_cut}
 
--- Refused before any command: 1 to 12, 17, 21, 22 and 25.
+-- Refused before any command: 1 to 12, 17, 21, 22, 25 and 26.
 unfoldable pub is_refused : Answer → Bool
-is_refused a = (leb 1 (number a) && leb (number a) 12) || (eqb (number a) 17 || (eqb (number a) 21 || (eqb (number a) 22 || eqb (number a) 25)))
+is_refused a = (leb 1 (number a) && leb (number a) 12) || (eqb (number a) 17 || (eqb (number a) 21 || (eqb (number a) 22 || (eqb (number a) 25 || eqb (number a) 26))))
 
 -- A code that is the outcome of a logged command, and not 0.
 pub record CodeOfOutcome (outcomes : List ℕ) (count code : ℕ) : Type 0 where

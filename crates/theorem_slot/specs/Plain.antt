@@ -1,5 +1,6 @@
 -- 01's plain slot: what a reader of the calls' arguments, answers and logs knows of a slot. Nothing of our record is in it.
 use Rattle.std.specs.Prelude.{ℕ, Bool, true, false, cond, ◌||◌, List, [], ◌∷◌, ◌++◌, eqb, length}
+use Rattle.descriptor_list.specs.Companions.{joined}
 use Rattle.answer.specs.declared.Answer.{Answer}
 use Rattle.answer.specs.Answer.{is_accepted, is_broken, is_lost}
 use Rattle.context.specs.Steps.{word_dcis}
@@ -137,7 +138,7 @@ begun a =
     record {
       phase = up;
       control = control_ring a;
-      list = a.list;
+      list = joined a.list;
       held = [];
       enabled = λ d. eqb d 1;
       broken = false;

@@ -1,5 +1,5 @@
 -- The reason of 9 is the first endpoint word that another interface owns.
-use Prim.Native.Nat.{ℕ, zero, suc, ◌<◌}
+use Prim.Native.Nat.{ℕ, zero, suc, ◌%◌, ◌^◌, ◌<◌}
 use mathlib.Core.Path.{◌≡◌, refl, sym, ap, ◌∙◌}
 use mathlib.Core.Logic.{◌⊎◌, inl, inr}
 use mathlib.Core.Bool.{true, false}
@@ -38,7 +38,7 @@ use Rattle.theorem_why.proofs.Promises.{nine, reason_is}
 record Names (ws : List ℕ) (i : ℕ) (c : EndpointMap) (x : Reason) : Type 0 where
   pub place : ℕ
   pub inside : place < length ws
-  pub named : x ≡ reason.Endpoint (get_or ws place 0) (owner_of (get_or ws place 0) c)
+  pub named : x ≡ reason.Endpoint (get_or ws place 0 % 2 ^ 32) (owner_of (get_or ws place 0) c)
   pub owned : address_free (get_or ws place 0) i c ≡ false
   pub before : (k : ℕ) → k < place → address_free (get_or ws k 0) i c ≡ true
 

@@ -1,5 +1,5 @@
 -- What the reason of a claim or a commit is: proofs/Promises.antt, Said.antt and Owner.antt prove each `..Promise`.
-use Rattle.std.specs.Prelude.{ℕ, ◌<◌, ◌≡◌, ◌↔◌, ◌⊎◌, Bool, false, ◌||◌, List, [], eqb, length, get_or, take}
+use Rattle.std.specs.Prelude.{ℕ, ◌%◌, ◌^◌, ◌<◌, ◌≡◌, ◌↔◌, ◌⊎◌, Bool, false, ◌||◌, List, [], eqb, length, get_or, take}
 use Rattle.answer.specs.declared.Answer.TheVariants as answer
 use Rattle.answer.specs.Answer.{number}
 use Rattle.answer.specs.Check.{Pass}
@@ -12,7 +12,7 @@ use Rattle.reason.specs.declared.Reason.{Reason}
 use Rattle.reason.specs.declared.Reason.TheVariants as reason
 use Rattle.reason.specs.Reason.{claim_reason}
 use Rattle.theorem_checks.specs.Descriptors.{address_of, Listed}
-use Rattle.theorem_checks.specs.Record.{words_in, EndpointAt}
+use Rattle.theorem_checks.specs.Record.{list_in, EndpointAt}
 use Rattle.theorem_why.specs.Why.{conditions, current_asked, first_unmet, check_of, why_claim, why_commit}
 
 -- The checks are these conditions: refused is with the answer of the first that does not hold.
@@ -70,14 +70,15 @@ abbrev pub SaidPromise : Type 0
 SaidPromise = (d : Device) (ctx routes log o : List ℕ) → SaidOf d ctx routes log o
 
 -- Of 9: the first endpoint word of the alternate, as lookup lists it, at whose address the record has an endpoint of another interface, and
--- that interface. Every endpoint at the address of a word before it is the interface's own.
+-- that interface; of the word its own 32 bits, without its companion. Every endpoint at the address of a word before it is the interface's
+-- own.
 pub record OtherOwner (d : Device) (i a : ℕ) (why : Reason) : Type 0 where
   pub words : List ℕ
-  pub listed : Listed (words_in d) i a words
+  pub listed : Listed (list_in d) i a words
   pub place : ℕ
   pub inside : place < length words
   pub owner : ℕ
-  pub named : why ≡ reason.Endpoint (get_or words place 0) owner
+  pub named : why ≡ reason.Endpoint (get_or words place 0 % 2 ^ 32) owner
   pub other : owner ≡ i → ⊥
   pub at : ℕ
   pub ring : ℕ

@@ -1,5 +1,5 @@
 -- Why a claim or a commit got its answer: the conditions of its checks in order, and the commands of its course along the outcomes.
-use Rattle.std.specs.Prelude.{ℕ, ◌+◌, ◌*◌, Bool, cond, ◌&&◌, List, [], ◌∷◌, Option, Some, None, eqb, leb, length}
+use Rattle.std.specs.Prelude.{ℕ, ◌+◌, ◌*◌, ◌%◌, ◌^◌, Bool, cond, ◌&&◌, List, [], ◌∷◌, Option, Some, None, eqb, leb, length}
 use Rattle.answer.specs.declared.Answer.{Answer}
 use Rattle.answer.specs.declared.Answer.TheVariants as answer
 use Rattle.answer.specs.Answer.{number, is_accepted, is_cut}
@@ -36,7 +36,7 @@ asks holds answer reason = record { holds = holds; answer = answer; reason = rea
 unfoldable pub owners_asked : List ℕ → ℕ → EndpointMap → List Condition → List Condition
 owners_asked [] i c next = next
 owners_asked (w ∷ ws) i c next =
-    asks (address_free w i c) answer.InvalidParameter (reason.Endpoint w (owner_of w c)) ∷ owners_asked ws i c next
+    asks (address_free w i c) answer.InvalidParameter (reason.Endpoint (w % 2 ^ 32) (owner_of w c)) ∷ owners_asked ws i c next
 
 -- 12, 1, 2, 3, 8, 9 for each word, 21, and then others.
 unfoldable pub conditions : Device → ℕ → ℕ → ℕ → ℕ → ℕ → List Condition → List Condition

@@ -29,13 +29,13 @@ pub fn header(rt: &impl Print, c: &mut Context) -> io::Result<()> {
 }
 
 // 0x81, interrupt, size 64, packets 1, interval 4.
-const INTERRUPT: u32 = 0xa384_0410;
+const INTERRUPT: u64 = 0xa384_0410;
 
 // 0x02, bulk, size 512.
-const BULK: u32 = 0x8520_0000;
+const BULK: u64 = 0x8520_0000;
 
 // 0x83, isochronous, size 1023, packets 3, interval 1.
-const ISOCHRONOUS: u32 = 0xa6bf_fc04;
+const ISOCHRONOUS: u64 = 0xa6bf_fc04;
 
 // Document 01's Dci 3 case where the block is zero.
 pub fn claim_one(rt: &impl Print, c: &mut Context) -> io::Result<()> {
@@ -45,7 +45,7 @@ pub fn claim_one(rt: &impl Print, c: &mut Context) -> io::Result<()> {
         def::HIGH,
         0,
         1,
-        &[0u32; 0],
+        &[0u64; 0],
         &[INTERRUPT],
         &[3],
         &[0x2000],

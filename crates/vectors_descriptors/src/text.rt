@@ -7,7 +7,7 @@ use std::alloc::{AllocError, Allocator};
 const ROOM: usize = 1024;
 
 // As crates/replay_sample reads a digit, which is over another library.
-fn digit(b: u8) -> u8
+pub fn digit(b: u8) -> u8
     ensures { result < 16 }
 {
     if b < b'a' {

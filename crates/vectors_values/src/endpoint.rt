@@ -75,7 +75,7 @@ pub fn intervals(rt: &impl Print) -> io::Result<()> {
 
 // Address, Dci, EP type, interval, packet size, burst and payload of an endpoint word at a speed.
 fn endpoint_line(rt: &impl Print, w: u32, speed: u8) -> io::Result<()> {
-    let e = descriptor::endpoint_descriptor(w);
+    let e = descriptor::endpoint_descriptor(u64::from(w));
     let t = e.transfer_type;
     let dci = descriptor::endpoint_address_dci(e.address);
     let kind = descriptor_periodic::endpoint_type(t, e.address);

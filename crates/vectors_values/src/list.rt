@@ -1,6 +1,6 @@
 // Valid lists, lists refused for each reason, lists at each limit, and lookup.
 use super::yes_or_no;
-use descriptor_list::EndpointWords;
+use descriptor_list::{EndpointWords, Joined};
 use std::io;
 
 // Configuration 1, alternate 0 of interface 0, and a bulk endpoint of address 0x01.
@@ -9,6 +9,11 @@ const CONFIGURATION: u32 = 0x0040_0000;
 const ALTERNATE: u32 = 0x4000_0000;
 
 const BULK: u32 = 0x8300_0000;
+
+// A companion of burst 5, and one with mult 1 besides.
+const COMPANION: u32 = 0xd400_0000;
+
+const MULT: u32 = 0xd500_0000;
 
 fn alternate(interface: u8, setting: u8) -> u32 {
     0x4000_0000 + (interface as u32) * 0x40_0000 + (setting as u32) * 0x4000
@@ -25,9 +30,19 @@ pub fn endpoint(input: u32, number: u32, kind: u32, size: u32, packets: u32, int
         + interval % 256 * 4
 }
 
-// Whether a list is valid, after its description.
+// Whether a list is valid at High speed, after its description.
 fn case(rt: &impl Print, label: &str, list: &[u32]) -> io::Result<()> {
-    println!(rt; "{label} {}", yes_or_no(descriptor_list::valid_list(list)))
+    println!(rt;
+        "{label} {}",
+        yes_or_no(descriptor_list::list_ok(list, def::HIGH))
+    )
+}
+
+// Whether a list passes for 4, and whether for 26, at a speed.
+fn case_at(rt: &impl Print, label: &str, speed: u8, list: &[u32]) -> io::Result<()> {
+    let passes = yes_or_no(descriptor_list::list_ok(list, speed));
+    let fits = yes_or_no(descriptor_list::companions_fit(list, speed));
+    println!(rt; "{label} {passes} {fits}")
 }
 
 pub fn valid(rt: &impl Print) -> io::Result<()> {
@@ -135,7 +150,41 @@ fn interface_limit(rt: &impl Print) -> io::Result<()> {
     case(rt, "33 interfaces:", &interfaces)
 }
 
-fn find(rt: &impl Print, label: &str, list: &[u32], interface: u8, setting: u8) -> io::Result<()> {
+pub fn companions(rt: &impl Print) -> io::Result<()> {
+    let isochronous = endpoint(1, 1, 1, 1024, 1, 1);
+    println!(rt; "at a speed: passes for 4, and for 26")?;
+    for speed in def::FULL..=def::SUPER_PLUS {
+        print!(rt; "speed {speed}")?;
+        let bulk = [CONFIGURATION, ALTERNATE, BULK, COMPANION];
+        case_at(rt, ", a companion:", speed, &bulk)?;
+        case_at(rt, "  none:", speed, &bulk[0..3])?;
+    }
+    let super_case = |label: &str, list: &[u32]| case_at(rt, label, def::SUPER, list);
+    super_case("a companion first:", &[COMPANION])?;
+    super_case("behind a configuration:", &[CONFIGURATION, COMPANION])?;
+    super_case(
+        "two:",
+        &[CONFIGURATION, ALTERNATE, BULK, COMPANION, COMPANION],
+    )?;
+    super_case(
+        "mult of a bulk endpoint:",
+        &[CONFIGURATION, ALTERNATE, BULK, MULT],
+    )?;
+    super_case(
+        "of an isochronous one:",
+        &[CONFIGURATION, ALTERNATE, isochronous, MULT],
+    )?;
+    super_case(
+        "3 of it:",
+        &[CONFIGURATION, ALTERNATE, isochronous, MULT + 0x200_0000],
+    )?;
+    super_case(
+        "an unused bit:",
+        &[CONFIGURATION, ALTERNATE, BULK, COMPANION + 1],
+    )
+}
+
+fn find(rt: &impl Print, label: &str, list: &[u64], interface: u8, setting: u8) -> io::Result<()> {
     match descriptor_list::find_interface_endpoints(list, interface, setting) {
         Some(EndpointWords { start, count }) => println!(rt; "{label} {start} {count}"),
         None => println!(rt; "{label} not found"),
@@ -143,10 +192,11 @@ fn find(rt: &impl Print, label: &str, list: &[u32], interface: u8, setting: u8) 
 }
 
 pub fn lookup(rt: &impl Print) -> io::Result<()> {
-    let list = [
+    let words = [
         CONFIGURATION,
         ALTERNATE,
         BULK,
+        COMPANION,
         alternate(0, 1),
         BULK,
         BULK,
@@ -154,20 +204,22 @@ pub fn lookup(rt: &impl Print) -> io::Result<()> {
         alternate(0, 1),
         alternate(7, 0),
     ];
-    find(rt, "interface 0, alternate 0:", &list, 0, 0)?;
+    let all = Joined::of(&words);
+    let list = all.words();
+    find(rt, "interface 0, alternate 0:", list, 0, 0)?;
     find(
         rt,
         "interface 0, alternate 1, the first of two:",
-        &list,
+        list,
         0,
         1,
     )?;
     find(
         rt,
         "interface 7, alternate 0, of another configuration:",
-        &list,
+        list,
         7,
         0,
     )?;
-    find(rt, "interface 7, alternate 1:", &list, 7, 1)
+    find(rt, "interface 7, alternate 1:", list, 7, 1)
 }

@@ -19,6 +19,7 @@ fn main(rt: HostRuntime) -> io::Result<()> {
     list::valid(&rt)?;
     list::refused(&rt)?;
     list::limits(&rt)?;
+    list::companions(&rt)?;
     list::lookup(&rt)?;
     chain::accepted(&rt)?;
     chain::refused(&rt)?;

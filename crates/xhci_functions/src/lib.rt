@@ -33,31 +33,41 @@ fn as_answered(a: Result<usize, Refusal>) -> Answered
 }
 
 #[tactic(auto, unfolding(crate::specs::Crossed::crossed))]
-pub fn xhci_device_read_descriptors(bytes: &[u8], words: &mut [u32]) -> Answered
-    ensures { crosses result words.new ≡ crossed (read_descriptors bytes.now words.old) }
+pub fn xhci_device_read_descriptors(bytes: &[u8], speed: u8, words: &mut [u32]) -> Answered
+    ensures { crosses result words.new ≡ crossed (read_descriptors speed bytes.now words.old) }
 {
-    as_answered(descriptor_reader::read_descriptors(bytes, words))
+    as_answered(descriptor_reader::read_descriptors(bytes, speed, words))
 }
 
 #[tactic(auto, unfolding(crate::specs::Crossed::crossed))]
-pub fn xhci_device_write_descriptors(list: &[u32], bytes: &mut [u8]) -> Answered
-    ensures { crosses result bytes.new ≡ crossed (write_descriptors list.now bytes.old) }
+pub fn xhci_device_write_descriptors(list: &[u32], speed: u8, bytes: &mut [u8]) -> Answered
+    ensures { crosses result bytes.new ≡ crossed (write_descriptors speed list.now bytes.old) }
 {
-    as_answered(descriptor_writer::write_descriptors(list, bytes))
+    as_answered(descriptor_writer::write_descriptors(list, speed, bytes))
 }
 
 #[tactic(auto, unfolding(crate::specs::Crossed::crossed))]
-pub fn xhci_device_settings_to_new(settings: &[u8], list: &[u32], bytes: &mut [u8]) -> Answered
-    ensures { crosses result bytes.new ≡ crossed (to_new settings.now list.now bytes.old) }
+pub fn xhci_device_settings_to_new(
+    settings: &[u8],
+    list: &[u32],
+    speed: u8,
+    bytes: &mut [u8],
+) -> Answered
+    ensures { crosses result bytes.new ≡ crossed (to_new speed settings.now list.now bytes.old) }
 {
-    as_answered(settings_form::to_new(settings, list, bytes))
+    as_answered(settings_form::to_new(settings, list, speed, bytes))
 }
 
 #[tactic(auto, unfolding(crate::specs::Crossed::crossed))]
-pub fn xhci_device_settings_to_old(settings: &[u8], list: &[u32], bytes: &mut [u8]) -> Answered
-    ensures { crosses result bytes.new ≡ crossed (to_old settings.now list.now bytes.old) }
+pub fn xhci_device_settings_to_old(
+    settings: &[u8],
+    list: &[u32],
+    speed: u8,
+    bytes: &mut [u8],
+) -> Answered
+    ensures { crosses result bytes.new ≡ crossed (to_old speed settings.now list.now bytes.old) }
 {
-    as_answered(settings_form::to_old(settings, list, bytes))
+    as_answered(settings_form::to_old(settings, list, speed, bytes))
 }
 
 // Where an endpoint's block stands: the number of the answer and, where it is 0, where the block begins in its context, and how many bytes it has.

@@ -12,39 +12,49 @@ ghost use Rattle.xhci_functions.specs.Crossed.{crosses, crossed, placed_of};
 use xhci_functions::{Answered, Placed};
 
 #[unsafe(no_mangle)]
-pub extern "C" fn xhci_device_read_descriptors(bytes: &[u8], words: &mut [u32]) -> Answered
-    ensures { crosses result words.new ≡ crossed (read_descriptors bytes.now words.old) }
+pub extern "C" fn xhci_device_read_descriptors(
+    bytes: &[u8],
+    speed: u8,
+    words: &mut [u32],
+) -> Answered
+    ensures { crosses result words.new ≡ crossed (read_descriptors speed bytes.now words.old) }
 {
-    xhci_functions::xhci_device_read_descriptors(bytes, words)
+    xhci_functions::xhci_device_read_descriptors(bytes, speed, words)
 }
 
 #[unsafe(no_mangle)]
-pub extern "C" fn xhci_device_write_descriptors(list: &[u32], bytes: &mut [u8]) -> Answered
-    ensures { crosses result bytes.new ≡ crossed (write_descriptors list.now bytes.old) }
+pub extern "C" fn xhci_device_write_descriptors(
+    list: &[u32],
+    speed: u8,
+    bytes: &mut [u8],
+) -> Answered
+    ensures { crosses result bytes.new ≡ crossed (write_descriptors speed list.now bytes.old) }
 {
-    xhci_functions::xhci_device_write_descriptors(list, bytes)
+    xhci_functions::xhci_device_write_descriptors(list, speed, bytes)
 }
 
 #[unsafe(no_mangle)]
 pub extern "C" fn xhci_device_settings_to_new(
     settings: &[u8],
     list: &[u32],
+    speed: u8,
     bytes: &mut [u8],
 ) -> Answered
-    ensures { crosses result bytes.new ≡ crossed (to_new settings.now list.now bytes.old) }
+    ensures { crosses result bytes.new ≡ crossed (to_new speed settings.now list.now bytes.old) }
 {
-    xhci_functions::xhci_device_settings_to_new(settings, list, bytes)
+    xhci_functions::xhci_device_settings_to_new(settings, list, speed, bytes)
 }
 
 #[unsafe(no_mangle)]
 pub extern "C" fn xhci_device_settings_to_old(
     settings: &[u8],
     list: &[u32],
+    speed: u8,
     bytes: &mut [u8],
 ) -> Answered
-    ensures { crosses result bytes.new ≡ crossed (to_old settings.now list.now bytes.old) }
+    ensures { crosses result bytes.new ≡ crossed (to_old speed settings.now list.now bytes.old) }
 {
-    xhci_functions::xhci_device_settings_to_old(settings, list, bytes)
+    xhci_functions::xhci_device_settings_to_old(settings, list, speed, bytes)
 }
 
 // The block of a Dci in an input or an output context of these lengths. A reference cannot cross, so C gets numbers.

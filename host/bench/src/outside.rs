@@ -1,4 +1,4 @@
-//! Functions that send no command: raw descriptors at three lengths, what a byte costs; settings of old boards; an endpoint's
+//! Functions that send no command: raw descriptors at three lengths, what a byte costs, with companions too; settings of old boards; an endpoint's
 //! block; and the reasons of claims.
 
 use scenario::{
@@ -41,20 +41,47 @@ fn interface(place: usize) -> [u8; 9] {
 const OTHER: [u8; 9] = [9, 33, 0, 0, 0, 0, 0, 0, 0];
 
 /// One configuration of so many descriptors of 9 bytes, itself included: one in `apart` is an interface, the rest are
-/// of another type.
+/// of another type. At High speed.
 fn read(descriptors: usize, apart: usize) -> Question {
+    let speed = 3;
     let [low, high] = (9 * descriptors as u16).to_le_bytes();
     let interfaces = ((descriptors - 1) / apart).min(32) as u8;
     let mut bytes = vec![9, 2, low, high, interfaces, 1, 0, 0x80, 0];
     for place in 1..descriptors {
         bytes.extend(if place % apart == 0 { interface(place / apart - 1) } else { OTHER });
     }
-    Question::Read(RawRead { bytes, room: WORDS_ROOM })
+    Question::Read(RawRead { speed, bytes, room: WORDS_ROOM })
 }
 
 fn write(words: usize) -> Question {
+    let speed = 3;
     let list = [1 << 22].into_iter().chain((1..words).map(word)).collect();
-    Question::Write(RawWrite { list, room: BYTES_ROOM })
+    Question::Write(RawWrite { speed, list, room: BYTES_ROOM })
+}
+
+/// A list of one configuration and alternates of up to 30 endpoints with a companion each, so many endpoints in all.
+fn companions(endpoints: usize) -> Vec<u32> {
+    let mut list = vec![1 << 22];
+    for at in 0..endpoints {
+        if at % 30 == 0 {
+            list.push(1 << 30 | (at as u32 / 30) << 14);
+        }
+        let (number, burst) = (1 + at as u32 % 15, at as u32 % 16);
+        list.extend([2 << 30 | number << 25 | 2 << 23 | 1024 << 12 | 1 << 10, 3 << 30 | burst << 26]);
+    }
+    list
+}
+
+/// At SuperSpeed.
+fn write_companions(endpoints: usize) -> RawWrite {
+    RawWrite { speed: 4, list: companions(endpoints), room: BYTES_ROOM }
+}
+
+/// What that writes is read.
+fn read_companions(endpoints: usize) -> Option<RawRead> {
+    let (reply, mut bytes) = write_companions(endpoints).ask(&*runner::functions("model")?);
+    bytes.truncate(reply.count);
+    Some(RawRead { speed: 4, bytes, room: WORDS_ROOM })
 }
 
 /// So many pairs, interfaces from 0 on, of a configuration with their alternates alone or, `last`, with these behind all
@@ -64,7 +91,7 @@ fn convert(to: Form, pairs: usize, last: bool) -> Option<Question> {
     let held = (0..pairs as u32).map(|interface| 1 << 30 | interface << 22 | 255 << 14);
     let list: Vec<u32> = [1 << 22].into_iter().chain((0..before).map(word)).chain(held).collect();
     let settings = (0..pairs as u8).flat_map(|interface| [interface, 255]).collect();
-    let old = Conversion { list, settings, ..Conversion::to(Form::New) };
+    let old = Conversion { speed: 3, list, settings, ..Conversion::to(Form::New) };
     if to == Form::New {
         return Some(Question::Convert(old));
     }
@@ -99,6 +126,11 @@ pub fn inputs() -> Vec<(String, Question)> {
     let interfaces = lengths.map(|count| of("read-interfaces", count, read(count, 1)));
     let quarter = lengths.map(|count| of("read-a-quarter-interfaces", count, read(count, 4)));
     let written = [64, 128, 256].map(|count| of("write", count, write(count)));
+    let paired = [30, 60, 125].map(|endpoints| {
+        let (read, write) = (read_companions(endpoints).expect("the model"), write_companions(endpoints));
+        [("read", Question::Read(read)), ("write", Question::Write(write))]
+            .map(|(name, question)| (format!("{name}-companions-{endpoints}"), question))
+    });
     let converted = [("settings-to-new", Form::New), ("settings-to-old", Form::Old)].map(|(name, to)| {
         let of = |pairs, last| {
             let behind = if last { "-behind-the-list" } else { "" };
@@ -109,7 +141,8 @@ pub fn inputs() -> Vec<(String, Question)> {
     let sides = [(Side::Input, "input"), (Side::Output, "output")];
     let shown =
         sides.map(|(from, side)| [32, 64].map(|spacing| (format!("block-{side}-{spacing}"), show(from, spacing))));
-    let outside = interfaces.into_iter().chain(quarter).chain(written).chain(converted.into_iter().flatten());
+    let outside = interfaces.into_iter().chain(quarter).chain(written).chain(paired.into_iter().flatten());
+    let outside = outside.chain(converted.into_iter().flatten());
     outside.chain(shown.into_iter().flatten()).chain(claimed().expect("claims.txt")).collect()
 }
 

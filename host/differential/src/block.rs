@@ -101,20 +101,20 @@ mod tests {
     }
 
     impl Functions for Wrong {
-        fn read_descriptors(&self, bytes: &[u8], words: &mut [u32]) -> Reply {
-            functions("model").read_descriptors(bytes, words)
+        fn read_descriptors(&self, bytes: &[u8], speed: u8, words: &mut [u32]) -> Reply {
+            functions("model").read_descriptors(bytes, speed, words)
         }
 
-        fn write_descriptors(&self, list: &[u32], bytes: &mut [u8]) -> Reply {
-            functions("model").write_descriptors(list, bytes)
+        fn write_descriptors(&self, list: &[u32], speed: u8, bytes: &mut [u8]) -> Reply {
+            functions("model").write_descriptors(list, speed, bytes)
         }
 
-        fn settings_to_new(&self, settings: &[u8], list: &[u32], bytes: &mut [u8]) -> Reply {
-            functions("model").settings_to_new(settings, list, bytes)
+        fn settings_to_new(&self, settings: &[u8], list: &[u32], speed: u8, bytes: &mut [u8]) -> Reply {
+            functions("model").settings_to_new(settings, list, speed, bytes)
         }
 
-        fn settings_to_old(&self, settings: &[u8], list: &[u32], bytes: &mut [u8]) -> Reply {
-            functions("model").settings_to_old(settings, list, bytes)
+        fn settings_to_old(&self, settings: &[u8], list: &[u32], speed: u8, bytes: &mut [u8]) -> Reply {
+            functions("model").settings_to_old(settings, list, speed, bytes)
         }
 
         fn choose(&self, record: &Record, names: &[u8], longest: u32) -> Chosen {

@@ -20,6 +20,38 @@ pub fn endpoint(address: u8, kind: u32, size: u32, packets: u32, interval: u8) -
     2 << 30 | input << 29 | number << 25 | kind << 23 | size << 12 | packets << 10 | u32::from(interval) << 2
 }
 
+pub fn companion(burst: u32, mult: u32, bytes: u32) -> u32 {
+    3 << 30 | burst << 26 | mult << 24 | bytes << 8
+}
+
+/// Whether endpoints have companions.
+pub fn is_super(speed: u8) -> bool {
+    matches!(speed, 4 | 5)
+}
+
+/// The most that a companion of an endpoint word may say as mult.
+pub fn most_mult(word: u32) -> u32 {
+    if word >> 23 & 3 == ISOCHRONOUS { 2 } else { 0 }
+}
+
+/// A list as it is at a speed: at 4 and 5 with a companion behind each endpoint word that has none. Each says something else.
+pub fn at_speed(speed: u8, list: &[u32]) -> Vec<u32> {
+    let mut words = Vec::new();
+    for (at, word) in list.iter().enumerate() {
+        words.push(*word);
+        let has_one = list.get(at + 1).is_some_and(|next| next >> 30 == 3);
+        if is_super(speed) && word >> 30 == 2 && !has_one {
+            let place = at as u32;
+            words.push(companion(
+                (7 * place + 3) % 16,
+                (place + 1) % (most_mult(*word) + 1),
+                5 + 1031 * place % 0xFFFF,
+            ));
+        }
+    }
+    words
+}
+
 #[derive(Clone, Copy, Debug)]
 pub struct Hub {
     pub present: bool,
@@ -77,7 +109,7 @@ pub fn buffers(ctx: Vec<u8>, routes: Vec<u64>, outcomes: Vec<u8>) -> Buffers {
     Buffers { ctx, routes, log: filled_words(LOG_LEN), outcomes }
 }
 
-/// A plain bring-up of slot 1 of 2 with a list. Control's ring is 0x1000.
+/// A plain bring-up of slot 1 of 2 with a list, which gets its companions. Control's ring is 0x1000.
 pub fn plain(speed: u8, list: &[u32]) -> BringUp {
     BringUp {
         slot: 1,
@@ -88,7 +120,7 @@ pub fn plain(speed: u8, list: &[u32]) -> BringUp {
         rings: all_rings(),
         header: 8,
         packet: if speed > 3 { 9 } else { 64 },
-        list: list.to_vec(),
+        list: at_speed(speed, list),
         ..BringUp::default()
     }
 }

@@ -15,7 +15,7 @@ pub fn run(pair: &Pair, tally: &mut Tally<Choice>, seed: u64, cases: u64) {
     random::run(pair, tally, seed, cases / 4);
 }
 
-/// A sound record of a list, which holds nothing.
+/// A sound record of a list, which gets its companions, and which holds nothing.
 fn record(speed: u8, list: Vec<u32>) -> Record {
     Record {
         usable: true,
@@ -26,7 +26,7 @@ fn record(speed: u8, list: Vec<u32>) -> Record {
         speed,
         control: 0x1000,
         given: crate::build::all_rings(),
-        list,
+        list: crate::build::at_speed(speed, &list),
         ..Record::default()
     }
 }
@@ -93,7 +93,7 @@ mod tests {
         let mut alternates: Vec<Vec<u32>> = Vec::new();
         for word in list {
             match word >> 30 {
-                2 => alternates.last_mut().expect("an alternate").push(*word),
+                2 | 3 => alternates.last_mut().expect("an alternate").push(*word),
                 _ => alternates.push(vec![*word]),
             }
         }
@@ -106,20 +106,20 @@ mod tests {
     }
 
     impl Functions for Wrong {
-        fn read_descriptors(&self, bytes: &[u8], words: &mut [u32]) -> Reply {
-            functions("model").read_descriptors(bytes, words)
+        fn read_descriptors(&self, bytes: &[u8], speed: u8, words: &mut [u32]) -> Reply {
+            functions("model").read_descriptors(bytes, speed, words)
         }
 
-        fn write_descriptors(&self, list: &[u32], bytes: &mut [u8]) -> Reply {
-            functions("model").write_descriptors(list, bytes)
+        fn write_descriptors(&self, list: &[u32], speed: u8, bytes: &mut [u8]) -> Reply {
+            functions("model").write_descriptors(list, speed, bytes)
         }
 
-        fn settings_to_new(&self, settings: &[u8], list: &[u32], bytes: &mut [u8]) -> Reply {
-            functions("model").settings_to_new(settings, list, bytes)
+        fn settings_to_new(&self, settings: &[u8], list: &[u32], speed: u8, bytes: &mut [u8]) -> Reply {
+            functions("model").settings_to_new(settings, list, speed, bytes)
         }
 
-        fn settings_to_old(&self, settings: &[u8], list: &[u32], bytes: &mut [u8]) -> Reply {
-            functions("model").settings_to_old(settings, list, bytes)
+        fn settings_to_old(&self, settings: &[u8], list: &[u32], speed: u8, bytes: &mut [u8]) -> Reply {
+            functions("model").settings_to_old(settings, list, speed, bytes)
         }
 
         fn endpoint_block<'a>(&self, input: &'a [u8], output: &'a [u8], from: Side, dci: u8) -> (u8, &'a [u8]) {

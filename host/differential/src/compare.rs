@@ -241,6 +241,7 @@ fn left_alone(case: &Case, subject: &Done) -> bool {
 fn rule(case: &Case, subject: &Done, reference: &Result<Done, Cannot>) -> Verdict {
     let number = subject.answer.number;
     match (&case.call, number) {
+        (Call::BringUp(_), 26) => Verdict::Uncompared("26: companions"),
         (Call::BringUp(args), 4 | 5 | 6 | 10 | 11) => refused_bring_up(args, number, reference),
         (_, 1..=3) if no_such_input(reference) => Verdict::Uncompared("1, 2, 3: lengths"),
         (Call::Ask(_), _) if no_such_input(reference) => Verdict::Uncompared("an ask"),
@@ -493,8 +494,10 @@ mod tests {
                     let owner = |word: u32| record.endpoints.iter().find(|e| e.address == address(word));
                     let words = record.list.iter().copied();
                     let sought = 1 << 30 | u32::from(claim.interface) << 22 | u32::from(claim.alternate) << 14;
-                    let mut after = words.skip_while(|word| *word != sought).skip(1).take_while(|word| word >> 30 == 2);
-                    let found = after.find_map(|word| Some(Reason::Endpoint { word, owner: owner(word)?.owner }));
+                    let after = words.skip_while(|word| *word != sought).skip(1).take_while(|word| word >> 30 >= 2);
+                    let found = after
+                        .filter(|word| word >> 30 == 2)
+                        .find_map(|word| Some(Reason::Endpoint { word, owner: owner(word)?.owner }));
                     found.unwrap_or(reason)
                 }
                 (Wrong::Held, Reason::Alternate { interface, .. }) => {

@@ -11,7 +11,7 @@ use crate::tally::Tally;
 
 type Part = fn(&mut Pair, &mut Tally);
 
-pub const PARTS: [(&str, Part); 11] = [
+pub const PARTS: [(&str, Part); 12] = [
     ("refusals", faults::refusals),
     ("records", faults::records),
     ("routes", faults::routes),
@@ -19,6 +19,7 @@ pub const PARTS: [(&str, Part); 11] = [
     ("store", store),
     ("asks", asks),
     ("intervals", intervals),
+    ("companions", companions),
     ("ports", ports),
     ("packets", packets),
     ("think", think),
@@ -377,7 +378,7 @@ fn spoiled(pair: &mut Pair, tally: &mut Tally, case: &Case) {
     }
 }
 
-/// A record of slot 1 of 2 that holds nothing.
+/// A record of slot 1 of 2 that holds nothing, of a list which gets its companions.
 pub fn idle(speed: u8, spacing: usize, list: &[u32]) -> Record {
     Record {
         usable: true,
@@ -389,7 +390,7 @@ pub fn idle(speed: u8, spacing: usize, list: &[u32]) -> Record {
         config: Some(1),
         control: 0x1000,
         given: all_rings(),
-        list: list.to_vec(),
+        list: at_speed(speed, list),
         ..Record::default()
     }
 }
@@ -400,9 +401,9 @@ fn idle_buffers(spacing: usize, rng: &mut Rng) -> Buffers {
     buffers(context(spacing, rng), routes, ALL_DONE.to_vec())
 }
 
-fn claim_alone(pair: &mut Pair, tally: &mut Tally, speed: u8, word: u32, base: &Buffers) {
+fn claim_alone(pair: &mut Pair, tally: &mut Tally, speed: u8, words: &[u32], base: &Buffers) {
     let spacing = base.ctx.len() / 33;
-    let list = [configuration(1), alternate(0, 0), word];
+    let list = [&[configuration(1), alternate(0, 0)], words].concat();
     let record = Record { given: vec![0xF_FFFF_FFF0, 0x1000], ..idle(speed, spacing, &list) };
     pair.compare(tally, &Case::new(claim(0, 0), &record, base.clone()));
 }
@@ -415,19 +416,76 @@ fn intervals(pair: &mut Pair, tally: &mut Tally) {
         for kind in [ISOCHRONOUS, BULK, INTERRUPT] {
             for interval in 0..=255 {
                 for packets in 0..4 {
-                    claim_alone(pair, tally, speed, endpoint(0x81, kind, 64, packets, interval), &zero);
+                    claim_alone(pair, tally, speed, &[endpoint(0x81, kind, 64, packets, interval)], &zero);
                 }
             }
             for size in 0..2048 {
-                claim_alone(pair, tally, speed, endpoint(0x02, kind, size, size % 4, 4), &zero);
+                claim_alone(pair, tally, speed, &[endpoint(0x02, kind, size, size % 4, 4)], &zero);
             }
             for spacing in [32, 64] {
                 let base = idle_buffers(spacing, &mut rng);
                 for address in (1..=15).chain(0x81..=0x8F) {
-                    claim_alone(pair, tally, speed, endpoint(address, kind, 512, 3, 9), &base);
+                    claim_alone(pair, tally, speed, &[endpoint(address, kind, 512, 3, 9)], &base);
                 }
             }
         }
+    }
+}
+
+/// At speeds 4 and 5 every burst with every mult of every type, every number of bytes per interval, and an address twice
+/// with companions of its own; lists with a companion too many, missing or out of range, at speed 3 too.
+fn companions(pair: &mut Pair, tally: &mut Tally) {
+    let mut rng = Rng::new(13);
+    let kinds = [ISOCHRONOUS, BULK, INTERRUPT];
+    for (speed, spacing) in [(4, 32), (4, 64), (5, 32), (5, 64)] {
+        let base = idle_buffers(spacing, &mut rng);
+        for (kind, place) in kinds.iter().flat_map(|kind| (0..16 * 3 * 8).map(move |place| (*kind, place))) {
+            let word = endpoint(0x81, kind, 1024, place % 4, 4);
+            let (burst, mult) = (place % 16, place / 16 % (most_mult(word) + 1));
+            let bytes = [0, 1, 0xFF, 0x100, 0x7FFF, 0x8000, 0xFFFF, 0x1234][place as usize / 48];
+            claim_alone(pair, tally, speed, &[word, companion(burst, mult, bytes)], &base);
+        }
+        for (first, second) in kinds.iter().flat_map(|first| kinds.iter().map(move |second| (*first, *second))) {
+            let words = [endpoint(0x02, first, 512, 1, 3), companion(9, 0, 700)];
+            let twice = [endpoint(0x02, second, 64, 0, 5), companion(2, most_mult(second << 23), 0xABCD)];
+            claim_alone(pair, tally, speed, &[words, twice].concat(), &base);
+        }
+    }
+    let base = idle_buffers(64, &mut rng);
+    for bytes in 0..=0xFFFF {
+        let word = endpoint(0x8F, kinds[bytes as usize % 3], 1024, 1, 1);
+        claim_alone(pair, tally, 4 + (bytes % 2) as u8, &[word, companion(bytes % 16, 0, bytes)], &base);
+    }
+    for speed in [3, 4, 5] {
+        companion_lists(pair, tally, speed);
+    }
+}
+
+/// Bring-ups with a list of which each word is left out, doubled, moved, and each bit turned.
+fn companion_lists(pair: &mut Pair, tally: &mut Tally, speed: u8) {
+    let sample = at_speed(4, &sharing_list());
+    for at in 0..sample.len() {
+        let mut with = |change: &dyn Fn(&mut Vec<u32>)| {
+            let mut list = sample.clone();
+            change(&mut list);
+            bring_up(pair, tally, BringUp { list, ..plain(speed, &[]) }, &ALL_DONE);
+        };
+        (0..32).for_each(|bit| with(&|list| list[at] ^= 1 << bit));
+        for to in 0..sample.len() {
+            with(&|list| list.swap(at, to));
+            with(&|list| list.insert(to, list[at]));
+        }
+        with(&|list| _ = list.remove(at));
+        with(&|list| list.truncate(at));
+    }
+    for count in 100..=130 {
+        let pairs = (0..count).flat_map(|at| {
+            let word = endpoint(1 + at as u8 % 15, BULK, 512, 1, 0);
+            let next = (at % 30 == 0).then(|| alternate(0, at as u8));
+            next.into_iter().chain([word, companion(at % 16, 0, at)])
+        });
+        let list = [configuration(1)].into_iter().chain(pairs).collect();
+        bring_up(pair, tally, BringUp { list, ..plain(speed, &[]) }, &ALL_DONE);
     }
 }
 

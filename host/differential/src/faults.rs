@@ -15,7 +15,7 @@ fn subsets(faults: usize) -> impl Iterator<Item = Vec<usize>> {
 
 /// Every set of faults that a call can have, so that the order of the checks shows.
 pub fn refusals(pair: &mut Pair, tally: &mut Tally) {
-    for faults in subsets(9) {
+    for faults in subsets(10) {
         let args = plain(3, &[configuration(1)]);
         let given = buffers(vec![0x5A; 1056], vec![0; 96], ALL_DONE.to_vec());
         let mut case = Case::new(Call::BringUp(args), &Record::default(), given);
@@ -104,7 +104,12 @@ fn spoil_bring_up(case: &mut Case, fault: usize) {
         5 => args.list.push(endpoint(1, BULK, 8, 0, 0)),
         6 => args.has_parent = true,
         7 => args.rings = vec![8],
-        _ => args.slot = 3,
+        8 => args.slot = 3,
+        // An endpoint without a companion.
+        _ => {
+            args.speed = if args.speed == 3 { 5 } else { args.speed };
+            args.list.extend([alternate(0, 0), endpoint(1, BULK, 8, 0, 0)]);
+        }
     }
 }
 
@@ -118,7 +123,8 @@ pub fn records(pair: &mut Pair, tally: &mut Tally) {
         Call::Disconnect,
     ];
     let broken = Record { usable: false, quarantined: vec![0x1000, 0x6000], ..sound_record() };
-    for record in altered(&sound_record()).into_iter().chain(altered(&broken)) {
+    let companied = Record { speed: 4, list: at_speed(4, &sharing_list()), ..sound_record() };
+    for record in [sound_record(), broken, companied].iter().flat_map(altered) {
         let mut given = sound_buffers();
         given.ctx.resize(33 * record.spacing, 0);
         given.routes.resize(32 * (usize::from(record.n) + 1), 0);

@@ -2,6 +2,7 @@
 
 use scenario::{BringUp, Call, Record};
 
+use crate::build::{BULK, INTERRUPT, ISOCHRONOUS, is_super};
 use crate::case::Case;
 use crate::compare::Done;
 
@@ -15,6 +16,11 @@ struct Field {
 const CONTEXT_ENTRIES: Field = Field { doubleword: 0, low: 27, width: 5 };
 const INTERVAL: Field = Field { doubleword: 0, low: 16, width: 8 };
 const MAX_PACKET_SIZE: Field = Field { doubleword: 1, low: 16, width: 16 };
+const MAX_BURST_SIZE: Field = Field { doubleword: 1, low: 8, width: 8 };
+const MULT: Field = Field { doubleword: 0, low: 8, width: 2 };
+const MAX_ESIT_PAYLOAD_HI: Field = Field { doubleword: 0, low: 24, width: 8 };
+const AVERAGE_TRB_LENGTH: Field = Field { doubleword: 4, low: 0, width: 16 };
+const MAX_ESIT_PAYLOAD_LO: Field = Field { doubleword: 4, low: 16, width: 16 };
 
 /// What a document decides of one call: the field of each of these Dcis' blocks, 0 being the slot's, and its value.
 struct Decided {
@@ -23,8 +29,13 @@ struct Decided {
 }
 
 /// The table; docs/DIFFERENCES.md says what the original has in these places.
-fn table(case: &Case, reference: &Done) -> [Decided; 3] {
+fn table(case: &Case, reference: &Done) -> [Decided; 8] {
     [
+        Decided { field: MAX_BURST_SIZE, values: companion(case, reference, &[ISOCHRONOUS, BULK, INTERRUPT], burst) },
+        Decided { field: MULT, values: companion(case, reference, &PERIODIC, mult) },
+        Decided { field: MAX_ESIT_PAYLOAD_HI, values: companion(case, reference, &PERIODIC, |_| 0) },
+        Decided { field: AVERAGE_TRB_LENGTH, values: companion(case, reference, &PERIODIC, bytes_per_interval) },
+        Decided { field: MAX_ESIT_PAYLOAD_LO, values: companion(case, reference, &PERIODIC, bytes_per_interval) },
         Decided { field: CONTEXT_ENTRIES, values: last_in_use(case, reference) },
         Decided { field: MAX_PACKET_SIZE, values: super_packet_size(case, reference) },
         Decided { field: INTERVAL, values: full_isochronous(case, reference) },
@@ -52,14 +63,43 @@ fn super_packet_size(case: &Case, reference: &Done) -> Vec<(u8, u32)> {
     }
 }
 
+/// xHCI 1.2, section 6.2.3: what its companion says of an endpoint at speeds 4 and 5 (USB 3.2, section 9.6.7), where it is of
+/// one of these types. Of an address that is listed twice the last such word counts.
+fn companion(case: &Case, reference: &Done, kinds: &[u32], value: fn(u32) -> u32) -> Vec<(u8, u32)> {
+    let mut last = [None; 32];
+    for Endpoint { word, companion } in added(case, reference) {
+        if is_super(case.record.speed) && kinds.contains(&kind(word)) {
+            last[usize::from(dci(word))] = Some(value(companion));
+        }
+    }
+    let there = (0..32).zip(last).filter_map(|(dci, value)| Some((dci, value?)));
+    there.collect()
+}
+
+const PERIODIC: [u32; 2] = [ISOCHRONOUS, INTERRUPT];
+
+fn burst(companion: u32) -> u32 {
+    companion >> 26 & 15
+}
+
+fn mult(companion: u32) -> u32 {
+    companion >> 24 & 3
+}
+
+fn bytes_per_interval(companion: u32) -> u32 {
+    companion >> 8 & 0xFFFF
+}
+
+fn kind(word: u32) -> u32 {
+    word >> 23 & 3
+}
+
 /// xHCI 1.2, section 6.2.3.6: of an isochronous endpoint at Full speed the byte is an exponent.
 fn full_isochronous(case: &Case, reference: &Done) -> Vec<(u8, u32)> {
-    const ISOCHRONOUS: u32 = 1;
     let mut last = [None; 32];
-    for word in added(case, reference) {
+    for Endpoint { word, .. } in added(case, reference) {
         last[usize::from(dci(word))] = Some(word);
     }
-    let kind = |word: u32| word >> 23 & 3;
     let words = last.into_iter().flatten().filter(|word| case.record.speed == 1 && kind(*word) == ISOCHRONOUS);
     words.map(|word| (dci(word), (word >> 2 & 0xFF).clamp(1, 16) + 2)).collect()
 }
@@ -67,11 +107,11 @@ fn full_isochronous(case: &Case, reference: &Done) -> Vec<(u8, u32)> {
 /// xHCI 1.2, section 6.2.2: the index of the last endpoint context in use, once a Configure is done.
 fn last_in_use(case: &Case, reference: &Done) -> Vec<(u8, u32)> {
     let Some(last) = configures(case, reference).pop() else { return Vec::new() };
-    let dropped: Vec<u8> = last.dropped.into_iter().map(dci).collect();
+    let dropped: Vec<u8> = last.dropped.iter().map(|endpoint| dci(endpoint.word)).collect();
     let recorded = case.record.endpoints.iter().map(|e| 2 * (e.address & 15) + (e.address >> 7));
     let recorded = recorded.filter(|_| !matches!(case.call, Call::BringUp(_)));
     let staying = recorded.filter(|dci| !dropped.contains(dci));
-    let entries = staying.chain(last.added.into_iter().map(dci)).max().unwrap_or(1);
+    let entries = staying.chain(last.added.iter().map(|endpoint| dci(endpoint.word))).max().unwrap_or(1);
     vec![(0, entries.into())]
 }
 
@@ -79,10 +119,17 @@ fn dci(word: u32) -> u8 {
     ((word >> 25 & 15) * 2 + (word >> 29 & 1)) as u8
 }
 
+/// An endpoint word with the companion behind it, 0 where there is none.
+#[derive(Clone, Copy)]
+struct Endpoint {
+    word: u32,
+    companion: u32,
+}
+
 /// The endpoint words of a Configure.
 struct Configure {
-    dropped: Vec<u32>,
-    added: Vec<u32>,
+    dropped: Vec<Endpoint>,
+    added: Vec<Endpoint>,
 }
 
 /// The Configures that the call sent, in their order.
@@ -112,13 +159,20 @@ fn configures(case: &Case, reference: &Done) -> Vec<Configure> {
 }
 
 /// The endpoint words that they added.
-fn added(case: &Case, reference: &Done) -> Vec<u32> {
+fn added(case: &Case, reference: &Done) -> Vec<Endpoint> {
     configures(case, reference).into_iter().flat_map(|configure| configure.added).collect()
 }
 
 /// The endpoint words of the first alternate that matches.
-fn words(record: &Record, interface: u8, alternate: u8) -> Vec<u32> {
+fn words(record: &Record, interface: u8, alternate: u8) -> Vec<Endpoint> {
     let wanted = 1 << 30 | u32::from(interface) << 22 | u32::from(alternate) << 14;
-    let after = record.list.iter().skip_while(|word| **word != wanted).skip(1);
-    after.take_while(|word| **word >> 30 == 2).copied().collect()
+    let mut found: Vec<Endpoint> = Vec::new();
+    for word in record.list.iter().copied().skip_while(|word| *word != wanted).skip(1) {
+        match word >> 30 {
+            2 => found.push(Endpoint { word, companion: 0 }),
+            3 => found.last_mut().into_iter().for_each(|last| last.companion = word),
+            _ => break,
+        }
+    }
+    found
 }

@@ -45,8 +45,9 @@ original.
   --calls N           how many of them (600000)
   --cases N           how many random cases of raw descriptors, and of settings (2000000); a twentieth of blocks, a
                       quarter of choices
-  --part PART         one part instead of all: refusals, records, routes, outcomes, store, asks, intervals, ports,
-                      packets, think, slots, random; raw, settings, block or choices (which the original has not)
+  --part PART         one part instead of all: refusals, records, routes, outcomes, store, asks, intervals,
+                      companions, ports, packets, think, slots, random; raw, settings, block or choices (which the
+                      original has not)
   --sample            print a small scenario for each call and answer, or case for each function and answer, instead
                       of the counts
   --store FOLDER      draw a sample of the reference's answers by path, from calls of its own, and write it to

@@ -18,9 +18,9 @@ pub trait Question: Clone {
     const TITLE: &'static str;
     /// The functions, each with the answers that it gives.
     const ANSWERS: &'static [(&'static str, &'static [u8])];
-    /// The grounds, and the answer that they are of.
+    /// The grounds, and the answers that they are of.
     const GROUNDS: &'static [Self::Ground];
-    const MALFORMED: u8;
+    const GROUNDS_OF: &'static str;
     /// What `returned` means.
     const RETURNED: &'static str = "there and back";
 

@@ -127,17 +127,18 @@ fn given(rng: &mut Rng, ctx: &[u8], routes: &[u64], all_done: u64) -> Buffers {
 fn bring_up(rng: &mut Rng) -> BringUp {
     let n = if rng.percent(97) { 1 + rng.below(6) as u32 } else { rng.of(&[0, 0, 40, 255, 256, 300]) };
     let slot = if rng.percent(97) && n > 0 { 1 + rng.below(u64::from(n.min(255))) as u8 } else { rng.byte() & 15 };
+    let speed = if rng.percent(98) { 1 + rng.below(5) as u8 } else { rng.byte() & 15 };
     let mut args = BringUp {
         slot,
         n,
-        speed: if rng.percent(98) { 1 + rng.below(5) as u8 } else { rng.byte() & 15 },
+        speed,
         port: port(rng),
         root_port: rng.byte(),
         rings: rings(rng),
         header: if rng.percent(98) { 8 } else { rng.below(20) as u32 },
         packet: rng.byte(),
         config: rng.byte(),
-        list: if rng.percent(96) { list(rng) } else { broken_list(rng) },
+        list: if rng.percent(96) { list(rng, speed) } else { broken_list(rng, speed) },
         ..BringUp::default()
     };
     // Most SuperSpeed devices say 9.
@@ -168,8 +169,8 @@ fn word(rng: &mut Rng, numbers: u64) -> u32 {
     endpoint(input | number, kind, rng.below(2048) as u32, rng.below(4) as u32, rng.byte())
 }
 
-/// A valid list; small numbers, so that addresses meet.
-pub fn list(rng: &mut Rng) -> Vec<u32> {
+/// A list that is valid at a speed; small numbers, so that addresses meet.
+pub fn list(rng: &mut Rng, speed: u8) -> Vec<u32> {
     let mut list = Vec::new();
     for _ in 0..rng.of(&[0, 1, 1, 1, 2, 2, 3, 8]) {
         list.push(configuration(rng.byte()));
@@ -182,20 +183,72 @@ pub fn list(rng: &mut Rng) -> Vec<u32> {
             }
         }
     }
-    list.truncate(256);
-    list
+    companied(rng, speed, list)
+}
+
+/// A companion for an endpoint word.
+fn companion_of(rng: &mut Rng, word: u32) -> u32 {
+    let mult = rng.below(u64::from(most_mult(word)) + 1) as u32;
+    let any = rng.next() as u32;
+    let bytes = rng.of(&[0, 1, 0xFFFF, any & 0xFFFF, any & 0xFF]);
+    companion(rng.below(16) as u32, mult, bytes)
+}
+
+/// A list at a speed: at 4 and 5 a companion behind each endpoint word, and no more than 256 words in all.
+pub fn companied(rng: &mut Rng, speed: u8, list: Vec<u32>) -> Vec<u32> {
+    let mut words = Vec::new();
+    for word in list {
+        words.push(word);
+        if is_super(speed) && word >> 30 == 2 {
+            words.push(companion_of(rng, word));
+        }
+    }
+    words.truncate(256);
+    if is_super(speed) && words.last().is_some_and(|last| last >> 30 == 2) {
+        words.pop();
+    }
+    words
+}
+
+/// At speeds 4 and 5: a companion missing, misplaced or out of range, or with an unused bit.
+fn misfit(rng: &mut Rng, list: &mut Vec<u32>) {
+    let places: Vec<usize> = (0..list.len()).filter(|at| list[*at] >> 30 == 3).collect();
+    let at = if places.is_empty() { list.len() } else { rng.of(&places) };
+    let stray = companion(rng.below(16) as u32, rng.below(4) as u32, rng.next() as u32 & 0xFFFF);
+    match rng.below(7) {
+        0 if at < list.len() => drop(list.remove(at)),
+        1 if at < list.len() => list[at] |= (1 + rng.below(3) as u32) << 24,
+        2 if at < list.len() => list[at] |= 3 << 24,
+        3 if at < list.len() => list[at] |= 1 << rng.below(8),
+        4 if at < list.len() => {
+            let to = rng.index(list.len());
+            list.swap(at, to);
+        }
+        _ => {
+            let to = rng.index(list.len() + 1);
+            list.insert(to, stray);
+        }
+    }
 }
 
 fn interface(rng: &mut Rng) -> u8 {
     rng.of(&[0, 0, 0, 1, 1, 2, 3, 255])
 }
 
-/// Lists that break one rule.
-pub fn broken_list(rng: &mut Rng) -> Vec<u32> {
-    let mut list = list(rng);
+/// Lists that break one rule; at speeds 4 and 5 now and then one of companions, alone or too.
+pub fn broken_list(rng: &mut Rng, speed: u8) -> Vec<u32> {
+    let mut list = if is_super(speed) && rng.percent(50) { list(rng, speed) } else { rule_broken(rng, speed) };
+    if is_super(speed) && rng.percent(70) {
+        misfit(rng, &mut list);
+    }
+    list
+}
+
+fn rule_broken(rng: &mut Rng, speed: u8) -> Vec<u32> {
+    let mut list = list(rng, speed);
     match rng.below(9) {
         0 => list.insert(0, alternate(0, 0)),
-        1 => list.push(3 << 30 | rng.next() as u32 >> 2),
+        1 => list.push(3 << 30 | rng.next() as u32 >> 2 | u32::from(is_super(speed))),
         2 => list.extend([configuration(1), endpoint(0x81, BULK, 8, 0, 0)]),
         3 => list.extend([configuration(1), alternate(0, 0), endpoint(0x80, BULK, 8, 0, 0)]),
         4 => list = vec![configuration(1); 9],
@@ -206,7 +259,10 @@ pub fn broken_list(rng: &mut Rng) -> Vec<u32> {
                 .collect()
         }
         6 => list = [configuration(1)].into_iter().chain((0..33).map(|i| alternate(i, 0))).collect(),
-        7 => list = [configuration(1), alternate(0, 0)].into_iter().chain([endpoint(1, BULK, 8, 0, 0); 31]).collect(),
+        7 => {
+            let run = [configuration(1), alternate(0, 0)].into_iter().chain([endpoint(1, BULK, 8, 0, 0); 31]);
+            list = companied(rng, speed, run.collect());
+        }
         _ => {
             let at = rng.index(list.len() + 1);
             list.insert(at, rng.next() as u32);

@@ -47,39 +47,60 @@ mod tests {
         Count,
         /// The attributes say that a configuration powers itself.
         Attributes,
+        /// Companions are read and written at SuperSpeed, and not at SuperSpeedPlus.
+        Four,
+        /// A list with a companion that says mult 1 fits.
+        Mult,
+        /// A burst above 15 is malformed.
+        Burst,
+    }
+
+    /// Whether a byte of a companion is like this.
+    fn any(bytes: &[u8], at: usize, is: fn(u8) -> bool) -> bool {
+        bytes::places(bytes)
+            .into_iter()
+            .any(|place| bytes[place + 1] == 48 && bytes.get(place + at).is_some_and(|b| is(*b)))
+    }
+
+    impl Wrong {
+        fn at(self, speed: u8) -> u8 {
+            if matches!(self, Wrong::Four) && speed == 5 { 3 } else { speed }
+        }
     }
 
     impl Functions for Wrong {
-        fn read_descriptors(&self, bytes: &[u8], words: &mut [u32]) -> Reply {
+        fn read_descriptors(&self, bytes: &[u8], speed: u8, words: &mut [u32]) -> Reply {
             let mut memory = vec![0; words.len().max(256)];
             memory[..words.len()].copy_from_slice(words);
             let mut reply = match self {
-                Wrong::Room => functions("model").read_descriptors(bytes, &mut memory),
-                _ => functions("model").read_descriptors(bytes, words),
+                Wrong::Room => functions("model").read_descriptors(bytes, speed, &mut memory),
+                _ => functions("model").read_descriptors(bytes, self.at(speed), words),
             };
             match self {
                 Wrong::Room if reply.count <= words.len() => words.copy_from_slice(&memory[..words.len()]),
                 Wrong::Past if reply.number == 0 && reply.count < words.len() => words[reply.count] = 0,
                 Wrong::Count if reply.number != 0 => reply.count = 1,
+                Wrong::Mult if reply.number == 26 && any(bytes, 3, |mult| mult & 3 == 1) => reply.number = 0,
+                Wrong::Burst if reply.number == 26 && any(bytes, 2, |burst| burst > 15) => reply.number = 20,
                 _ => {}
             }
             reply
         }
 
-        fn write_descriptors(&self, list: &[u32], bytes: &mut [u8]) -> Reply {
-            let reply = functions("model").write_descriptors(list, bytes);
+        fn write_descriptors(&self, list: &[u32], speed: u8, bytes: &mut [u8]) -> Reply {
+            let reply = functions("model").write_descriptors(list, self.at(speed), bytes);
             if matches!(self, Wrong::Attributes) && reply.count > 0 {
                 bytes[7] = 0xC0;
             }
             reply
         }
 
-        fn settings_to_new(&self, settings: &[u8], list: &[u32], bytes: &mut [u8]) -> Reply {
-            functions("model").settings_to_new(settings, list, bytes)
+        fn settings_to_new(&self, settings: &[u8], list: &[u32], speed: u8, bytes: &mut [u8]) -> Reply {
+            functions("model").settings_to_new(settings, list, speed, bytes)
         }
 
-        fn settings_to_old(&self, settings: &[u8], list: &[u32], bytes: &mut [u8]) -> Reply {
-            functions("model").settings_to_old(settings, list, bytes)
+        fn settings_to_old(&self, settings: &[u8], list: &[u32], speed: u8, bytes: &mut [u8]) -> Reply {
+            functions("model").settings_to_old(settings, list, speed, bytes)
         }
 
         fn endpoint_block<'a>(&self, input: &'a [u8], output: &'a [u8], from: Side, dci: u8) -> (u8, &'a [u8]) {
@@ -93,7 +114,8 @@ mod tests {
 
     #[test]
     fn what_is_wrong_is_found() {
-        for wrong in [Wrong::Room, Wrong::Past, Wrong::Count, Wrong::Attributes] {
+        let all = [Wrong::Room, Wrong::Past, Wrong::Count, Wrong::Attributes, Wrong::Four, Wrong::Mult, Wrong::Burst];
+        for wrong in all {
             let pair = Pair { reference: functions("model"), subject: Box::new(wrong) };
             let mut tally = Tally::default();
             random::run(&pair, &mut tally, 1, 5_000);

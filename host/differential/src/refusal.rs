@@ -2,6 +2,7 @@
 
 use scenario::{BringUp, Buffers, Call, HubUpdate, Record};
 
+use crate::build::{is_super, most_mult};
 use crate::case::Case;
 use crate::rows;
 
@@ -16,12 +17,12 @@ pub fn expected(case: &Case) -> Option<u8> {
 /// Whether `expected` knows of every refusal with that number.
 pub fn is_known(case: &Case, number: u8) -> bool {
     match &case.call {
-        Call::BringUp(_) => matches!(number, 1..=12 | 17),
+        Call::BringUp(_) => matches!(number, 1..=12 | 17 | 26),
         _ => matches!(number, 1 | 2 | 3 | 7 | 12 | 25),
     }
 }
 
-/// 11, 1, 2, 3, 6, 4, 5, 10, 17.
+/// 11, 1, 2, 3, 6, 4, 26, 5, 10, 17.
 fn bring_up(args: &BringUp, buffers: &Buffers) -> Option<u8> {
     let spacing = if buffers.ctx.len() == 2112 { 64 } else { 32 };
     let own_word = 32 * usize::from(args.slot) + 1;
@@ -30,7 +31,7 @@ fn bring_up(args: &BringUp, buffers: &Buffers) -> Option<u8> {
     }
     lengths(buffers, spacing, args.n)
         .or((args.speed == 0 || args.speed > 5).then_some(6))
-        .or(list_fault(&args.list).then_some(4))
+        .or(list_fault(&args.list, args.speed))
         .or(chain_fault(args).map(|_| 5))
         .or(rings_fault(&args.rings).then_some(10))
         .or_else(|| (buffers.routes[own_word] != 0).then_some(17))
@@ -117,8 +118,17 @@ pub fn chain_fault(args: &BringUp) -> Option<&'static str> {
     None
 }
 
-/// What is wrong with a list of descriptor words.
-pub fn list_fault(list: &[u32]) -> bool {
+/// What a list of descriptor words is refused with at a speed of 1 to 5: 4, and then 26.
+pub fn list_fault(list: &[u32], speed: u8) -> Option<u8> {
+    if rules_broken(list, speed) {
+        return Some(4);
+    }
+    (is_super(speed) && companions_misfit(list)).then_some(26)
+}
+
+/// 01's rules; at speeds 4 and 5 words of kind 3 count among the words only.
+fn rules_broken(words: &[u32], speed: u8) -> bool {
+    let list: Vec<u32> = words.iter().copied().filter(|w| *w >> 30 != 3).collect();
     let kinds: Vec<u32> = list.iter().map(|w| w >> 30).collect();
     let mut interfaces: Vec<u32> = list.iter().filter(|w| *w >> 30 == 1).map(|w| w >> 22 & 0xFF).collect();
     interfaces.sort();
@@ -128,13 +138,20 @@ pub fn list_fault(list: &[u32]) -> bool {
         0 => w & 0x3F_FFFF != 0,
         1 => w & 0x3FFF != 0,
         2 => w & 3 != 0 || w >> 25 & 15 == 0 || w >> 23 & 3 == 0,
-        _ => true,
+        _ => w & 0xFF != 0 || !is_super(speed),
     };
-    let misplaced = kinds.windows(2).any(|pair| pair == [0, 2]) || kinds.first().is_some_and(|k| *k != 0);
-    list.len() > 256
+    let misplaced = kinds.windows(2).any(|pair| pair == [0, 2]) || words.first().is_some_and(|w| w >> 30 != 0);
+    words.len() > 256
         || kinds.iter().filter(|k| **k == 0).count() > 8
         || interfaces.len() > 32
         || runs > 30
         || misplaced
-        || list.iter().any(word_fault)
+        || words.iter().any(word_fault)
+}
+
+/// Whether an endpoint word and a word of kind 3 do not always stand together, in this order, or a mult is too high.
+fn companions_misfit(list: &[u32]) -> bool {
+    let apart = |pair: &[u32]| (pair[0] >> 30 == 2) != (pair[1] >> 30 == 3);
+    let too_high = |pair: &[u32]| pair[1] >> 30 == 3 && pair[1] >> 24 & 3 > most_mult(pair[0]);
+    list.windows(2).any(|pair| apart(pair) || too_high(pair)) || list.last().is_some_and(|last| last >> 30 == 2)
 }

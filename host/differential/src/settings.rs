@@ -52,11 +52,32 @@ mod tests {
         EmptyList,
         /// The byte behind the output is cleared.
         Past,
+        /// The list is judged at High speed.
+        High,
+        /// A speed that there is not is taken for High.
+        AnySpeed,
     }
 
     impl Wrong {
-        const ALL: [Wrong; 6] =
-            [Wrong::Padding, Wrong::Lookup, Wrong::OtherFirst, Wrong::Twice, Wrong::EmptyList, Wrong::Past];
+        const ALL: [Wrong; 8] = [
+            Wrong::Padding,
+            Wrong::Lookup,
+            Wrong::OtherFirst,
+            Wrong::Twice,
+            Wrong::EmptyList,
+            Wrong::Past,
+            Wrong::High,
+            Wrong::AnySpeed,
+        ];
+
+        /// At which the list is judged.
+        fn at(self, speed: u8) -> u8 {
+            match self {
+                Wrong::High if (1..=5).contains(&speed) => 3,
+                Wrong::AnySpeed if !(1..=5).contains(&speed) => 3,
+                _ => speed,
+            }
+        }
 
         /// What is left in the bytes of an accepted conversion.
         fn left(self, reply: Reply, bytes: &mut [u8]) -> Reply {
@@ -74,48 +95,48 @@ mod tests {
     }
 
     impl Functions for Wrong {
-        fn read_descriptors(&self, bytes: &[u8], words: &mut [u32]) -> Reply {
-            functions("model").read_descriptors(bytes, words)
+        fn read_descriptors(&self, bytes: &[u8], speed: u8, words: &mut [u32]) -> Reply {
+            functions("model").read_descriptors(bytes, speed, words)
         }
 
-        fn write_descriptors(&self, list: &[u32], bytes: &mut [u8]) -> Reply {
-            functions("model").write_descriptors(list, bytes)
+        fn write_descriptors(&self, list: &[u32], speed: u8, bytes: &mut [u8]) -> Reply {
+            functions("model").write_descriptors(list, speed, bytes)
         }
 
-        fn settings_to_new(&self, settings: &[u8], list: &[u32], bytes: &mut [u8]) -> Reply {
-            let model = functions("model");
+        fn settings_to_new(&self, settings: &[u8], list: &[u32], speed: u8, bytes: &mut [u8]) -> Reply {
+            let (model, speed) = (functions("model"), self.at(speed));
             let reply = match self {
-                Wrong::Lookup => model.settings_to_new(settings, &joined(list), bytes),
+                Wrong::Lookup => model.settings_to_new(settings, &joined(list), speed, bytes),
                 Wrong::EmptyList if list.is_empty() && settings.is_empty() => {
-                    model.settings_to_new(settings, &[0], bytes)
+                    model.settings_to_new(settings, &[0], speed, bytes)
                 }
                 Wrong::Twice => {
                     let mut once: Vec<&[u8]> = settings.chunks(2).collect();
                     once.dedup();
-                    model.settings_to_new(&once.concat(), list, bytes)
+                    model.settings_to_new(&once.concat(), list, speed, bytes)
                 }
-                _ => model.settings_to_new(settings, list, bytes),
+                _ => model.settings_to_new(settings, list, speed, bytes),
             };
             self.left(reply, bytes)
         }
 
-        fn settings_to_old(&self, settings: &[u8], list: &[u32], bytes: &mut [u8]) -> Reply {
-            let model = functions("model");
+        fn settings_to_old(&self, settings: &[u8], list: &[u32], speed: u8, bytes: &mut [u8]) -> Reply {
+            let (model, speed) = (functions("model"), self.at(speed));
             let reply = match self {
                 Wrong::Padding => {
                     let mut padded = settings.to_vec();
                     if let Some(last) = padded.last_mut() {
                         *last &= !3;
                     }
-                    model.settings_to_old(&padded, list, bytes)
+                    model.settings_to_old(&padded, list, speed, bytes)
                 }
                 Wrong::OtherFirst => {
-                    let reply = model.settings_to_old(settings, list, bytes);
+                    let reply = model.settings_to_old(settings, list, speed, bytes);
                     let other =
                         settings.first().zip(list.first()).is_some_and(|(byte, word)| word >> 22 != (*byte).into());
                     if reply.number == 23 && other { Reply { number: 24, count: 0 } } else { reply }
                 }
-                _ => model.settings_to_old(settings, list, bytes),
+                _ => model.settings_to_old(settings, list, speed, bytes),
             };
             self.left(reply, bytes)
         }

@@ -50,9 +50,8 @@ fn smaller(case: &Case) -> Vec<Case> {
         with(&|c| c.buffers.routes[at] = 0);
     }
     for at in 0..case.record.list.len() {
-        with(&|c| {
-            c.record.list.remove(at);
-        });
+        with(&|c| _ = c.record.list.remove(at));
+        with(&|c| drop_two(&mut c.record.list, at));
     }
     for (interface, _) in &case.record.held {
         with(&|c| {
@@ -74,7 +73,15 @@ fn smaller(case: &Case) -> Vec<Case> {
 fn without_endpoint(case: &mut Case, address: u8) {
     let word_of = |w: &u32| *w >> 30 == 2 && ((*w >> 29 & 1) << 7 | *w >> 25 & 15) as u8 == address;
     case.record.endpoints.retain(|e| e.address != address);
-    case.record.list.retain(|w| !word_of(w));
+    while let Some(at) = case.record.list.iter().position(word_of) {
+        let companion = case.record.list.get(at + 1).is_some_and(|next| next >> 30 == 3);
+        case.record.list.drain(at..=at + usize::from(companion));
+    }
+}
+
+/// Takes a word and the one behind it out of a list: an endpoint's with its companion, say.
+fn drop_two(list: &mut Vec<u32>, at: usize) {
+    list.drain(at..(at + 2).min(list.len()));
 }
 
 /// Adds a case, changed in one way.
@@ -86,6 +93,7 @@ fn of_call(case: &Case, with: With) {
     };
     for at in 0..args.list.len() {
         with(&|c| edit_bring_up(c, |a| _ = a.list.remove(at)));
+        with(&|c| edit_bring_up(c, |a| drop_two(&mut a.list, at)));
     }
     for at in 0..args.rings.len() {
         with(&|c| edit_bring_up(c, |a| _ = a.rings.remove(at)));

@@ -121,20 +121,20 @@ fn replied<Refusal>(result: Result<usize, Refusal>, number: fn(Refusal) -> u8) -
 }
 
 impl Functions for Library {
-    fn read_descriptors(&self, bytes: &[u8], words: &mut [u32]) -> Reply {
-        replied(proper(|| xhci_device::read_descriptors(bytes, words)), RawRefusal::number)
+    fn read_descriptors(&self, bytes: &[u8], speed: u8, words: &mut [u32]) -> Reply {
+        replied(proper(|| xhci_device::read_descriptors(bytes, speed, words)), RawRefusal::number)
     }
 
-    fn write_descriptors(&self, list: &[u32], bytes: &mut [u8]) -> Reply {
-        replied(proper(|| xhci_device::write_descriptors(list, bytes)), RawRefusal::number)
+    fn write_descriptors(&self, list: &[u32], speed: u8, bytes: &mut [u8]) -> Reply {
+        replied(proper(|| xhci_device::write_descriptors(list, speed, bytes)), RawRefusal::number)
     }
 
-    fn settings_to_new(&self, settings: &[u8], list: &[u32], bytes: &mut [u8]) -> Reply {
-        replied(proper(|| xhci_device::settings_to_new(settings, list, bytes)), SettingsRefusal::number)
+    fn settings_to_new(&self, settings: &[u8], list: &[u32], speed: u8, bytes: &mut [u8]) -> Reply {
+        replied(proper(|| xhci_device::settings_to_new(settings, list, speed, bytes)), SettingsRefusal::number)
     }
 
-    fn settings_to_old(&self, settings: &[u8], list: &[u32], bytes: &mut [u8]) -> Reply {
-        replied(proper(|| xhci_device::settings_to_old(settings, list, bytes)), SettingsRefusal::number)
+    fn settings_to_old(&self, settings: &[u8], list: &[u32], speed: u8, bytes: &mut [u8]) -> Reply {
+        replied(proper(|| xhci_device::settings_to_old(settings, list, speed, bytes)), SettingsRefusal::number)
     }
 
     fn endpoint_block<'a>(&self, input: &'a [u8], output: &'a [u8], from: Side, dci: u8) -> (u8, &'a [u8]) {

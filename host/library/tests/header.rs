@@ -56,7 +56,7 @@ fn answers_have_their_numbers_and_names() {
         assert_eq!(text.trim_end_matches("\";"), words.trim_end_matches(", with code 0"), "{name}");
         count += 1;
     }
-    assert_eq!((count, outside().map(|(number, _)| Answer::of(number, 0))), (28, [None; 5]));
+    assert_eq!((count, outside().map(|(number, _)| Answer::of(number, 0))), (29, [None; 5]));
 }
 
 #[test]

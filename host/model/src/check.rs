@@ -38,7 +38,7 @@ pub fn bring_up(args: &BringUp, buffers: &Buffers) -> Checked {
     ask((1..=255).contains(&n) && args.slot != 0 && usize::from(args.slot) <= n, 11)?;
     lengths(buffers, [1056, 2112].contains(&buffers.ctx.len()), n)?;
     ask((1..=5).contains(&args.speed), 6)?;
-    ask(valid(&args.list), 4)?;
+    valid(&args.list, args.speed)?;
     ask(chain(args).is_some(), 5)?;
     ask(given_sound(&args.rings), 10)?;
     ask(buffers.routes[32 * usize::from(args.slot) + 1] == 0, 17)
@@ -130,7 +130,7 @@ pub fn sound(record: &Record) -> bool {
     (1..=record.n).contains(&record.slot)
         && [32, 64].contains(&record.spacing)
         && (1..=5).contains(&record.speed)
-        && valid(&record.list)
+        && valid(&record.list, record.speed).is_ok()
         && distinct(&interfaces)
         && endpoints == owned
         && distinct(&addresses)

@@ -3,7 +3,7 @@
 
 use std::collections::BTreeMap;
 
-use crate::list::{BULK, EndpointWord, ISOCHRONOUS};
+use crate::list::{BULK, Companion, EndpointWord, ISOCHRONOUS};
 use crate::topology::Translator;
 
 const CONTROL: usize = 0;
@@ -134,13 +134,27 @@ impl Context<'_> {
         self.put(block, 1, 16, 16, word.packet_size);
         self.put(block, 2, 0, 1, 1);
         self.put_pointer(word.dci(), *ring);
-        if word.periodic() {
+        if let Some(companion) = word.companion {
+            self.burst_data(block, word, &companion);
+        } else if word.periodic() {
             let burst = if speed == 3 { word.packets.saturating_sub(1) } else { 0 };
             let payload = word.packet_size * (burst + 1);
             self.put(block, 0, 8, 2, 0);
             self.put(block, 1, 8, 8, burst);
             self.put(block, 4, 0, 16, payload);
             self.put(block, 4, 16, 16, payload);
+        }
+    }
+
+    /// At speeds 4 and 5: "Burst is written for bulk too; mult, payload (high part 0) and average length for periodic ones,
+    /// the last two both as the bytes per interval." Where they stand: xHCI 1.2, section 6.2.3.
+    fn burst_data(&mut self, block: usize, word: &EndpointWord, companion: &Companion) {
+        self.put(block, 1, 8, 8, companion.burst);
+        if word.periodic() {
+            self.put(block, 0, 8, 2, companion.mult);
+            self.put(block, 0, 24, 8, 0);
+            self.put(block, 4, 0, 16, companion.bytes_per_interval);
+            self.put(block, 4, 16, 16, companion.bytes_per_interval);
         }
     }
 }

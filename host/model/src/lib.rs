@@ -22,7 +22,8 @@ use scenario::{
 use course::{Course, Ended};
 
 pub use choice::{ChoiceGround, choice_grounds};
-pub use raw::{Ground, grounds};
+pub use list::{CompanionGround, companion_grounds};
+pub use raw::{Ground, grounds, raw_companion_grounds};
 pub use settings::{SettingsGround, settings_grounds};
 
 pub struct Model;
@@ -133,20 +134,20 @@ fn replied<T: Copy>(result: Result<Vec<T>, u8>, memory: &mut [T]) -> Reply {
 }
 
 impl Functions for Model {
-    fn read_descriptors(&self, bytes: &[u8], words: &mut [u32]) -> Reply {
-        replied(raw::read(bytes, words.len()), words)
+    fn read_descriptors(&self, bytes: &[u8], speed: u8, words: &mut [u32]) -> Reply {
+        replied(raw::read(bytes, speed, words.len()), words)
     }
 
-    fn write_descriptors(&self, list: &[u32], bytes: &mut [u8]) -> Reply {
-        replied(raw::write(list, bytes.len()), bytes)
+    fn write_descriptors(&self, list: &[u32], speed: u8, bytes: &mut [u8]) -> Reply {
+        replied(raw::write(list, speed, bytes.len()), bytes)
     }
 
-    fn settings_to_new(&self, settings: &[u8], list: &[u32], bytes: &mut [u8]) -> Reply {
-        replied(settings::to_new(settings, list, bytes.len()), bytes)
+    fn settings_to_new(&self, settings: &[u8], list: &[u32], speed: u8, bytes: &mut [u8]) -> Reply {
+        replied(settings::to_new(settings, list, speed, bytes.len()), bytes)
     }
 
-    fn settings_to_old(&self, settings: &[u8], list: &[u32], bytes: &mut [u8]) -> Reply {
-        replied(settings::to_old(settings, list, bytes.len()), bytes)
+    fn settings_to_old(&self, settings: &[u8], list: &[u32], speed: u8, bytes: &mut [u8]) -> Reply {
+        replied(settings::to_old(settings, list, speed, bytes.len()), bytes)
     }
 
     fn endpoint_block<'a>(&self, input: &'a [u8], output: &'a [u8], from: Side, dci: u8) -> (u8, &'a [u8]) {

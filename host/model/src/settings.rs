@@ -176,18 +176,23 @@ pub fn settings_grounds(form: Form, bytes: &[u8], list: &[u32]) -> BTreeSet<Sett
     grounds
 }
 
-/// "Convert old to new": 3, 4, 23.
-pub fn to_new(settings: &[u8], list: &[u32], room: usize) -> Result<Vec<u8>, u8> {
+/// 3; "conversions now take the speed; one outside 1 to 5 gives 6, directly after 3"; 4 and 26.
+fn checked(list: &[u32], speed: u8, room: usize) -> Result<(), u8> {
     ask(room >= ROOM, 3)?;
-    ask(valid(list), 4)?;
+    ask((1..=5).contains(&speed), 6)?;
+    valid(list, speed)
+}
+
+/// "Convert old to new": 3, 6, 4, 26, 23.
+pub fn to_new(settings: &[u8], list: &[u32], speed: u8, room: usize) -> Result<Vec<u8>, u8> {
+    checked(list, speed, room)?;
     ask(settings_grounds(Form::Old, settings, list).is_empty(), 23)?;
     Ok(new_form(first_value(list).ok_or(23u8)?, &from_old(settings).pairs))
 }
 
-/// "And back": 3, 4, 23; "24, a well-formed new form with another configuration going back, after 23".
-pub fn to_old(settings: &[u8], list: &[u32], room: usize) -> Result<Vec<u8>, u8> {
-    ask(room >= ROOM, 3)?;
-    ask(valid(list), 4)?;
+/// "And back": 3, 6, 4, 26, 23; "24, a well-formed new form with another configuration going back, after 23".
+pub fn to_old(settings: &[u8], list: &[u32], speed: u8, room: usize) -> Result<Vec<u8>, u8> {
+    checked(list, speed, room)?;
     ask(settings_grounds(Form::New, settings, list).is_empty(), 23)?;
     let Held { value, pairs, .. } = from_new(settings);
     ask(value == first_value(list), 24)?;

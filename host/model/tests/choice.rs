@@ -22,7 +22,9 @@ fn endpoint(number: u32, kind: u32, interval: u32) -> u32 {
     5 << 29 | number << 25 | kind << 23 | 8 << 12 | interval << 2
 }
 
+/// Of a list, at speeds 4 and 5 with a companion behind each endpoint word.
 fn record(speed: u8, list: &[u32]) -> Record {
+    let companion = |word: u32| (speed > 3 && word >> 30 == 2).then_some(3 << 30);
     Record {
         usable: true,
         up: true,
@@ -32,7 +34,7 @@ fn record(speed: u8, list: &[u32]) -> Record {
         speed,
         control: 16,
         given: vec![16, 32, 48],
-        list: list.to_vec(),
+        list: list.iter().flat_map(|word| [*word].into_iter().chain(companion(*word))).collect(),
         ..Record::default()
     }
 }

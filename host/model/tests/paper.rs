@@ -352,3 +352,78 @@ fn unclaimed_releases() {
     assert_eq!((answer.number, &released), (0, &record));
     assert_eq!(refused(&released, 0, &given), 25);
 }
+
+/// 02, item 11: what an endpoint's block gets at speeds 4 and 5, at both spacings, over a context of ones: burst always; mult,
+/// payload and average length where the endpoint is periodic, and the payload's high part 0.
+#[test]
+fn burst_data() {
+    const COMPANION: u32 = 3 << 30 | 9 << 26 | 2 << 24 | 0x1234 << 8;
+    let endpoint = |kind: u32| 5 << 29 | 1 << 25 | kind << 23 | 1024 << 12 | 3 << 10 | 1 << 2;
+    for (kind, speed, spacing) in [(1, 4, 32), (1, 5, 64), (2, 4, 64), (2, 5, 32), (3, 4, 32), (3, 5, 64)] {
+        let companion = if kind == 1 { COMPANION } else { COMPANION & !(3 << 24) };
+        let list = vec![configuration(1), alternate(0, 0), endpoint(kind), companion];
+        let args = BringUp { speed, packet: 9, ..plain(&list) };
+        let mut given = buffers(spacing, &ALL_DONE);
+        let (record, answer) = Model.bring_up(&args, &mut given).expect("a record");
+        assert_eq!((answer.number, &record.list), (0, &list));
+        given.ctx.fill(0xFF);
+        let (claimed, answer) = Model.claim(&record, &Claim::default(), &mut given).expect("an answer");
+        assert_eq!((answer.number, claimed.endpoints.len()), (0, 1));
+        let block = |at: usize| dword(&given.ctx, spacing, 4, at);
+        assert_eq!(block(1) >> 8 & 0xFF, 9);
+        let periodic = [block(0) >> 8 & 3, block(0) >> 24, block(4) & 0xFFFF, block(4) >> 16];
+        let expected = match kind {
+            1 => [2, 0, 0x1234, 0x1234],
+            2 => [3, 0xFF, 0xFFFF, 0xFFFF],
+            _ => [0, 0, 0x1234, 0x1234],
+        };
+        assert_eq!(periodic, expected);
+    }
+}
+
+/// "A repeated address: each word, with its own companion, writes the block in list order."
+#[test]
+fn burst_data_of_a_repeated_address() {
+    let interrupt = [0xA340_0404 | 3 << 23, 0xC400_0700];
+    let bulk = [0xA340_0404 & !(3 << 23) | 2 << 23, 0xC800_0900];
+    let list = [&[configuration(1), alternate(0, 0)], &interrupt[..], &bulk].concat();
+    let mut given = buffers(32, &ALL_DONE);
+    let (record, _) = Model.bring_up(&BringUp { speed: 4, packet: 9, ..plain(&list) }, &mut given).expect("a record");
+    given.ctx.fill(0);
+    let (claimed, _) = Model.claim(&record, &Claim::default(), &mut given).expect("a record");
+    // The bulk word's burst, and what the interrupt word wrote of the rest.
+    assert_eq!((dword(&given.ctx, 32, 4, 1) >> 8 & 0xFF, dword(&given.ctx, 32, 4, 4)), (2, 0x0007_0007));
+    // Two rings are drawn, for two endpoint words; companions draw none.
+    assert_eq!(claimed.endpoints.iter().map(|e| e.ring).collect::<Vec<_>>(), [0x3000]);
+}
+
+/// 02, item 11: "26, directly after 4; such a list isn't valid".
+#[test]
+fn lists_that_give_26() {
+    let number = |speed: u8, list: &[u32], root_port: u8| {
+        let args = BringUp { speed, packet: 9, root_port, hubs: vec![0; 257], ..plain(list) };
+        let mut given = buffers(32, &ALL_DONE);
+        Model.bring_up(&args, &mut given).expect("an answer").1.number
+    };
+    let (missing, whole) = (
+        [configuration(1), alternate(0, 0), interrupt(1)],
+        [configuration(1), alternate(0, 0), interrupt(1), 0xC000_0000],
+    );
+    // Before 5, which more than 256 hubs give; after 4.
+    assert_eq!([3, 4, 5].map(|speed| number(speed, &missing, 1)), [5, 26, 26]);
+    assert_eq!([3, 4, 5].map(|speed| number(speed, &whole, 1)), [4, 5, 5]);
+    for both in [[&missing[..], &[1]].concat(), [&missing[..], &[configuration(1), interrupt(1)]].concat()] {
+        assert_eq!(number(4, &both, 1), 4);
+    }
+    // A record of such a list is not sound.
+    let (record, _) = Model
+        .bring_up(&BringUp { speed: 4, packet: 9, ..plain(&whole) }, &mut buffers(32, &ALL_DONE))
+        .expect("a record");
+    for (speed, list, expected) in [(4, &whole[..], 0), (4, &missing, 12), (3, &whole, 12), (3, &missing, 0)] {
+        let record = Record { speed, list: list.to_vec(), ..record.clone() };
+        let mut given = buffers(32, &ALL_DONE);
+        given.routes[33] = record.control;
+        let (_, answer) = Model.claim(&record, &Claim::default(), &mut given).expect("an answer");
+        assert_eq!(answer.number, expected);
+    }
+}

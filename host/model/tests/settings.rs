@@ -19,12 +19,17 @@ fn alternate(interface: u32, alternate: u32) -> u32 {
     1 << 30 | interface << 22 | alternate << 14
 }
 
-/// The bytes, or the refusal; what lies past the output, or all of it where refused, must be as it was.
+/// The bytes, or the refusal; what lies past the output, or all of it where refused, must be as it was. The list is of High
+/// speed.
 fn converted(to: Form, settings: &[u8], list: &[u32], room: usize) -> Result<Vec<u8>, u8> {
+    converted_at(3, to, settings, list, room)
+}
+
+fn converted_at(speed: u8, to: Form, settings: &[u8], list: &[u32], room: usize) -> Result<Vec<u8>, u8> {
     let mut bytes = filled_bytes(room);
     let Reply { number, count } = match to {
-        Form::New => Model.settings_to_new(settings, list, &mut bytes),
-        Form::Old => Model.settings_to_old(settings, list, &mut bytes),
+        Form::New => Model.settings_to_new(settings, list, speed, &mut bytes),
+        Form::Old => Model.settings_to_old(settings, list, speed, &mut bytes),
     };
     assert_eq!(bytes[count..], filled_bytes(room)[count..]);
     if number == 0 {
@@ -54,9 +59,9 @@ fn the_worked_example() {
     assert_eq!(to_new(&OLD, &ONE), Ok(NEW.to_vec()));
     assert_eq!(to_old(&NEW, &ONE), Ok(OLD.to_vec()));
     let mut memory = filled_bytes(66);
-    Model.settings_to_new(&OLD, &ONE, &mut memory);
+    Model.settings_to_new(&OLD, &ONE, 3, &mut memory);
     assert_eq!(memory[6..8], [0xAB, 0xAC]);
-    Model.settings_to_old(&NEW, &ONE, &mut memory);
+    Model.settings_to_old(&NEW, &ONE, 3, &mut memory);
     assert_eq!((&memory[..4], &memory[4..8]), (&OLD[..], &[0x0C, 0, 0xAB, 0xAC][..]));
 }
 
@@ -204,4 +209,29 @@ fn the_order_of_the_refusals() {
     assert_eq!(to_old(&[2, 4, 0, 0], &other), Err(23));
     assert_eq!(to_old(&[2, 0], &other), Err(24));
     assert_eq!(converted(Form::New, &OLD, &ONE, 100), Ok(NEW.to_vec()));
+}
+
+/// Item 11: 3, 6, 4, 26, 23. The list is judged at the speed.
+#[test]
+fn the_list_is_of_a_speed() {
+    let with = |words: &[u32]| [&ONE[..2], words, &ONE[2..]].concat();
+    let (endpoint, companion) = (0xA384_0410, 0xCC00_0800);
+    let (plain, whole) = (with(&[endpoint]), with(&[endpoint, companion]));
+    for (form, settings, written) in [(Form::New, &OLD[..], &NEW[..]), (Form::Old, &NEW, &OLD)] {
+        for speed in 1..=5 {
+            let is_super = speed > 3;
+            let answer = |list: &[u32]| converted_at(speed, form, settings, list, 66);
+            let accepted = Ok(written.to_vec());
+            assert_eq!(answer(&plain), if is_super { Err(26) } else { accepted.clone() });
+            assert_eq!(answer(&whole), if is_super { accepted.clone() } else { Err(4) });
+            assert_eq!(answer(&ONE), accepted);
+            // Behind 4, and before 23.
+            assert_eq!(answer(&with(&[companion | 1, endpoint])), Err(4));
+            assert_eq!(converted_at(speed, form, &[1], &plain, 66), Err(if is_super { 26 } else { 23 }));
+        }
+        for speed in [0, 6, 255] {
+            assert_eq!(converted_at(speed, form, &[1], &[1], 66), Err(6));
+            assert_eq!(converted_at(speed, form, settings, &ONE, 65), Err(3));
+        }
+    }
 }

@@ -40,8 +40,13 @@ fn add_alternate(configuration: &mut ConfigurationDescriptor, interface_number: 
     }
 }
 
-/// The configurations of a list of descriptor words.
-pub fn configurations(list: &[u32]) -> Option<Vec<ConfigurationDescriptor>> {
+/// Whether a word is one that the original does not know and has no need of: an endpoint's companion.
+fn is_companion(word: u32, speed: u8) -> bool {
+    matches!(speed, 4 | 5) && bits(word, 0, 2) == 3 && bits(word, 24, 8) == 0
+}
+
+/// The configurations of a list of descriptor words at a speed, without its companions.
+pub fn configurations(list: &[u32], speed: u8) -> Option<Vec<ConfigurationDescriptor>> {
     let mut configurations: Vec<ConfigurationDescriptor> = Vec::new();
     let mut last_interface = None;
     for &word in list {
@@ -64,6 +69,7 @@ pub fn configurations(list: &[u32]) -> Option<Vec<ConfigurationDescriptor>> {
                 let interface = interfaces.iter_mut().find(|i| i.interface_number == number)?;
                 interface.alt_settings.last_mut()?.endpoints.push(endpoint(word)?);
             }
+            _ if is_companion(word, speed) && !configurations.is_empty() => {}
             _ => return None,
         }
     }

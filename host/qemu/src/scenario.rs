@@ -352,7 +352,7 @@ pub const SCENARIOS: &[Scenario] = &[
     },
     Scenario {
         name: "storage-super",
-        what: "the same at SuperSpeed",
+        what: "the same at SuperSpeed, with companions",
         qemu: &["-blockdev", DISK, "-device", "usb-storage,drive=d,port=2"],
         steps: &[
             (0, BringUp(Root(2), SUPER, Accepted)),
@@ -365,7 +365,7 @@ pub const SCENARIOS: &[Scenario] = &[
     },
     Scenario {
         name: "uas",
-        what: "four bulk endpoints at SuperSpeed",
+        what: "four bulk endpoints at SuperSpeed, with companions",
         qemu: &[
             "-blockdev",
             DISK,

@@ -47,6 +47,12 @@ const fn field(what: &'static str, command: Command, at: usize, and: u32, or: u3
     Wrong { what, scenario: SHORT.name, fault: Fault::Field(spoilt), noticed }
 }
 
+/// The same of a bulk endpoint at SuperSpeed.
+const fn super_field(what: &'static str, at: usize, and: u32, or: u32, noticed: Noticed) -> Wrong {
+    let spoilt = Spoilt { command: Command::Configure, at, and, or, written: false };
+    Wrong { what, scenario: "storage-super", fault: Fault::Field(spoilt), noticed }
+}
+
 const fn bus(what: &'static str, scenario: &'static str, careless: Careless, noticed: Noticed) -> Wrong {
     Wrong { what, scenario, fault: Fault::Bus(careless), noticed }
 }
@@ -103,6 +109,10 @@ pub const WRONGS: &[Wrong] = &[
     field("Configure: dequeue pointer of another ring", Command::Configure, DCI3 + 2, ALL, 1 << 20, &[&[Context], &[Context]]),
     field("Configure: average length 0", Command::Configure, DCI3 + 4, 0xFFFF_0000, 0, &[&[Context], &[]]),
     field("Configure: payload 0", Command::Configure, DCI3 + 4, 0xFFFF, 0, &[&[Context, Descriptor], &[Descriptor]]),
+    super_field("Configure: burst 0 for 15", DCI3 + 1, !(255 << 8), 0, &[&[Context, Descriptor], &[Descriptor]]),
+    super_field("Configure: burst 14 for 15", DCI3 + 1, !(1 << 8), 0, &[&[Context, Descriptor], &[Descriptor]]),
+    super_field("Configure: mult 1", DCI3, ALL, 1 << 8, &[&[Context, Descriptor], &[Descriptor]]),
+    super_field("Configure: payload 1024", DCI3 + 4, ALL, 1024 << 16, &[&[Context, Descriptor], &[Descriptor]]),
     bus("the rings of added endpoints are not cleared", "undone",
         Careless { clears_no_ring: true, ..CAREFUL }, &[&[Completion, Stray]]),
     bus("the rings of added endpoints are not cleared", "unset",

@@ -30,8 +30,8 @@ fn answer(call: &Call, record: &Record) -> u8 {
     outcome.expect("an answer").1.number
 }
 
-/// A valid list more often than not.
-fn list(rng: &mut Rng) -> Vec<u32> {
+/// A list that is valid at a speed more often than not.
+fn list(rng: &mut Rng, speed: u8) -> Vec<u32> {
     let mut words = vec![];
     for _ in 0..rng.below(10) {
         words.push((rng.below(256) as u32) << 22);
@@ -39,13 +39,19 @@ fn list(rng: &mut Rng) -> Vec<u32> {
             words.push(1 << 30 | (rng.below(40) as u32) << 22 | (rng.below(3) as u32) << 14);
             let most = if rng.below(20) == 0 { 40 } else { 4 };
             for _ in 0..rng.below(most) {
-                words.push(2 << 30 | (rng.below(30) as u32 + 1) << 25 | 2 << 23 | 64 << 12);
+                words.push(2 << 30 | (rng.below(30) as u32 + 1) << 25 | (1 + rng.below(3) as u32) << 23 | 64 << 12);
+                let mult = if rng.below(30) == 0 { rng.below(4) as u32 } else { 0 };
+                words.extend((speed > 3).then(|| 3 << 30 | mult << 24 | (rng.below(1 << 16) as u32) << 8));
             }
         }
     }
     if rng.below(2) == 0 && !words.is_empty() {
         let at = rng.below(words.len() as u64) as usize;
-        words[at] ^= 1 << rng.below(32);
+        match rng.below(3) {
+            0 if speed > 3 => drop(words.remove(at)),
+            1 if speed > 3 => words.swap(at, 0),
+            _ => words[at] ^= 1 << rng.below(32),
+        }
     }
     words
 }
@@ -53,17 +59,22 @@ fn list(rng: &mut Rng) -> Vec<u32> {
 #[test]
 fn a_word_is_named_exactly_where_the_list_is_refused() {
     let mut rng = Rng(1);
-    let mut refused = 0;
+    let mut refused = [0; 27];
     for _ in 0..20_000 {
-        let list = if rng.below(50) == 0 { vec![0x4000_0000; rng.below(300) as usize] } else { list(&mut rng) };
+        let speed = 2 + rng.below(4) as u8;
+        let list = if rng.below(50) == 0 { vec![0x4000_0000; rng.below(300) as usize] } else { list(&mut rng, speed) };
         let list = if rng.below(50) == 0 { [vec![0], list.repeat(4)].concat() } else { list };
-        let args = BringUp { slot: 1, n: 1, speed: 3, rings: vec![16], list, ..BringUp::default() };
+        let args = BringUp { slot: 1, n: 1, speed, rings: vec![16], list, ..BringUp::default() };
         let call = Call::BringUp(args);
         let number = answer(&call, &Record::default());
-        assert_eq!(fault(4, &call, &Record::default()).is_some(), number == 4, "{call:?}");
-        refused += u32::from(number == 4);
+        let fault = |number: u8| fault(number, &call, &Record::default()).is_some();
+        assert_eq!(fault(4), number == 4, "{call:?}");
+        if !fault(4) && speed > 3 {
+            assert_eq!(fault(26), number == 26, "{call:?}");
+        }
+        refused[usize::from(number)] += 1;
     }
-    assert!((2_000..18_000).contains(&refused), "{refused}");
+    assert!([4, 26, 15].iter().all(|number| (500..18_000).contains(&refused[*number])), "{refused:?}");
 }
 
 /// A ring, or the number of them, is named exactly where a bring-up is refused for it.
@@ -116,7 +127,7 @@ fn a_ground_is_named_exactly_where_settings_are_refused() {
             }
             _ => {}
         }
-        let conversion = Conversion { list, settings, ..Conversion::to(to) };
+        let conversion = Conversion { speed: 3, list, settings, ..Conversion::to(to) };
         let number = conversion.ask(&*functions).0.number;
         let fault = settings_fault(to.other(), &conversion.settings, &conversion.list);
         assert_eq!(fault.is_some(), number == 23, "{conversion:?}: {fault:?}");
@@ -180,12 +191,13 @@ fn the_reason_is_told_of_claims_asks_and_commits() {
 
 /// A sound record with a list of few interfaces, which share few addresses.
 fn choice(rng: &mut Rng) -> Choice {
-    let mut list = vec![1 << 22];
+    let (speed, mut list) = (1 + rng.below(5) as u8, vec![1 << 22]);
     for _ in 0..4 + rng.below(6) {
         list.push(1 << 30 | (rng.below(3) as u32) << 22 | (rng.below(4) as u32) << 14);
         for _ in 0..rng.below(3) {
             let (number, kind, interval) = (1 + rng.below(3), 1 + rng.below(3), rng.below(8));
             list.push(5 << 29 | (number as u32) << 25 | (kind as u32) << 23 | (interval as u32) << 2);
+            list.extend((speed > 3).then_some(3 << 30));
         }
         if rng.below(20) == 0 {
             list.push(2 << 22);
@@ -197,7 +209,7 @@ fn choice(rng: &mut Rng) -> Choice {
         slot: 1,
         n: 1,
         spacing: 32,
-        speed: 1 + rng.below(5) as u8,
+        speed,
         control: 16,
         given: vec![16],
         list,

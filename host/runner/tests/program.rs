@@ -77,6 +77,16 @@ fn the_shipped_cases() {
     shipped(include_str!("../scenarios/block.txt"), include_str!("../scenarios/block.out"), told);
 }
 
+/// Devices at SuperSpeed, which the original knows nothing of, and every ground of 26.
+#[test]
+fn the_shipped_companions() {
+    let (printed, told) =
+        (include_str!("../scenarios/companions.out"), include_str!("../scenarios/companions.explained"));
+    shipped(include_str!("../scenarios/companions.txt"), printed, told);
+    let answers = |number: u32| printed.matches(&format!("answer {number} 0")).count();
+    assert_eq!((answers(4), answers(6), answers(20), answers(26)), (4, 2, 2, 12));
+}
+
 /// The original has no reasons. Each kind of reason is there.
 #[test]
 fn the_shipped_reasons() {

@@ -21,17 +21,17 @@ pub struct Reply {
 
 /// Whoever answers them: the proved library, the model. What a function leaves in memory it leaves in place.
 pub trait Functions {
-    /// Raw configuration descriptors to descriptor words.
-    fn read_descriptors(&self, bytes: &[u8], words: &mut [u32]) -> Reply;
+    /// Raw configuration descriptors, at a speed, to descriptor words.
+    fn read_descriptors(&self, bytes: &[u8], speed: u8, words: &mut [u32]) -> Reply;
 
-    /// Descriptor words to raw configuration descriptors.
-    fn write_descriptors(&self, list: &[u32], bytes: &mut [u8]) -> Reply;
+    /// Descriptor words, at a speed, to raw configuration descriptors.
+    fn write_descriptors(&self, list: &[u32], speed: u8, bytes: &mut [u8]) -> Reply;
 
-    /// Held settings from the form of the maker's boards to the new one, by a list of descriptor words.
-    fn settings_to_new(&self, settings: &[u8], list: &[u32], bytes: &mut [u8]) -> Reply;
+    /// Held settings from the form of the maker's boards to the new one, by a list of descriptor words at a speed.
+    fn settings_to_new(&self, settings: &[u8], list: &[u32], speed: u8, bytes: &mut [u8]) -> Reply;
 
     /// And back.
-    fn settings_to_old(&self, settings: &[u8], list: &[u32], bytes: &mut [u8]) -> Reply;
+    fn settings_to_old(&self, settings: &[u8], list: &[u32], speed: u8, bytes: &mut [u8]) -> Reply;
 
     /// An endpoint's block in the input or the output context: the number, and the part of that context, empty where it is
     /// refused.

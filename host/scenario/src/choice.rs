@@ -5,7 +5,7 @@ use std::fmt::Write;
 use crate::call::Record;
 use crate::case::{Functions, Kind};
 use crate::descriptors::{endpoint_text, explain_words};
-use crate::fault::address;
+use crate::fault::{address, endpoints_from};
 use crate::record_key::record_key;
 use crate::settings::configuration;
 use crate::value::{Parsed, Words};
@@ -94,15 +94,11 @@ fn period_text(word: u32, speed: u8) -> String {
 }
 
 /// The alternates of an interface in the first configuration, with their endpoint words, in the order of the list.
-fn alternates(list: &[u32], interface: u8) -> Vec<(u8, &[u32])> {
+fn alternates(list: &[u32], interface: u8) -> Vec<(u8, Vec<u32>)> {
     let words = configuration(list, None).unwrap_or_default();
     let is_one = |word: u32| word >> 22 == 1 << 8 | u32::from(interface);
     let places = (0..words.len()).filter(|at| is_one(words[*at]));
-    let endpoints = |from: usize| {
-        let end = words[from..].iter().position(|word| word >> 30 != 2).map_or(words.len(), |behind| from + behind);
-        &words[from..end]
-    };
-    places.map(|at| ((words[at] >> 14) as u8, endpoints(at + 1))).collect()
+    places.map(|at| ((words[at] >> 14) as u8, endpoints_from(&words[at + 1..]))).collect()
 }
 
 /// The first interrupt endpoint whose context interval is longer.
@@ -114,9 +110,9 @@ fn slow(words: &[u32], speed: u8, longest: u32) -> Option<u32> {
 }
 
 /// Why the alternate at a place is no candidate.
-fn fault(found: &[(u8, &[u32])], at: usize, speed: u8, longest: u32) -> Option<String> {
-    let (alternate, words) = found[at];
-    if found[..at].iter().any(|(before, _)| *before == alternate) {
+fn fault(found: &[(u8, Vec<u32>)], at: usize, speed: u8, longest: u32) -> Option<String> {
+    let (alternate, words) = &found[at];
+    if found[..at].iter().any(|(before, _)| before == alternate) {
         return Some("lookup finds the one before".to_string());
     }
     let word = slow(words, speed, longest)?;
@@ -124,18 +120,17 @@ fn fault(found: &[(u8, &[u32])], at: usize, speed: u8, longest: u32) -> Option<S
 }
 
 /// The alternates from which an interface's is chosen, with their endpoint words.
-pub fn candidates<'a>(record: &'a Record, interface: u8, longest: u32) -> Vec<(u8, &'a [u32])> {
+pub fn candidates(record: &Record, interface: u8, longest: u32) -> Vec<(u8, Vec<u32>)> {
     let found = alternates(&record.list, interface);
     let places = (0..found.len()).filter(|at| fault(&found, *at, record.speed, longest).is_none());
-    places.map(|at| found[at]).collect()
+    places.map(|at| found[at].clone()).collect()
 }
 
 /// What the panel sees of an interface: its alternate, and the endpoints with their periods.
 fn explain_chosen(out: &mut String, record: &Record, interface: u8, alternate: u8) {
     let _ = writeln!(out, "    interface {interface}: alternate {alternate}");
     let found = alternates(&record.list, interface);
-    let words = found.iter().find(|(of, _)| *of == alternate).map_or(&[][..], |found| found.1);
-    for word in words {
+    for word in found.iter().find(|(of, _)| *of == alternate).map_or(&[][..], |found| &found.1) {
         let _ = writeln!(out, "      {}: {}", endpoint_text(*word), period_text(*word, record.speed));
     }
 }

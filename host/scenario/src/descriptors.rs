@@ -1,12 +1,20 @@
-//! Descriptor words, and descriptor bytes (USB 2.0, section 9.6), for people.
+//! Descriptor words, and descriptor bytes (USB 2.0, section 9.6; companions: USB 3.2, section 9.6), for people.
 
 use std::fmt::Write;
+
+use crate::companion::{Piece, companion_fault};
 
 const TYPES: [&str; 4] = ["control", "isochronous", "bulk", "interrupt"];
 
 const CONFIGURATION: u8 = 2;
 const INTERFACE: u8 = 4;
 const ENDPOINT: u8 = 5;
+const COMPANION: u8 = 48;
+
+/// Whether a descriptor is read as an endpoint's companion.
+fn is_companion(kind: u8, speed: u8) -> bool {
+    kind == COMPANION && matches!(speed, 4 | 5)
+}
 
 /// `packets` per microframe, of which bytes may say 4.
 fn endpoint(address: u8, kind: u32, size: u32, packets: u32, interval: u8) -> String {
@@ -14,6 +22,10 @@ fn endpoint(address: u8, kind: u32, size: u32, packets: u32, interval: u8) -> St
     let kind = TYPES[kind as usize & 3];
     let too_many = if packets > 3 { " (at most 3)" } else { "" };
     format!("endpoint {address:02x}, {way}, {kind}, size {size}, packets {packets}{too_many}, interval {interval}")
+}
+
+fn companion(burst: u32, mult: u32, bytes: u32) -> String {
+    format!("companion, burst {burst}, mult {mult}, bytes per interval {bytes}")
 }
 
 fn word_line(word: u32) -> String {
@@ -25,7 +37,7 @@ fn word_line(word: u32) -> String {
             let address = (bits(29, 1) << 7 | bits(25, 4)) as u8;
             (format!("    {}", endpoint(address, bits(23, 2), bits(12, 11), bits(10, 2), bits(2, 8) as u8)), 2)
         }
-        _ => (format!("{word:08x}, a word of no kind"), 0),
+        _ => (format!("      {}", companion(bits(26, 4), bits(24, 2), bits(8, 16))), 8),
     };
     match bits(0, unused) {
         0 => line,
@@ -61,10 +73,11 @@ impl Descriptor<'_> {
     }
 }
 
-fn least_length(kind: u8) -> usize {
+fn least_length(kind: u8, speed: u8) -> usize {
     match kind {
         CONFIGURATION | INTERFACE => 9,
         ENDPOINT => 7,
+        _ if is_companion(kind, speed) => 6,
         _ => 2,
     }
 }
@@ -75,13 +88,14 @@ struct Walk<'a> {
     /// What ends them before the end of the bytes.
     broken: Option<String>,
     len: usize,
+    speed: u8,
 }
 
 impl Walk<'_> {
-    fn of(bytes: &[u8]) -> Walk<'_> {
-        let mut walk = Walk { found: Vec::new(), broken: None, len: bytes.len() };
+    fn of(bytes: &[u8], speed: u8) -> Walk<'_> {
+        let mut walk = Walk { found: Vec::new(), broken: None, len: bytes.len(), speed };
         while walk.broken.is_none() && walk.at() < bytes.len() {
-            match first(&bytes[walk.at()..]) {
+            match first(&bytes[walk.at()..], speed) {
                 Ok(inside) => walk.found.push(Descriptor { at: walk.at(), bytes: inside }),
                 Err(broken) => walk.broken = Some(broken),
             }
@@ -138,17 +152,20 @@ impl Walk<'_> {
                 let (kind, field) = (u32::from(bytes[3] & 3), this.field(4));
                 format!("    {}", endpoint(bytes[2] & 0x8F, kind, field & 0x7FF, (field >> 11 & 3) + 1, bytes[6]))
             }
+            kind if is_companion(kind, self.speed) => {
+                format!("      {}", companion(bytes[2].into(), u32::from(bytes[3] & 3), this.field(4)))
+            }
             kind => format!("type {kind}, {} bytes", bytes.len()),
         }
     }
 }
 
 /// The first descriptor of bytes, or why there is none.
-fn first(bytes: &[u8]) -> Result<&[u8], String> {
+fn first(bytes: &[u8], speed: u8) -> Result<&[u8], String> {
     let &[length, kind, ..] = bytes else {
         return Err("one byte, without a type".to_string());
     };
-    let least = least_length(kind);
+    let least = least_length(kind, speed);
     match bytes.get(..usize::from(length)) {
         None => Err(format!("type {kind}, length {length}: past the end")),
         Some(inside) if inside.len() < least => Err(format!("type {kind}, length {length}: less than {least}")),
@@ -157,12 +174,32 @@ fn first(bytes: &[u8]) -> Result<&[u8], String> {
 }
 
 /// Descriptor bytes, a line for each descriptor with the byte at which it begins.
-pub fn explain_bytes(out: &mut String, bytes: &[u8]) {
-    let walk = Walk::of(bytes);
+pub fn explain_bytes(out: &mut String, bytes: &[u8], speed: u8) {
+    let walk = Walk::of(bytes, speed);
     for (place, descriptor) in walk.found.iter().enumerate() {
         let _ = writeln!(out, "    {:>5}  {}", descriptor.at, walk.line(place));
     }
     if let Some(broken) = &walk.broken {
         let _ = writeln!(out, "    {:>5}  {broken}", walk.at());
     }
+}
+
+/// The first descriptor of bytes with which companions do not fit, and why.
+pub fn bytes_fault(bytes: &[u8], speed: u8) -> Option<String> {
+    let walk = Walk::of(bytes, speed);
+    let makes_word =
+        |d: &&Descriptor| matches!(d.kind(), CONFIGURATION | INTERFACE | ENDPOINT) || is_companion(d.kind(), speed);
+    let found: Vec<&Descriptor> = walk.found.iter().filter(makes_word).collect();
+    let piece = |at: usize| match (found[at].kind(), found[at].bytes) {
+        (ENDPOINT, bytes) => Piece::Endpoint { isochronous: bytes[3] & 3 == 1 },
+        (COMPANION, bytes) => {
+            // Of another than an isochronous endpoint the attributes are not read.
+            let isochronous = at > 0 && found[at - 1].kind() == ENDPOINT && found[at - 1].bytes[3] & 3 == 1;
+            Piece::Companion { burst: bytes[2].into(), mult: if isochronous { u32::from(bytes[3] & 3) } else { 0 } }
+        }
+        _ => Piece::Other,
+    };
+    let pieces: Vec<Piece> = (0..found.len()).map(piece).collect();
+    let (at, what) = companion_fault(&pieces)?;
+    Some(format!("the descriptor at byte {}: {what}", found[at].at))
 }

@@ -40,6 +40,7 @@ pub fn answer(number: u8) -> &'static str {
         23 => "refused: the settings are malformed or not found",
         24 => "refused: the settings are of another configuration than the first",
         25 => "refused: the interface is not claimed",
+        26 => "refused: a companion is missing, misplaced or out of range",
         29 => "refused: there are more than eight names",
         30 => "refused: there is no such choice",
         _ => "an answer without a name",

@@ -1,10 +1,13 @@
-//! What exactly a bring-up is refused for where the answer's number leaves it open, 4 and 10; and what an unplugging came to.
+//! What exactly a bring-up is refused for where the answer's number leaves it open, 4, 10 and 26; and what an unplugging
+//! came to.
 
 use crate::call::{BringUp, Call, GIVEN_ROOM, Record};
+use crate::companion::words_fault;
 
 const CONFIGURATION: u32 = 0;
 const ALTERNATE: u32 = 1;
 const ENDPOINT: u32 = 2;
+const COMPANION: u32 = 3;
 
 fn kind(word: u32) -> u32 {
     word >> 30
@@ -14,13 +17,14 @@ pub fn address(word: u32) -> u8 {
     ((word >> 29 & 1) << 7 | word >> 25 & 15) as u8
 }
 
-/// What is wrong with a descriptor word by itself.
-fn word_fault(word: u32) -> Option<&'static str> {
+/// What is wrong with a descriptor word by itself, at a speed.
+fn word_fault(word: u32, speed: u8) -> Option<&'static str> {
     let unused = match kind(word) {
         CONFIGURATION => 22,
         ALTERNATE => 14,
         ENDPOINT => 2,
-        _ => return Some("its kind is 3"),
+        _ if matches!(speed, 4 | 5) => 8,
+        _ => return Some("its kind is 3, and companions are of speeds 4 and 5"),
     };
     let endpoint = kind(word) == ENDPOINT;
     let faults = [
@@ -31,39 +35,45 @@ fn word_fault(word: u32) -> Option<&'static str> {
     faults.iter().find(|fault| fault.0).map(|fault| fault.1)
 }
 
-/// What is wrong with the last word of a list of which the words before are in order.
-fn place_fault(list: &[u32]) -> Option<&'static str> {
-    let (last, before) = list.split_last()?;
+/// What is wrong with the last word of a list of which the words before are in order. Companions count as words only.
+fn place_fault(words: &[u32]) -> Option<&'static str> {
+    let (last, before) = words.split_last()?;
+    let list: Vec<u32> = words.iter().copied().filter(|word| kind(*word) != COMPANION).collect();
+    let after_configuration = kind(*last) == ENDPOINT && list.len() > 1 && kind(list[list.len() - 2]) == CONFIGURATION;
     let count = |sought: u32| list.iter().filter(|word| kind(**word) == sought).count();
     let mut interfaces: Vec<u32> = list.iter().filter(|w| kind(**w) == ALTERNATE).map(|w| w >> 22 & 0xFF).collect();
     interfaces.sort();
     interfaces.dedup();
     let run = list.iter().rev().take_while(|word| kind(**word) == ENDPOINT).count();
-    let after_configuration = before.last().is_some_and(|word| kind(*word) == CONFIGURATION);
     let faults = [
         (before.is_empty() && kind(*last) != CONFIGURATION, "the list does not begin with a configuration"),
-        (kind(*last) == ENDPOINT && after_configuration, "an endpoint without an alternate"),
+        (after_configuration, "an endpoint without an alternate"),
         (run > 30, "the alternate's endpoint 31, and 30 are allowed"),
         (interfaces.len() > 32, "the list's interface 33, and 32 are allowed"),
         (count(CONFIGURATION) > 8, "the list's configuration 9, and 8 are allowed"),
-        (list.len() > 256, "256 words are allowed"),
+        (words.len() > 256, "256 words are allowed"),
     ];
     faults.iter().find(|fault| fault.0).map(|fault| fault.1)
 }
 
 /// The first word with which a list is not valid.
-fn list_fault(list: &[u32]) -> Option<String> {
-    let fault = |at: usize| word_fault(list[at]).or_else(|| place_fault(&list[..=at]));
+fn list_fault(list: &[u32], speed: u8) -> Option<String> {
+    let fault = |at: usize| word_fault(list[at], speed).or_else(|| place_fault(&list[..=at]));
     let (at, what) = (0..list.len()).find_map(|at| Some((at, fault(at)?)))?;
     Some(format!("word {} of {}, {:08x}: {what}", at + 1, list.len(), list[at]))
 }
 
+/// The endpoint words that words begin with, without their companions.
+pub fn endpoints_from(words: &[u32]) -> Vec<u32> {
+    let endpoints = words.iter().take_while(|word| matches!(kind(**word), ENDPOINT | COMPANION));
+    endpoints.copied().filter(|word| kind(*word) == ENDPOINT).collect()
+}
+
 /// The endpoint words of the first matching alternate.
-pub fn alternate_words(list: &[u32], interface: u8, alternate: u8) -> &[u32] {
+pub fn alternate_words(list: &[u32], interface: u8, alternate: u8) -> Vec<u32> {
     let sought = ALTERNATE << 30 | u32::from(interface) << 22 | u32::from(alternate) << 14;
     let after = list.iter().position(|word| *word == sought).map_or(list.len(), |at| at + 1);
-    let count = list[after..].iter().take_while(|word| kind(**word) == ENDPOINT).count();
-    &list[after..after + count]
+    endpoints_from(&list[after..])
 }
 
 /// Why a ring cannot be given after others.
@@ -99,7 +109,8 @@ fn unplugging(number: u8, record: &Record) -> Option<String> {
 /// The word or the ring that a bring-up was refused for, or how an unplugging went. None where the number says it all.
 pub fn fault(number: u8, call: &Call, record: &Record) -> Option<String> {
     match (number, call) {
-        (4, Call::BringUp(BringUp { list, .. })) => list_fault(list),
+        (4, Call::BringUp(BringUp { list, speed, .. })) => list_fault(list, *speed),
+        (26, Call::BringUp(BringUp { list, .. })) => words_fault(list),
         (10, Call::BringUp(BringUp { rings, .. })) => given_fault(rings),
         (_, Call::Disconnect) => unplugging(number, record),
         _ => None,

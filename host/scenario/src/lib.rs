@@ -8,6 +8,7 @@ mod call;
 mod case;
 mod choice;
 mod clock;
+mod companion;
 mod context_text;
 mod descriptors;
 mod explain;

@@ -3,7 +3,8 @@
 use std::fmt::Write;
 
 use crate::case::{Functions, Kind, Reply, explain_reply, room};
-use crate::descriptors::{explain_bytes, explain_words};
+use crate::companion::words_fault;
+use crate::descriptors::{bytes_fault, explain_bytes, explain_words};
 use crate::memory::{filled_bytes, filled_words};
 use crate::value::{Parsed, Words};
 use crate::{print, value};
@@ -14,25 +15,27 @@ pub const BYTES_ROOM: usize = 2304;
 
 #[derive(Clone, Debug, PartialEq, Eq)]
 pub struct RawRead {
+    pub speed: u8,
     pub bytes: Vec<u8>,
     pub room: usize,
 }
 
 #[derive(Clone, Debug, PartialEq, Eq)]
 pub struct RawWrite {
+    pub speed: u8,
     pub list: Vec<u32>,
     pub room: usize,
 }
 
 impl Default for RawRead {
     fn default() -> RawRead {
-        RawRead { bytes: Vec::new(), room: WORDS_ROOM }
+        RawRead { speed: 0, bytes: Vec::new(), room: WORDS_ROOM }
     }
 }
 
 impl Default for RawWrite {
     fn default() -> RawWrite {
-        RawWrite { list: Vec::new(), room: BYTES_ROOM }
+        RawWrite { speed: 0, list: Vec::new(), room: BYTES_ROOM }
     }
 }
 
@@ -42,7 +45,7 @@ impl RawRead {
     /// The reply and the memory.
     pub fn ask(&self, functions: &dyn Functions) -> (Reply, Vec<u32>) {
         let mut words = filled_words(self.room);
-        let reply = functions.read_descriptors(&self.bytes, &mut words);
+        let reply = functions.read_descriptors(&self.bytes, self.speed, &mut words);
         (reply, words)
     }
 }
@@ -53,16 +56,19 @@ impl RawWrite {
     /// The reply and the memory.
     pub fn ask(&self, functions: &dyn Functions) -> (Reply, Vec<u8>) {
         let mut bytes = filled_bytes(self.room);
-        let reply = functions.write_descriptors(&self.list, &mut bytes);
+        let reply = functions.write_descriptors(&self.list, self.speed, &mut bytes);
         (reply, bytes)
     }
 }
 
-/// The answer in words: what was written, or what 20 says.
-fn reply(out: &mut String, reply: Reply, what: &str, malformed: &str) {
+/// The answer in words: what was written, what 20 says, or where companions do not fit.
+fn reply(out: &mut String, reply: Reply, what: &str, malformed: &str, companion: Option<String>) {
     match reply.number {
         20 => _ = writeln!(out, "  answer 20: refused: {malformed}"),
         _ => explain_reply(out, reply, what),
+    }
+    if let (26, Some(fault)) = (reply.number, companion) {
+        let _ = writeln!(out, "    {fault}");
     }
 }
 
@@ -73,6 +79,7 @@ impl Kind for RawRead {
 
     fn key(&mut self, key: &str, words: &mut Words) -> Parsed<bool> {
         match key {
+            "speed" => self.speed = value::number(words)?,
             "bytes" => self.bytes = value::bytes(words)?,
             "room" => self.room = value::length(words)?,
             _ => return Ok(false),
@@ -81,6 +88,7 @@ impl Kind for RawRead {
     }
 
     fn keys(&self, out: &mut String) {
+        let _ = writeln!(out, "speed {}", self.speed);
         print::bytes(out, "bytes", &self.bytes);
         room(out, self.room, WORDS_ROOM);
     }
@@ -93,9 +101,10 @@ impl Kind for RawRead {
 
     fn explain(&self, functions: &dyn Functions, out: &mut String) {
         let (replied, words) = self.ask(functions);
-        let _ = writeln!(out, "{} bytes to words, room for {}", self.bytes.len(), self.room);
-        explain_bytes(out, &self.bytes);
-        reply(out, replied, "words", "the bytes are malformed");
+        let RawRead { speed, bytes, room } = self;
+        let _ = writeln!(out, "{} bytes to words at speed {speed}, room for {room}", bytes.len());
+        explain_bytes(out, bytes, *speed);
+        reply(out, replied, "words", "the bytes are malformed", bytes_fault(bytes, *speed));
         explain_words(out, &words[..replied.count]);
     }
 }
@@ -107,6 +116,7 @@ impl Kind for RawWrite {
 
     fn key(&mut self, key: &str, words: &mut Words) -> Parsed<bool> {
         match key {
+            "speed" => self.speed = value::number(words)?,
             "list" => self.list = value::list(words, value::hex32)?,
             "room" => self.room = value::length(words)?,
             _ => return Ok(false),
@@ -115,6 +125,7 @@ impl Kind for RawWrite {
     }
 
     fn keys(&self, out: &mut String) {
+        let _ = writeln!(out, "speed {}", self.speed);
         print::words(out, "list", &self.list);
         room(out, self.room, BYTES_ROOM);
     }
@@ -127,9 +138,10 @@ impl Kind for RawWrite {
 
     fn explain(&self, functions: &dyn Functions, out: &mut String) {
         let (replied, bytes) = self.ask(functions);
-        let _ = writeln!(out, "{} words to bytes, room for {}", self.list.len(), self.room);
-        explain_words(out, &self.list);
-        reply(out, replied, "bytes", "an endpoint has packets 0");
-        explain_bytes(out, &bytes[..replied.count]);
+        let RawWrite { speed, list, room } = self;
+        let _ = writeln!(out, "{} words to bytes at speed {speed}, room for {room}", list.len());
+        explain_words(out, list);
+        reply(out, replied, "bytes", "an endpoint has packets 0", words_fault(list));
+        explain_bytes(out, &bytes[..replied.count], *speed);
     }
 }

@@ -3,6 +3,7 @@
 use std::fmt::Write;
 
 use crate::case::{Functions, Kind, Reply, explain_reply, room};
+use crate::companion::words_fault;
 use crate::descriptors::explain_words;
 use crate::memory::filled_bytes;
 use crate::value::{Parsed, Words};
@@ -40,6 +41,7 @@ impl Form {
 #[derive(Clone, Debug, PartialEq, Eq)]
 pub struct Conversion {
     pub to: Form,
+    pub speed: u8,
     pub list: Vec<u32>,
     pub settings: Vec<u8>,
     pub room: usize,
@@ -50,15 +52,15 @@ impl Conversion {
     pub const TO_OLD: &'static str = "toold";
 
     pub fn to(to: Form) -> Conversion {
-        Conversion { to, list: Vec::new(), settings: Vec::new(), room: SETTINGS_ROOM }
+        Conversion { to, speed: 0, list: Vec::new(), settings: Vec::new(), room: SETTINGS_ROOM }
     }
 
     /// The reply and the memory.
     pub fn ask(&self, functions: &dyn Functions) -> (Reply, Vec<u8>) {
         let mut bytes = filled_bytes(self.room);
         let reply = match self.to {
-            Form::New => functions.settings_to_new(&self.settings, &self.list, &mut bytes),
-            Form::Old => functions.settings_to_old(&self.settings, &self.list, &mut bytes),
+            Form::New => functions.settings_to_new(&self.settings, &self.list, self.speed, &mut bytes),
+            Form::Old => functions.settings_to_old(&self.settings, &self.list, self.speed, &mut bytes),
         };
         (reply, bytes)
     }
@@ -167,6 +169,7 @@ impl Kind for Conversion {
 
     fn key(&mut self, key: &str, words: &mut Words) -> Parsed<bool> {
         match key {
+            "speed" => self.speed = value::number(words)?,
             "list" => self.list = value::list(words, value::hex32)?,
             "settings" => self.settings = value::bytes(words)?,
             "room" => self.room = value::length(words)?,
@@ -176,6 +179,7 @@ impl Kind for Conversion {
     }
 
     fn keys(&self, out: &mut String) {
+        let _ = writeln!(out, "speed {}", self.speed);
         print::words(out, "list", &self.list);
         print::bytes(out, "settings", &self.settings);
         room(out, self.room, SETTINGS_ROOM);
@@ -190,7 +194,8 @@ impl Kind for Conversion {
     fn explain(&self, functions: &dyn Functions, out: &mut String) {
         let (replied, bytes) = self.ask(functions);
         let from = self.to.other();
-        let _ = writeln!(out, "{} settings to {} ones, room for {}", from.name(), self.to.name(), self.room);
+        let Conversion { to, speed, room, .. } = self;
+        let _ = writeln!(out, "{} settings to {} ones at speed {speed}, room for {room}", from.name(), to.name());
         explain_words(out, &self.list);
         explain_settings(out, from, &self.settings);
         explain_reply(out, replied, "bytes");
@@ -200,6 +205,7 @@ impl Kind for Conversion {
                 let fault = settings_fault(from, &self.settings, &self.list);
                 let _ = writeln!(out, "    {}", fault.unwrap_or_default());
             }
+            26 => _ = writeln!(out, "    {}", words_fault(&self.list).unwrap_or_default()),
             _ => {}
         }
     }

@@ -5,6 +5,7 @@ use scenario::*;
 const MIXED: &str = "case one endpoint # of it
   rawread
 room 300
+  speed 4
  bytes 09021900010100803209040000010300000007058103080004
 go
 scenario between
@@ -13,6 +14,7 @@ go
 end
 case and back
 rawwrite
+speed 3
 list 00400000 40000000 a3808410
 go
 case none
@@ -21,6 +23,7 @@ go
 case settings
 toold
   settings 010800040c00
+  speed 255
   room 70
   list 00400000 40000000
 go
@@ -43,25 +46,25 @@ go
 struct Scribe;
 
 impl Functions for Scribe {
-    fn read_descriptors(&self, bytes: &[u8], words: &mut [u32]) -> Reply {
+    fn read_descriptors(&self, bytes: &[u8], _: u8, words: &mut [u32]) -> Reply {
         let count = usize::from(bytes[0]);
         words[..count].fill(0x4000_0000);
         Reply { number: 0, count }
     }
 
-    fn write_descriptors(&self, list: &[u32], bytes: &mut [u8]) -> Reply {
+    fn write_descriptors(&self, list: &[u32], _: u8, bytes: &mut [u8]) -> Reply {
         bytes[..list.len()].fill(7);
         Reply { number: 0, count: list.len() }
     }
 
-    fn settings_to_new(&self, settings: &[u8], list: &[u32], bytes: &mut [u8]) -> Reply {
+    fn settings_to_new(&self, settings: &[u8], list: &[u32], _: u8, bytes: &mut [u8]) -> Reply {
         bytes[..settings.len()].copy_from_slice(settings);
         bytes[settings.len()] = list.len() as u8;
         Reply { number: 0, count: settings.len() + 1 }
     }
 
-    fn settings_to_old(&self, settings: &[u8], list: &[u32], bytes: &mut [u8]) -> Reply {
-        self.settings_to_new(&settings[1..], list, bytes)
+    fn settings_to_old(&self, settings: &[u8], list: &[u32], speed: u8, bytes: &mut [u8]) -> Reply {
+        self.settings_to_new(&settings[1..], list, speed, bytes)
     }
 
     fn endpoint_block<'a>(&self, input: &'a [u8], output: &'a [u8], from: Side, dci: u8) -> (u8, &'a [u8]) {
@@ -79,19 +82,19 @@ impl Functions for Scribe {
 struct Refuses(u8);
 
 impl Functions for Refuses {
-    fn read_descriptors(&self, _: &[u8], _: &mut [u32]) -> Reply {
+    fn read_descriptors(&self, _: &[u8], _: u8, _: &mut [u32]) -> Reply {
         Reply { number: self.0, count: 0 }
     }
 
-    fn write_descriptors(&self, _: &[u32], _: &mut [u8]) -> Reply {
+    fn write_descriptors(&self, _: &[u32], _: u8, _: &mut [u8]) -> Reply {
         Reply { number: self.0, count: 0 }
     }
 
-    fn settings_to_new(&self, _: &[u8], _: &[u32], _: &mut [u8]) -> Reply {
+    fn settings_to_new(&self, _: &[u8], _: &[u32], _: u8, _: &mut [u8]) -> Reply {
         Reply { number: self.0, count: 0 }
     }
 
-    fn settings_to_old(&self, _: &[u8], _: &[u32], _: &mut [u8]) -> Reply {
+    fn settings_to_old(&self, _: &[u8], _: &[u32], _: u8, _: &mut [u8]) -> Reply {
         Reply { number: self.0, count: 0 }
     }
 
@@ -142,11 +145,11 @@ fn cases_and_scenarios_stand_in_one_file() {
     assert_eq!(read.scenarios.len(), 1);
     let bytes = "09021900010100803209040000010300000007058103080004";
     let expected = [
-        format!("case one endpoint\nrawread\nbytes {bytes}\nroom 300\ngo\n"),
-        "case and back\nrawwrite\nlist 00400000 40000000 a3808410\ngo\n".to_string(),
-        "case none\nrawread\nbytes\ngo\n".to_string(),
-        "case settings\ntoold\nlist 00400000 40000000\nsettings 010800040c00\nroom 70\ngo\n".to_string(),
-        "case no settings\ntonew\nlist\nsettings\ngo\n".to_string(),
+        format!("case one endpoint\nrawread\nspeed 4\nbytes {bytes}\nroom 300\ngo\n"),
+        "case and back\nrawwrite\nspeed 3\nlist 00400000 40000000 a3808410\ngo\n".to_string(),
+        "case none\nrawread\nspeed 0\nbytes\ngo\n".to_string(),
+        "case settings\ntoold\nspeed 255\nlist 00400000 40000000\nsettings 010800040c00\nroom 70\ngo\n".to_string(),
+        "case no settings\ntonew\nspeed 0\nlist\nsettings\ngo\n".to_string(),
         "case shown\nblock\ninput 00\noutput 0aff\nfrom output\ndci 3\ngo\n".to_string(),
         "case nothing shown\nblock\ninput\noutput\nfrom input\ndci 0\ngo\n".to_string(),
     ];
@@ -162,6 +165,9 @@ fn the_first_bad_line_is_named() {
     assert_eq!(error("case a\nclaim\n"), (2, "there is no kind of case 'claim'".to_string()));
     assert_eq!(error("case a\nrawread\nlist 00400000\n"), (3, "'rawread' has no 'list'".to_string()));
     assert_eq!(error("case a\nrawwrite\nbytes 00\n"), (3, "'rawwrite' has no 'bytes'".to_string()));
+    assert_eq!(error("case a\nrawread\nspeed 256\n").0, 3);
+    assert_eq!(error("case a\ntonew\nspeed\n"), (3, "a number is missing".to_string()));
+    assert_eq!(error("case a\nblock\nspeed 4\n"), (3, "'block' has no 'speed'".to_string()));
     assert_eq!(error("case a\nrawread\nroom 1\nroom 1\n"), (4, "'room' is given twice".to_string()));
     assert_eq!(error("case a\nrawread\nbytes 123\n").0, 3);
     assert_eq!(error("case a\nrawread\nbytes 12 34\n"), (3, "'34' is too much".to_string()));
@@ -248,16 +254,76 @@ fn bytes_are_told_as_descriptors() {
 fn words_are_told_as_descriptors() {
     let expected = "case one
 
-5 words to bytes, room for 2304
+5 words to bytes at speed 0, room for 2304
     configuration 1
       interface 0, alternate 255
         endpoint 81, IN, interrupt, size 8, packets 1, interval 4
         endpoint 0f, OUT, control, size 2047, packets 0, interval 255, unused bits 3
-    c0000000, a word of no kind
+          companion, burst 10, mult 1, bytes per interval 4660, unused bits 1
   answer 4: refused: the descriptor list is not valid
 
 ";
-    assert_eq!(explained(&Refuses(4), "rawwrite\nlist 00400000 403fc000 a3808410 9e7ff3ff c0000000"), expected);
+    assert_eq!(explained(&Refuses(4), "rawwrite\nlist 00400000 403fc000 a3808410 9e7ff3ff e9123401"), expected);
+}
+
+/// At speeds 4 and 5 a companion is told with its fields; else it is a descriptor of another type.
+#[test]
+fn companions_are_told() {
+    let told = |speed: u8, bytes: &str| -> Vec<String> {
+        let text = explained(&Refuses(20), &format!("rawread\nspeed {speed}\nbytes {bytes}"));
+        text.lines()
+            .skip(3)
+            .map(|line| line.trim().to_string())
+            .take_while(|line| !line.starts_with("answer"))
+            .collect()
+    };
+    let bytes = "0705810108000406300f063412053001";
+    let endpoint = "0      endpoint 81, IN, isochronous, size 8, packets 1, interval 4";
+    for speed in [4, 5] {
+        let companion = "7        companion, burst 15, mult 2, bytes per interval 4660";
+        assert_eq!(told(speed, bytes), [endpoint, companion, "13  type 48, length 5: past the end"]);
+    }
+    assert_eq!(told(3, bytes), [endpoint, "7  type 48, 6 bytes", "13  type 48, length 5: past the end"]);
+    assert_eq!(told(4, "0530010000"), ["0  type 48, length 5: less than 6"]);
+}
+
+/// Of a 26, the word or the descriptor and why.
+#[test]
+fn the_ground_of_a_26_is_told() {
+    let last = |kind: &str, keys: &str| {
+        let text = explained(&Refuses(26), &format!("{kind}\nspeed 4\n{keys}"));
+        assert!(text.contains("answer 26: refused: a companion is missing, misplaced or out of range\n    "), "{text}");
+        text.lines().rfind(|line| !line.is_empty()).map_or(String::new(), |line| line.trim().to_string())
+    };
+    for (words, expected) in [
+        ("a3808410", "word 3 of 3, a3808410: no companion stands directly behind this endpoint"),
+        ("a3808410 a3808410 c0000000", "word 3 of 5, a3808410: no companion stands directly behind this endpoint"),
+        ("c0000000", "word 3 of 3, c0000000: a companion that does not stand directly behind an endpoint"),
+        (
+            "a3808410 c0000000 c0000000",
+            "word 5 of 5, c0000000: a companion that does not stand directly behind an endpoint",
+        ),
+        ("a3808410 c1000000", "word 4 of 4, c1000000: its mult is 1, and only an isochronous endpoint has one"),
+        ("a2808410 c3000000", "word 4 of 4, c3000000: its mult is 3, and 2 is the most behind an isochronous endpoint"),
+    ] {
+        for kind in ["rawwrite", "tonew", "toold"] {
+            assert_eq!(last(kind, &format!("list 00400000 40000000 {words}")), expected);
+        }
+    }
+    for (bytes, expected) in [
+        ("07058103080004", "the descriptor at byte 0: no companion stands directly behind this endpoint"),
+        (
+            "03210006300000000007058103080004",
+            "the descriptor at byte 3: a companion that does not stand directly behind an endpoint",
+        ),
+        ("07058103080004022106301003000000", "the descriptor at byte 9: its burst is 16, and 15 is the most"),
+        (
+            "07058101080004063000ff0000",
+            "the descriptor at byte 7: its mult is 3, and 2 is the most behind an isochronous endpoint",
+        ),
+    ] {
+        assert_eq!(last("rawread", &format!("bytes {bytes}")), expected);
+    }
 }
 
 #[test]
@@ -289,7 +355,7 @@ fn settings_are_told_with_value_and_pairs() {
     let text = explained(&Scribe, "tonew\nlist 00400000 40000000\nsettings 040c");
     let expected = "case one
 
-old settings to new ones, room for 66
+old settings to new ones at speed 0, room for 66
     configuration 1
       interface 0, alternate 0
   old settings 040c

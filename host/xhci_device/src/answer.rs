@@ -3,7 +3,7 @@
 use core::fmt;
 
 /// What a call answers, in the order of their numbers. Those from `ContextLength` to `Unusable`,
-/// `QueueFull`, `TooFewRings`, `OutdatedAsk` and `NotClaimed` are refusals: the call has sent nothing and changed nothing.
+/// `QueueFull`, `TooFewRings`, `OutdatedAsk`, `NotClaimed` and `Companion` are refusals: the call has sent nothing and changed nothing.
 /// After `InterfaceBroken`, `Cut` and any bring-up that was not accepted the record is unusable.
 ///
 /// ```
@@ -60,10 +60,13 @@ pub enum Answer {
     OutdatedAsk,
     /// A release: the interface holds no setting.
     NotClaimed,
+    /// Bring-up at speeds 4 and 5: an endpoint word of the list without its companion, one that does not stand directly behind
+    /// an endpoint word, or one with a mult out of range.
+    Companion,
 }
 
 impl Answer {
-    /// The answer of a number; `code` counts for 13 only. None for 20, 23 and 24, which no call answers, and above 25.
+    /// The answer of a number; `code` counts for 13 only. None for 20, 23 and 24, which no call answers, and above 26.
     pub fn of(number: u8, code: u8) -> Option<Answer> {
         Some(match number {
             0 => Answer::Accepted,
@@ -89,6 +92,7 @@ impl Answer {
             21 => Answer::TooFewRings,
             22 => Answer::OutdatedAsk,
             25 => Answer::NotClaimed,
+            26 => Answer::Companion,
             _ => return None,
         })
     }
@@ -119,6 +123,7 @@ impl Answer {
             Answer::TooFewRings => 21,
             Answer::OutdatedAsk => 22,
             Answer::NotClaimed => 25,
+            Answer::Companion => 26,
         }
     }
 
@@ -158,6 +163,7 @@ impl fmt::Display for Answer {
             Answer::TooFewRings => "there are fewer free rings than endpoint words",
             Answer::OutdatedAsk => "the ask is outdated",
             Answer::NotClaimed => "the interface is not claimed",
+            Answer::Companion => "a companion is missing, misplaced or out of range",
         })
     }
 }
@@ -168,11 +174,11 @@ mod tests {
 
     #[test]
     fn numbers_name_the_answers() {
-        for number in (0..=19).chain([21, 22, 25]) {
+        for number in (0..=19).chain([21, 22, 25, 26]) {
             let answer = Answer::of(number, 7).expect("an answer");
             assert_eq!(answer.number(), number);
             assert_eq!(answer.code(), if number == 13 { 7 } else { 0 });
         }
-        assert_eq!([20, 23, 24, 26].map(|number| Answer::of(number, 0)), [None; 4]);
+        assert_eq!([20, 23, 24, 27].map(|number| Answer::of(number, 0)), [None; 4]);
     }
 }

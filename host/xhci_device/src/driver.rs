@@ -204,12 +204,13 @@ impl<'a> Pending<'a> {
         let mut begun = Begun { record: record.clone(), ctx: [0; CONTEXT], routes, routes_len: 0 };
         let kept = ctx.len().min(CONTEXT);
         begun.ctx[..kept].copy_from_slice(&ctx[..kept]);
+        let speed = if let Call::BringUp(attached) = &call { attached.speed } else { 0 };
         Pending {
             record,
             ctx,
             call,
             begun,
-            learned: Learned::nothing(),
+            learned: Learned::nothing(speed),
             log: [0; COMMANDS],
             outcomes: [0; COMMANDS],
             told: 0,

@@ -12,6 +12,8 @@ const NUM_CONFIGURATIONS: usize = 17;
 /// Each configuration that the device has and that was not read yet stands in the list as one word, 0, so that
 /// the call sends a ReadConfig for it.
 pub struct Learned {
+    /// The device's, at which its descriptors are read.
+    speed: u8,
     pub header: usize,
     pub packet: u8,
     pub value: u8,
@@ -24,8 +26,8 @@ pub struct Learned {
 }
 
 impl Learned {
-    pub fn nothing() -> Learned {
-        Learned { header: 0, packet: 0, value: 0, words: [0; LIST], read: 0, unread: 0, before: (0, 0) }
+    pub fn nothing(speed: u8) -> Learned {
+        Learned { speed, header: 0, packet: 0, value: 0, words: [0; LIST], read: 0, unread: 0, before: (0, 0) }
     }
 
     pub fn list(&self) -> &[u32] {
@@ -50,7 +52,7 @@ impl Learned {
                 Read::Words(words) => self.append(words)?,
                 _ => {
                     let mut words = [0; READ_WORDS];
-                    let count = read_descriptors(bytes, &mut words).ok()?;
+                    let count = read_descriptors(bytes, self.speed, &mut words).ok()?;
                     self.append(&words[..count])?;
                 }
             },

@@ -207,13 +207,26 @@ unsafe extern "C" {
         names_len: usize,
         longest: u32,
     ) -> Picked;
-    fn xhci_device_read_descriptors(bytes: *const u8, bytes_len: usize, words: *mut u32, words_len: usize) -> Answered;
-    fn xhci_device_write_descriptors(list: *const u32, list_len: usize, bytes: *mut u8, bytes_len: usize) -> Answered;
+    fn xhci_device_read_descriptors(
+        bytes: *const u8,
+        bytes_len: usize,
+        speed: u8,
+        words: *mut u32,
+        words_len: usize,
+    ) -> Answered;
+    fn xhci_device_write_descriptors(
+        list: *const u32,
+        list_len: usize,
+        speed: u8,
+        bytes: *mut u8,
+        bytes_len: usize,
+    ) -> Answered;
     fn xhci_device_settings_to_new(
         settings: *const u8,
         settings_len: usize,
         list: *const u32,
         list_len: usize,
+        speed: u8,
         bytes: *mut u8,
         bytes_len: usize,
     ) -> Answered;
@@ -222,6 +235,7 @@ unsafe extern "C" {
         settings_len: usize,
         list: *const u32,
         list_len: usize,
+        speed: u8,
         bytes: *mut u8,
         bytes_len: usize,
     ) -> Answered;
@@ -494,20 +508,21 @@ pub fn choose(image: &[u64], names: &[u8], longest: u32) -> Result<Chosen, Choic
     }
 }
 
-pub fn read_descriptors(bytes: &[u8], words: &mut [u32]) -> Result<usize, RawRefusal> {
+pub fn read_descriptors(bytes: &[u8], speed: u8, words: &mut [u32]) -> Result<usize, RawRefusal> {
     // SAFETY: each pointer comes with its slice's length, and the words are borrowed for this call alone.
     let answered =
-        unsafe { xhci_device_read_descriptors(bytes.as_ptr(), bytes.len(), words.as_mut_ptr(), words.len()) };
+        unsafe { xhci_device_read_descriptors(bytes.as_ptr(), bytes.len(), speed, words.as_mut_ptr(), words.len()) };
     counted(answered, RawRefusal::of)
 }
 
-pub fn write_descriptors(list: &[u32], bytes: &mut [u8]) -> Result<usize, RawRefusal> {
+pub fn write_descriptors(list: &[u32], speed: u8, bytes: &mut [u8]) -> Result<usize, RawRefusal> {
     // SAFETY: each pointer comes with its slice's length, and the bytes are borrowed for this call alone.
-    let answered = unsafe { xhci_device_write_descriptors(list.as_ptr(), list.len(), bytes.as_mut_ptr(), bytes.len()) };
+    let answered =
+        unsafe { xhci_device_write_descriptors(list.as_ptr(), list.len(), speed, bytes.as_mut_ptr(), bytes.len()) };
     counted(answered, RawRefusal::of)
 }
 
-pub fn settings_to_new(settings: &[u8], list: &[u32], bytes: &mut [u8]) -> Result<usize, SettingsRefusal> {
+pub fn settings_to_new(settings: &[u8], list: &[u32], speed: u8, bytes: &mut [u8]) -> Result<usize, SettingsRefusal> {
     // SAFETY: each pointer comes with its slice's length, and the bytes are borrowed for this call alone.
     let answered = unsafe {
         xhci_device_settings_to_new(
@@ -515,6 +530,7 @@ pub fn settings_to_new(settings: &[u8], list: &[u32], bytes: &mut [u8]) -> Resul
             settings.len(),
             list.as_ptr(),
             list.len(),
+            speed,
             bytes.as_mut_ptr(),
             bytes.len(),
         )
@@ -522,7 +538,7 @@ pub fn settings_to_new(settings: &[u8], list: &[u32], bytes: &mut [u8]) -> Resul
     counted(answered, SettingsRefusal::of)
 }
 
-pub fn settings_to_old(settings: &[u8], list: &[u32], bytes: &mut [u8]) -> Result<usize, SettingsRefusal> {
+pub fn settings_to_old(settings: &[u8], list: &[u32], speed: u8, bytes: &mut [u8]) -> Result<usize, SettingsRefusal> {
     // SAFETY: each pointer comes with its slice's length, and the bytes are borrowed for this call alone.
     let answered = unsafe {
         xhci_device_settings_to_old(
@@ -530,6 +546,7 @@ pub fn settings_to_old(settings: &[u8], list: &[u32], bytes: &mut [u8]) -> Resul
             settings.len(),
             list.as_ptr(),
             list.len(),
+            speed,
             bytes.as_mut_ptr(),
             bytes.len(),
         )

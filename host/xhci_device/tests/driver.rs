@@ -43,18 +43,18 @@ fn one_shot(world: &mut World, call: &Call<'_>, device: &Device, list: &[u32], o
     (answer, log[..count].to_vec())
 }
 
-/// Whether the library takes a list.
-fn is_valid(list: &[u32]) -> bool {
-    let port =
-        Attached { slot: SlotId(1), n: N, speed: 3, parent: None, port: 1, root_port: 1, rings: &[16], hubs: &[] };
-    let device = Device { header: vec![], value: vec![], configurations: vec![] };
+/// Whether the library takes a list at a speed.
+fn is_valid(speed: u8, list: &[u32]) -> bool {
+    let port = Attached { slot: SlotId(1), n: N, speed, parent: None, port: 1, root_port: 1, rings: &[16], hubs: &[] };
+    let device = Device { speed, header: vec![], value: vec![], configurations: vec![] };
     let mut world = World { record: Record::new(), ctx: vec![0; 1056], routes: vec![0; ROUTES] };
     one_shot(&mut world, &Call::BringUp(port), &device, list, &[]).0 == Answer::Cut
 }
 
 /// Which command of a bring-up reads something that cannot be used, and the list as it is known before it.
 fn unreadable(device: &Device) -> Option<(usize, Vec<u32>)> {
-    let Device { value, configurations, .. } = device;
+    let Device { speed, value, configurations, .. } = device;
+    let is_valid = |list: &[u32]| is_valid(*speed, list);
     let count = configurations.len();
     let is_one =
         |words: &[u32]| !words.is_empty() && words.iter().enumerate().all(|(at, word)| (word >> 30 == 0) == (at == 0));
@@ -101,9 +101,9 @@ fn look_at(due: &Due<'_>, before: &[u64]) {
     assert_eq!(due.log.last(), Some(&due.command.word()));
 }
 
-fn raw(words: &[u32]) -> Option<Vec<u8>> {
+fn raw(speed: u8, words: &[u32]) -> Option<Vec<u8>> {
     let mut bytes = vec![0; WRITE_BYTES];
-    let count = write_descriptors(words, &mut bytes).ok()?;
+    let count = write_descriptors(words, speed, &mut bytes).ok()?;
     bytes.truncate(count);
     Some(bytes)
 }
@@ -120,7 +120,7 @@ struct Script<'a> {
 
 impl<'a> Script<'a> {
     fn new(device: &'a Device, outcomes: &'a [u8], before: &'a [u64]) -> Script<'a> {
-        let raw = device.configurations.iter().map(|words| raw(words)).collect();
+        let raw = device.configurations.iter().map(|words| raw(device.speed, words)).collect();
         Script { device, descriptor: device.descriptor(), raw, outcomes, before }
     }
 
@@ -200,7 +200,7 @@ fn why(world: &World, call: &Call<'_>, (answer, log): &Told, outcomes: &[u8]) ->
 #[test]
 fn driven_calls_equal_one_shot_calls() {
     let mut rng = Rng::new(0x5EED_0001);
-    let (mut counts, mut sent, mut before) = ([0; 26], 0, None);
+    let (mut counts, mut sent, mut before) = ([0; 27], 0, None);
     let mut world = random::world(&mut rng);
     for _ in 0..CALLS {
         let stale = !world.record.is_usable() && !rng.once_in(4);
@@ -210,9 +210,10 @@ fn driven_calls_equal_one_shot_calls() {
         if rng.once_in(50) {
             world.routes[32 + rng.below(32)] = rng.below(2) as u64 * 0x4000;
         }
-        let (device, hubs) = (random::device(&mut rng), random::hubs(&mut rng));
-        let (rings, outcomes) = (random::rings(&mut rng), random::outcomes(&mut rng));
+        let (rings, hubs) = (random::rings(&mut rng), random::hubs(&mut rng));
         let call = random::call(&mut rng, &world.record, &rings, &hubs);
+        let speed = if let Call::BringUp(attached) = &call { attached.speed } else { 3 };
+        let (device, outcomes) = (random::device(&mut rng, speed), random::outcomes(&mut rng));
         let call = random::committed(&mut rng, &world, call, &mut before);
 
         let (mut whole, mut steps) = (world.clone(), world.clone());
@@ -229,9 +230,9 @@ fn driven_calls_equal_one_shot_calls() {
         world = steps;
     }
     println!("{CALLS} calls, {sent} commands, answers {counts:?}");
-    let missing: Vec<usize> = (0..26).filter(|&number| counts[number] == 0).collect();
+    let missing: Vec<usize> = (0..27).filter(|&number| counts[number] == 0).collect();
     let outside = "functions outside a slot have 20, 23 and 24";
-    assert_eq!(missing, [3, 4, 20, 23, 24], "the log is the driver's own, the list is read, and {outside}");
+    assert_eq!(missing, [3, 4, 20, 23, 24, 26], "the log is the driver's own, the list is read, and {outside}");
 }
 
 /// Configuration 1, interface 0: alternate 0 with 0x81, interrupt; alternate 1 with 0x81 and 0x02, bulk.
@@ -239,7 +240,7 @@ const LIST: [u32; 6] = [0x0040_0000, 0x4000_0000, 0xA384_0410, 0x4000_4000, 0xA3
 
 fn keyboard() -> Device {
     let header = vec![18, 1, 0, 2, 0, 0, 0, 64];
-    Device { header, value: vec![1], configurations: vec![LIST.to_vec()] }
+    Device { speed: 3, header, value: vec![1], configurations: vec![LIST.to_vec()] }
 }
 
 fn attached<'a>(slot: u8) -> Call<'a> {

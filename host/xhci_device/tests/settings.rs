@@ -11,18 +11,28 @@ const OLD: [u8; 6] = [0, 1, 3, 0, 255, 128];
 /// 7 and 3, then each byte two bits later than in the old form.
 const NEW: [u8; 8] = [7, 3 << 2, 0, 1 << 2, 3 << 2, 0b11, 0b1111_1110, 0];
 
-type Converts = fn(&[u8], &[u32], &mut [u8]) -> Result<usize, SettingsRefusal>;
+type Converts = fn(&[u8], &[u32], u8, &mut [u8]) -> Result<usize, SettingsRefusal>;
 
-/// Bytes that were lent, and what a conversion left there.
-fn converted(
+/// Bytes that were lent, and what a conversion left there, by a list of a speed.
+fn converted_at(
+    speed: u8,
     convert: Converts,
     settings: &[u8],
     list: &[u32],
     room: usize,
 ) -> (Result<usize, SettingsRefusal>, Vec<u8>) {
     let mut bytes: Vec<u8> = (0..room).map(|i| (0xa5 + i) as u8).collect();
-    let answer = convert(settings, list, &mut bytes);
+    let answer = convert(settings, list, speed, &mut bytes);
     (answer, bytes)
+}
+
+fn converted(
+    convert: Converts,
+    settings: &[u8],
+    list: &[u32],
+    room: usize,
+) -> (Result<usize, SettingsRefusal>, Vec<u8>) {
+    converted_at(3, convert, settings, list, room)
 }
 
 fn untouched(bytes: &[u8], from: usize) -> bool {
@@ -87,11 +97,33 @@ fn the_first_refusal_is_the_answer_and_changes_nothing() {
     }
 }
 
+/// The list is judged at the speed: with a companion behind its endpoint at 4 and 5, without at the others.
+#[test]
+fn the_list_is_of_a_speed() {
+    use SettingsRefusal::*;
+    let (endpoint, companion) = (0xa380_8410, 0xcc00_0800);
+    let with = |words: &[u32]| [&LIST[..2], words, &LIST[2..]].concat();
+    let (plain, whole) = (with(&[endpoint]), with(&[endpoint, companion]));
+    for speed in 0..=7 {
+        let expected = |fits: bool, refusal: SettingsRefusal| match speed {
+            1..=5 if fits => Ok(NEW.len()),
+            1..=5 => Err(refusal),
+            _ => Err(Speed),
+        };
+        let is_super = speed > 3;
+        let answer = |list: &[u32]| converted_at(speed, settings_to_new, &OLD, list, SETTINGS_BYTES).0;
+        assert_eq!(answer(&plain), expected(!is_super, Companion));
+        assert_eq!(answer(&whole), expected(is_super, DescriptorList));
+        assert_eq!(answer(&with(&[companion])), expected(false, if is_super { Companion } else { DescriptorList }));
+        assert_eq!(converted_at(speed, settings_to_old, &NEW, &LIST, 0).0, Err(TooShort));
+        let back = converted_at(speed, settings_to_old, &NEW, &whole, SETTINGS_BYTES).0;
+        assert_eq!(back, expected(is_super, DescriptorList).map(|_| OLD.len()));
+    }
+}
+
 #[test]
 fn numbers_are_those_of_the_papers() {
     use SettingsRefusal::*;
-    assert_eq!(
-        [TooShort, DescriptorList, Settings, OtherConfiguration].map(|refusal| refusal.number()),
-        [3, 4, 23, 24]
-    );
+    let all = [TooShort, DescriptorList, Speed, Settings, OtherConfiguration, Companion];
+    assert_eq!(all.map(|refusal| refusal.number()), [3, 4, 6, 23, 24, 26]);
 }

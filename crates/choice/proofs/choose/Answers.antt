@@ -1,5 +1,5 @@
 use mathlib.Core.Path.{sym, ◌∙◌}
-use Rattle.device.specs.Device.{list_of}
+use Rattle.device.specs.Device.{words_of, list_of}
 use Rattle.device.proofs.Facts.{sound_facts}
 use Rattle.choice.proofs.Exits.{not_usable, not_sound, too_many, of_list}
 use Rattle.choice.proofs.choose.Goals.{then-not-d-via-then-not-d, then-not-d-via-else-not-d+then-not-sound}
@@ -19,5 +19,5 @@ pub shared_ref_as_front-list : goal.shared_ref_as_front-list
 shared_ref_as_front-list c = (sound_facts _ (sym c.sound.ensures ∙ c.if-not-sound.false)).counts.list
 
 pub returns : goal.returns
-unfolding list_of
+unfolding words_of list_of
 returns c = of_list _ _ _ _ c.if-not-d.false (sym c.sound.ensures ∙ c.if-not-sound.false) c.if-names-gt-NAMES.false c.choose_in.ensures

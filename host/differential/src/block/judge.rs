@@ -22,7 +22,7 @@ impl Question for Block {
     const TITLE: &'static str = "an endpoint's block";
     const ANSWERS: &'static [(&'static str, &'static [u8])] = &[(Block::NAME, &[0, 1, 4])];
     const GROUNDS: &'static [LengthGround] = &[LengthGround::Input, LengthGround::Output, LengthGround::TwoSpacings];
-    const MALFORMED: u8 = 1;
+    const GROUNDS_OF: &'static str = "1";
     const RETURNED: &'static str = "a part of what is lent";
 
     fn name(&self) -> &'static str {

@@ -86,8 +86,8 @@ fn addresses(ask: Ask) {
         // Alternate numbers fall in the list.
         let alternates = [taking(0, 1, sets[0]), taking(1, 1, sets[1]), taking(1, 0, sets[2]), taking(0, 0, sets[3])];
         let list = [vec![configuration(1)], alternates.concat()].concat();
-        for names in [vec![0, 1], vec![1, 0]] {
-            ask(Choice { record: record(3, list.clone()), names, longest: 0 });
+        for (speed, names) in [(3, vec![0, 1]), (3, vec![1, 0]), (4, vec![0, 1]), (5, vec![1, 0])] {
+            ask(Choice { record: record(speed, list.clone()), names, longest: 0 });
         }
     }
 }

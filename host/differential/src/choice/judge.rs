@@ -15,7 +15,7 @@ impl Question for Choice {
     const TITLE: &'static str = "settings for a wanted polling period";
     const ANSWERS: &'static [(&'static str, &'static [u8])] = &[(Choice::NAME, &[0, 12, 29, 30])];
     const GROUNDS: &'static [ChoiceGround] = &ChoiceGround::ALL;
-    const MALFORMED: u8 = 30;
+    const GROUNDS_OF: &'static str = "30";
     const RETURNED: &'static str = "claimed, one after the other";
 
     fn name(&self) -> &'static str {

@@ -5,7 +5,7 @@ use scenario::{Choice, Claim, Layer, Record};
 use crate::build::{BULK, INTERRUPT, ISOCHRONOUS, alternate, buffers, configuration, endpoint};
 use crate::choice::record;
 use crate::outside::{Pair, Tally};
-use crate::random::broken_list;
+use crate::random::{broken_list, companied};
 use crate::rng::Rng;
 
 /// The model tries every combination, of which there may be so many.
@@ -14,9 +14,10 @@ const MOST_COMBINATIONS: usize = 2_000;
 pub fn run(pair: &Pair, tally: &mut Tally<Choice>, seed: u64, cases: u64) {
     let mut rng = Rng::new(seed);
     for _ in 0..cases {
-        let list = if rng.percent(2) { broken_list(&mut rng) } else { list(&mut rng) };
+        let speed = 1 + rng.below(5) as u8;
+        let list = if rng.percent(2) { broken_list(&mut rng, speed) } else { list(&mut rng, speed) };
         let names = names(&mut rng, &list);
-        let mut record = record(1 + rng.below(5) as u8, list);
+        let mut record = Record { list: list.clone(), ..record(speed, Vec::new()) };
         if rng.percent(20) {
             hold(&mut rng, &mut record);
         }
@@ -32,7 +33,7 @@ pub fn run(pair: &Pair, tally: &mut Tally<Choice>, seed: u64, cases: u64) {
 }
 
 /// A first configuration and now and then others; interfaces whose alternates take the same few addresses.
-fn list(rng: &mut Rng) -> Vec<u32> {
+fn list(rng: &mut Rng, speed: u8) -> Vec<u32> {
     let mut list = Vec::new();
     let (interfaces, addresses) = (1 + rng.below(8), 1 + rng.below(15));
     let long = rng.of(&[1, 10, 60]);
@@ -46,7 +47,7 @@ fn list(rng: &mut Rng) -> Vec<u32> {
         }
     }
     list.truncate(256);
-    list
+    companied(rng, speed, list)
 }
 
 fn interface(rng: &mut Rng, interfaces: u64) -> u8 {

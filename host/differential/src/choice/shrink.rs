@@ -37,8 +37,11 @@ pub fn smaller(choice: &Choice) -> Vec<Choice> {
         with(&|next| _ = next.record.list.remove(at));
         (0..32).for_each(|bit| with(&|next| next.record.list[at] &= !(1 << bit)));
         // An alternate with its endpoints.
-        let behind = record.list[at + 1..].iter().take_while(|word| **word >> 30 == 2).count();
+        let behind = record.list[at + 1..].iter().take_while(|word| **word >> 30 >= 2).count();
         with(&|next| _ = next.record.list.drain(at..=at + behind));
+        // An endpoint with its companion.
+        let two = (at + 2).min(record.list.len());
+        with(&|next| _ = next.record.list.drain(at..two));
     }
     (0..32).for_each(|bit| with(&|next| next.longest &= !(1 << bit)));
     found

@@ -92,7 +92,7 @@ impl<Q: Question> Tally<Q> {
             let returned = self.returned.get(kind).unwrap_or(&0);
             let _ = writeln!(text, "  {kind}: answers {}; {}: {returned}", met.join(", "), Q::RETURNED);
         }
-        let _ = writeln!(text, "  grounds of {}:", Q::MALFORMED);
+        let _ = writeln!(text, "  grounds of {}:", Q::GROUNDS_OF);
         for ground in Q::GROUNDS {
             let (met, alone) = self.grounds.get(ground).unwrap_or(&(0, 0));
             let company = match Q::fewest(*ground) {

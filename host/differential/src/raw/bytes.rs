@@ -1,8 +1,9 @@
-//! Descriptor bytes (USB 2.0, section 9.6) as a device would send them.
+//! Descriptor bytes (USB 2.0, section 9.6; companions: USB 3.2, section 9.6) as a device would send them.
 
 pub const CONFIGURATION: u8 = 2;
 pub const INTERFACE: u8 = 4;
 pub const ENDPOINT: u8 = 5;
+pub const COMPANION: u8 = 48;
 
 /// Total length and number of interfaces are 0 until `settle`.
 pub fn configuration(value: u8) -> Vec<u8> {
@@ -17,6 +18,11 @@ pub fn interface(number: u8, alternate: u8) -> Vec<u8> {
 pub fn endpoint(address: u8, attributes: u8, field: u16, interval: u8) -> Vec<u8> {
     let [low, high] = field.to_le_bytes();
     vec![7, ENDPOINT, address, attributes, low, high, interval]
+}
+
+pub fn companion(burst: u8, attributes: u8, bytes_per_interval: u16) -> Vec<u8> {
+    let [low, high] = bytes_per_interval.to_le_bytes();
+    vec![6, COMPANION, burst, attributes, low, high]
 }
 
 /// A descriptor of that type, with so many bytes behind type and length.

@@ -11,10 +11,16 @@ pub fn run(pair: &Pair, tally: &mut Tally<Raw>) {
     let mut ask = |question| pair.compare(tally, question);
     short(&mut ask);
     for sample in [one_endpoint(), two_configurations(), camera()] {
-        changed(&sample, &mut ask);
+        changed(3, &sample, &mut ask);
     }
-    pairs(&one_endpoint(), &mut ask);
+    for (speed, sample) in [(3, super_camera()), (4, super_camera()), (5, super_camera()), (4, one_endpoint())] {
+        changed(speed, &sample, &mut ask);
+    }
+    pairs(3, &one_endpoint(), &mut ask);
+    pairs(5, &super_endpoint(), &mut ask);
     endpoints(&mut ask);
+    companions(&mut ask);
+    speeds(&mut ask);
     limits(&mut ask);
     rooms(&mut ask);
     lists(&mut ask);
@@ -22,12 +28,28 @@ pub fn run(pair: &Pair, tally: &mut Tally<Raw>) {
 
 pub type Ask<'a> = &'a mut dyn FnMut(Raw);
 
+/// At High speed.
 fn read(ask: Ask, bytes: Vec<u8>) {
-    ask(Raw::Read(RawRead { bytes, room: WORDS_ROOM }));
+    read_at(ask, 3, bytes);
 }
 
-fn write(ask: Ask, list: Vec<u32>) {
-    ask(Raw::Write(RawWrite { list, room: BYTES_ROOM }));
+fn read_at(ask: Ask, speed: u8, bytes: Vec<u8>) {
+    ask(Raw::Read(RawRead { speed, bytes, room: WORDS_ROOM }));
+}
+
+fn write_at(ask: Ask, speed: u8, list: Vec<u32>) {
+    ask(Raw::Write(RawWrite { speed, list, room: BYTES_ROOM }));
+}
+
+fn super_endpoint() -> Vec<u8> {
+    settled([configuration(1), interface(0, 0), endpoint(0x81, 3, 8, 4), companion(3, 0, 8)].concat())
+}
+
+/// Other types between an endpoint and its companion too; isochronous with a mult, bulk, an address twice.
+fn super_camera() -> Vec<u8> {
+    let images = [endpoint(0x82, 1, 1024, 1), other(11, 1), companion(15, 0xF2, 0xC000), endpoint(0x82, 2, 512, 0)];
+    let rest = [companion(7, 31, 0), interface(1, 1), other(49, 6), endpoint(0x01, 3, 64, 9), companion(0, 3, 64)];
+    settled([configuration(1), interface(1, 0), images.concat(), rest.concat()].concat())
 }
 
 fn one_endpoint() -> Vec<u8> {
@@ -69,11 +91,11 @@ fn short(ask: Ask) {
 }
 
 /// Every byte made every other, left out, doubled; every end.
-fn changed(sample: &[u8], ask: Ask) {
+fn changed(speed: u8, sample: &[u8], ask: Ask) {
     let mut with = |change: &dyn Fn(&mut Vec<u8>)| {
         let mut bytes = sample.to_vec();
         change(&mut bytes);
-        read(ask, bytes);
+        read_at(ask, speed, bytes);
     };
     for at in 0..sample.len() {
         for byte in 0..=255 {
@@ -89,13 +111,13 @@ fn changed(sample: &[u8], ask: Ask) {
 }
 
 /// Every two bytes made every two that mean something.
-fn pairs(sample: &[u8], ask: Ask) {
+fn pairs(speed: u8, sample: &[u8], ask: Ask) {
     for first in 0..sample.len() {
         for second in first + 1..sample.len() {
             for (one, other) in TELLING.iter().flat_map(|one| TELLING.iter().map(move |other| (*one, *other))) {
                 let mut bytes = sample.to_vec();
                 (bytes[first], bytes[second]) = (one, other);
-                read(ask, bytes);
+                read_at(ask, speed, bytes);
             }
         }
     }
@@ -111,6 +133,32 @@ fn endpoints(ask: Ask) {
     }
 }
 
+/// Every companion's bytes per interval, and every burst with every attributes byte, behind each type of endpoint.
+fn companions(ask: Ask) {
+    for kind in 0..=3 {
+        let of = |companion: Vec<u8>| {
+            settled([configuration(1), interface(0, 0), endpoint(0x81, kind, 64, 4), companion].concat())
+        };
+        for bytes in 0..=0xFFFF {
+            read_at(ask, 4, of(companion(3, 0, bytes)));
+            let [burst, attributes] = u16::to_le_bytes(bytes);
+            read_at(ask, 5, of(companion(burst, attributes, 0x1234)));
+        }
+    }
+}
+
+/// Every speed, with bytes and words of either kind.
+fn speeds(ask: Ask) {
+    for speed in 0..=255 {
+        for bytes in [Vec::new(), one_endpoint(), super_endpoint(), super_camera(), vec![2, COMPANION], vec![1]] {
+            read_at(ask, speed, bytes);
+        }
+        for list in [Vec::new(), sample_list(), super_list(), without_packets(), vec![build::alternate(0, 0)]] {
+            write_at(ask, speed, list);
+        }
+    }
+}
+
 /// So many descriptors behind a configuration.
 fn inside(descriptors: impl Iterator<Item = Vec<u8>>) -> Vec<u8> {
     settled([configuration(1), descriptors.flatten().collect()].concat())
@@ -123,12 +171,21 @@ pub fn limits(ask: Ask) {
         read(ask, inside((0..count).map(|i| interface(i as u8, 0))));
         let endpoints = (0..count).map(|_| endpoint(0x81, 2, 8, 0));
         read(ask, inside([interface(0, 0)].into_iter().chain(endpoints)));
+        let paired = (0..count / 2).flat_map(|_| [endpoint(0x81, 2, 8, 0), companion(0, 0, 0)]);
+        let paired = settled([configuration(1), interface(0, 0), paired.flatten().collect()].concat());
+        (4..=5).for_each(|speed| read_at(ask, speed, paired.clone()));
+        let alone = settled([configuration(1), (0..count).flat_map(|i| interface(i as u8 % 32, 0)).collect()].concat());
+        read_at(ask, 4, alone);
         let mixed = (0..count).map(|i| if i % 9 == 0 { interface(0, 0) } else { endpoint(1, 2, 8, 0) });
         read(ask, inside(mixed));
     }
     for count in 0..=40 {
         read(ask, settled((0..count).flat_map(configuration).collect()));
         read(ask, inside((0..count).map(|i| interface(i, 0))));
+        let with_companion =
+            (0..count).map(|i| [endpoint(1 + i % 15, 2, 8, 0), companion(i % 16, i, i.into())].concat());
+        let with_companion = [interface(0, 0)].into_iter().chain(with_companion);
+        read_at(ask, 5, inside(with_companion));
         let endpoints = (0..count).map(|i| endpoint(1 + i % 15, 2, 8, 0));
         read(ask, inside([interface(0, 0)].into_iter().chain(endpoints)));
         let apart = |i: u8| [configuration(i), interface(i, 0)].concat();
@@ -147,10 +204,10 @@ fn rooms(ask: Ask) {
     let lists = [Vec::new(), sample_list(), vec![build::alternate(0, 0)], without_packets()];
     for room in (0..=300).chain([2303, 2304, 2305, 5000]) {
         for bytes in &bytes {
-            ask(Raw::Read(RawRead { bytes: bytes.clone(), room }));
+            (3..=6).for_each(|speed| ask(Raw::Read(RawRead { speed, bytes: bytes.clone(), room })));
         }
         for list in &lists {
-            ask(Raw::Write(RawWrite { list: list.clone(), room }));
+            (3..=6).for_each(|speed| ask(Raw::Write(RawWrite { speed, list: list.clone(), room })));
         }
     }
 }
@@ -168,25 +225,52 @@ fn sample_list() -> Vec<u32> {
     ]
 }
 
+fn super_list() -> Vec<u32> {
+    build::at_speed(4, &sample_list())
+}
+
 fn without_packets() -> Vec<u32> {
     vec![build::configuration(1), build::alternate(0, 0), build::endpoint(0x81, build::BULK, 512, 0, 0)]
 }
 
-/// Every endpoint word's fields, every bit of a list turned, every word of it left out, doubled, moved; the limits.
+/// Every endpoint word's fields and every companion's, lists edited word by word, the limits.
 fn lists(ask: Ask) {
     let of = |word: u32| vec![build::configuration(1), build::alternate(0, 0), word];
     for field in 0..=0x1FFF_u32 {
-        write(ask, of(2 << 30 | 1 << 25 | 2 << 23 | field << 10));
+        write_at(ask, 3, of(2 << 30 | 1 << 25 | 2 << 23 | field << 10));
     }
     for top in 0..=0xFFFF_u32 {
-        write(ask, of(top << 16 | 1 << 10));
+        write_at(ask, 3, of(top << 16 | 1 << 10));
+        // Every top of a companion behind each type of endpoint.
+        for kind in 1..=3 {
+            let endpoint = build::endpoint(0x81, kind, 64, 1, 4);
+            write_at(ask, 4, [of(endpoint), vec![top << 16 | 0x3400]].concat());
+        }
     }
-    let sample = sample_list();
+    let samples = [(3, sample_list()), (4, super_list()), (5, super_list()), (3, super_list())];
+    for (speed, sample) in &samples {
+        edited(ask, *speed, sample);
+    }
+    for count in 0..=260_u32 {
+        let words =
+            |word: &dyn Fn(u32) -> u32| [build::configuration(1)].into_iter().chain((0..count).map(word)).collect();
+        write_at(ask, 3, words(&|_| build::configuration(9)));
+        write_at(ask, 3, words(&|i| build::alternate(i as u8, 0)));
+        write_at(ask, 3, words(&|i| build::alternate(i as u8 % 32, 0)));
+        let endpoint = build::endpoint(1, build::BULK, 8, 1, 0);
+        let run = words(&|i| if i == 0 { build::alternate(0, 0) } else { endpoint });
+        write_at(ask, 5, build::at_speed(5, &run));
+        write_at(ask, 3, run);
+    }
+}
+
+/// Every bit of a list turned, every word of it left out, doubled, moved.
+fn edited(ask: Ask, speed: u8, sample: &[u32]) {
     for at in 0..sample.len() {
         let mut with = |change: &dyn Fn(&mut Vec<u32>)| {
-            let mut list = sample.clone();
+            let mut list = sample.to_vec();
             change(&mut list);
-            write(ask, list);
+            write_at(ask, speed, list);
         };
         for bit in 0..32 {
             with(&|list| list[at] ^= 1 << bit);
@@ -197,13 +281,5 @@ fn lists(ask: Ask) {
         }
         with(&|list| _ = list.remove(at));
         with(&|list| list.truncate(at));
-    }
-    for count in 0..=260_u32 {
-        let words =
-            |word: &dyn Fn(u32) -> u32| [build::configuration(1)].into_iter().chain((0..count).map(word)).collect();
-        write(ask, words(&|_| build::configuration(9)));
-        write(ask, words(&|i| build::alternate(i as u8, 0)));
-        write(ask, words(&|i| build::alternate(i as u8 % 32, 0)));
-        write(ask, words(&|i| if i == 0 { build::alternate(0, 0) } else { build::endpoint(1, build::BULK, 8, 1, 0) }));
     }
 }

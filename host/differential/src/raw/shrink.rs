@@ -32,7 +32,7 @@ fn smaller_read(read: &RawRead) -> Vec<RawRead> {
     let mut with = |change: &dyn Fn(&mut Vec<u8>)| {
         let mut bytes = read.bytes.clone();
         change(&mut bytes);
-        found.push(RawRead { bytes, room: read.room });
+        found.push(RawRead { bytes, ..read.clone() });
     };
     with(&|bytes| bytes.truncate(bytes.len() / 2));
     for at in places(&read.bytes) {
@@ -51,11 +51,13 @@ fn smaller_write(write: &RawWrite) -> Vec<RawWrite> {
     let mut with = |change: &dyn Fn(&mut Vec<u32>)| {
         let mut list = write.list.clone();
         change(&mut list);
-        found.push(RawWrite { list, room: write.room });
+        found.push(RawWrite { list, ..write.clone() });
     };
     with(&|list| list.truncate(list.len() / 2));
     for at in 0..write.list.len() {
         with(&|list| _ = list.remove(at));
+        // An endpoint with its companion.
+        with(&|list| _ = list.drain(at..(at + 2).min(list.len())));
         for bit in 0..32 {
             with(&|list| list[at] &= !(1 << bit));
         }

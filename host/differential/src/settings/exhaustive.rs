@@ -2,7 +2,7 @@
 
 use scenario::{Conversion, Form, SETTINGS_ROOM};
 
-use crate::build::{alternate, configuration};
+use crate::build::{BULK, alternate, at_speed, configuration, endpoint};
 use crate::outside::{Pair, Tally};
 use crate::settings::form;
 
@@ -14,15 +14,20 @@ pub fn run(pair: &Pair, tally: &mut Tally<Conversion>) {
     limits(&mut ask);
     rooms(&mut ask);
     lists(&mut ask);
+    speeds(&mut ask);
 }
 
 pub type Ask<'a> = &'a mut dyn FnMut(Conversion);
 
 const FORMS: [Form; 2] = [Form::Old, Form::New];
 
-/// Settings of a form, to be brought into the other one.
+/// Settings of a form, to be brought into the other one, by a list at High speed.
 fn convert(ask: Ask, form: Form, settings: Vec<u8>, list: &[u32]) {
-    ask(Conversion { to: form.other(), list: list.to_vec(), settings, room: SETTINGS_ROOM });
+    convert_at(ask, 3, form, settings, list);
+}
+
+fn convert_at(ask: Ask, speed: u8, form: Form, settings: Vec<u8>, list: &[u32]) {
+    ask(Conversion { to: form.other(), speed, list: list.to_vec(), settings, room: SETTINGS_ROOM });
 }
 
 /// Configurations 1, 2, and 1 again; interface 3 stands in the first only, 4 in the second, 5 in the third.
@@ -144,7 +149,7 @@ fn rooms(ask: Ask) {
             (Form::New, vec![1], sample()),
             (Form::New, vec![1, 0], invalid.clone()),
         ] {
-            ask(Conversion { to: form.other(), list, settings, room });
+            ask(Conversion { to: form.other(), speed: 3, list, settings, room });
         }
     }
 }
@@ -165,6 +170,35 @@ fn lists(ask: Ask) {
                 with(&|list| list[at] ^= 1 << bit);
             }
             for to in 0..list.len() {
+                with(&|list| list.swap(at, to));
+                with(&|list| list.insert(to, list[at]));
+            }
+            with(&|list| _ = list.remove(at));
+            with(&|list| list.truncate(at));
+        }
+    }
+}
+
+/// Every speed, with lists that have companions and lists that have not, and at the SuperSpeeds every word of one left out,
+/// doubled, moved, and every bit of it turned.
+fn speeds(ask: Ask) {
+    let mut plain = sample();
+    plain.splice(2..2, [endpoint(0x81, BULK, 512, 1, 0), endpoint(0x02, BULK, 512, 1, 0)]);
+    let (super_list, old) = (at_speed(4, &plain), [0, 1, 3, 0]);
+    for (form, settings) in [(Form::Old, old.to_vec()), (Form::New, form::new(1, &old)), (Form::New, vec![1, 1])] {
+        for speed in 0..=255 {
+            for list in [&plain, &super_list, &sample(), &Vec::new()] {
+                convert_at(ask, speed, form, settings.clone(), list);
+            }
+        }
+        for (speed, at) in [4, 5].into_iter().flat_map(|speed| (0..super_list.len()).map(move |at| (speed, at))) {
+            let mut with = |change: &dyn Fn(&mut Vec<u32>)| {
+                let mut list = super_list.clone();
+                change(&mut list);
+                convert_at(ask, speed, form, settings.clone(), &list);
+            };
+            (0..32).for_each(|bit| with(&|list| list[at] ^= 1 << bit));
+            for to in 0..super_list.len() {
                 with(&|list| list.swap(at, to));
                 with(&|list| list.insert(to, list[at]));
             }

@@ -14,9 +14,9 @@ impl Question for Conversion {
 
     const TITLE: &'static str = "settings of old boards";
     const ANSWERS: &'static [(&'static str, &'static [u8])] =
-        &[(Conversion::TO_NEW, &[0, 3, 4, 23]), (Conversion::TO_OLD, &[0, 3, 4, 23, 24])];
+        &[(Conversion::TO_NEW, &[0, 3, 4, 6, 23, 26]), (Conversion::TO_OLD, &[0, 3, 4, 6, 23, 24, 26])];
     const GROUNDS: &'static [SettingsGround] = &SettingsGround::ALL;
-    const MALFORMED: u8 = 23;
+    const GROUNDS_OF: &'static str = "23";
 
     /// 33 pairs do not rise, or one of them is not found.
     fn fewest(ground: SettingsGround) -> usize {
@@ -57,10 +57,10 @@ impl Question for Conversion {
     }
 }
 
-/// Those that are judged: of settings with enough room and a valid list.
+/// Those that are judged: of settings with enough room, a speed and a valid list.
 fn grounds(conversion: &Conversion) -> BTreeSet<SettingsGround> {
-    let Conversion { to, list, settings, room } = conversion;
-    if *room < SETTINGS_ROOM || list_fault(list) {
+    let Conversion { to, speed, list, settings, room } = conversion;
+    if *room < SETTINGS_ROOM || !(1..=5).contains(speed) || list_fault(list, *speed).is_some() {
         return BTreeSet::new();
     }
     settings_grounds(to.other(), settings, list)
@@ -70,6 +70,7 @@ fn grounds(conversion: &Conversion) -> BTreeSet<SettingsGround> {
 fn is_back(conversion: &Conversion, subject: &dyn Functions, output: &[u8]) -> bool {
     let back = Conversion {
         to: conversion.to.other(),
+        speed: conversion.speed,
         list: conversion.list.clone(),
         settings: output.to_vec(),
         room: SETTINGS_ROOM,
@@ -80,12 +81,14 @@ fn is_back(conversion: &Conversion, subject: &dyn Functions, output: &[u8]) -> b
 
 /// What must be answered, read from 01 and 02 once more, but for the grounds.
 fn refusal(conversion: &Conversion, grounds: &BTreeSet<SettingsGround>) -> u8 {
-    let Conversion { to, list, settings, room } = conversion;
+    let Conversion { to, speed, list, settings, room } = conversion;
     let is_other = || settings.first().zip(list.first()).is_none_or(|(byte, word)| word >> 22 != u32::from(*byte));
     if *room < SETTINGS_ROOM {
         3
-    } else if list_fault(list) {
-        4
+    } else if !(1..=5).contains(speed) {
+        6
+    } else if let Some(number) = list_fault(list, *speed) {
+        number
     } else if !grounds.is_empty() {
         23
     } else if *to == Form::Old && is_other() {

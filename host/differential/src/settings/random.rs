@@ -4,7 +4,7 @@ use scenario::{Conversion, Form, SETTINGS_ROOM};
 
 use crate::build::{BULK, alternate, configuration, endpoint};
 use crate::outside::{Pair, Tally};
-use crate::random::broken_list;
+use crate::random::{broken_list, companied};
 use crate::rng::Rng;
 use crate::settings::form::{self, configurations};
 
@@ -12,12 +12,13 @@ pub fn run(pair: &Pair, tally: &mut Tally<Conversion>, seed: u64, cases: u64) {
     let mut rng = Rng::new(seed);
     for _ in 0..cases {
         let to = rng.of(&[Form::Old, Form::New]);
-        let list = if rng.percent(3) { broken_list(&mut rng) } else { list(&mut rng) };
+        let speed = speed(&mut rng);
+        let list = if rng.percent(3) { broken_list(&mut rng, speed) } else { list(&mut rng, speed) };
         let mut settings = settings(&mut rng, to.other(), &list);
         if rng.percent(50) {
             damage(&mut rng, to.other(), &mut settings);
         }
-        pair.compare(tally, Conversion { to, list, settings, room: room(&mut rng) });
+        pair.compare(tally, Conversion { to, speed, list, settings, room: room(&mut rng) });
     }
 }
 
@@ -30,8 +31,13 @@ fn room(rng: &mut Rng) -> usize {
     }
 }
 
+/// Now and then one that there is not.
+pub fn speed(rng: &mut Rng) -> u8 {
+    if rng.percent(98) { 1 + rng.below(5) as u8 } else { rng.of(&[0, 6, 7, 255]) }
+}
+
 /// Configurations of values and alternates that repeat.
-fn list(rng: &mut Rng) -> Vec<u32> {
+fn list(rng: &mut Rng, speed: u8) -> Vec<u32> {
     let mut list = Vec::new();
     let many = rng.percent(5);
     for _ in 0..rng.of(&[0, 1, 1, 2, 2, 2, 3, 8]) {
@@ -45,7 +51,7 @@ fn list(rng: &mut Rng) -> Vec<u32> {
         }
     }
     list.truncate(256);
-    list
+    companied(rng, speed, list)
 }
 
 /// Settings of a configuration of the list, now and then of one that it has not.

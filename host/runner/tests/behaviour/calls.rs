@@ -71,11 +71,13 @@ fn spoil(steps: &mut [Step], number: u64) -> bool {
         (_, 1) => last.ctx.truncate(1055),
         (_, 2) => last.routes_len = Some(table.len() - 1),
         (_, 3) => last.log_len = 63,
-        (Call::BringUp(args), 4) => args.list.push(0xC000_0000),
+        (Call::BringUp(args), 4) => args.list.push(0x4000_0001),
         (Call::BringUp(args), 5) => args.has_parent = true,
         (Call::BringUp(args), 6) => args.speed = 6,
         (Call::BringUp(args), 10) => args.rings.push(8),
         (Call::BringUp(args), 11) => args.slot = 9,
+        // The list's endpoints have no companions.
+        (Call::BringUp(args), 26) => args.speed = args.speed.max(4),
         (Call::BringUp(args), 17) => last.routes = Some(vec![(32 * usize::from(args.slot) + 1, 0x10)]),
         (Call::HubUpdate(args), 7) => args.think = 1,
         (Call::Claim(args) | Call::Ask(args), 8) => args.interface = 9,
@@ -104,7 +106,7 @@ fn the_order_of_checks() {
         let order: Vec<u64> = row[1].split(", ").map(number).collect();
         let mut rising = order.clone();
         rising.sort();
-        assert_eq!(rising, (1..=25).filter(|n| spoil(&mut calls(&row[0]), *n)).collect::<Vec<_>>(), "{row:?}");
+        assert_eq!(rising, (1..=26).filter(|n| spoil(&mut calls(&row[0]), *n)).collect::<Vec<_>>(), "{row:?}");
         for (at, first) in order.iter().enumerate() {
             for later in &order[at..] {
                 let mut steps = calls(&row[0]);

@@ -19,6 +19,18 @@ pub fn list() -> Vec<u32> {
     page::table("words").iter().flat_map(|row| page::words(&row[0])).map(|word| word as u32).collect()
 }
 
+/// A list as it is at a speed: at 4 and 5 with a companion of zeros behind each endpoint word that has none.
+pub fn at_speed(speed: u8, list: &[u32]) -> Vec<u32> {
+    let mut words = Vec::new();
+    for (at, word) in list.iter().enumerate() {
+        words.push(*word);
+        let has_one = list.get(at + 1).is_some_and(|next| next >> 30 == 3);
+        words.extend((matches!(speed, 4 | 5) && word >> 30 == 2 && !has_one).then_some(3 << 30));
+    }
+    words
+}
+
+/// Of a list, which gets its companions.
 pub fn bring_up(speed: u8, list: &[u32]) -> BringUp {
     BringUp {
         slot: SLOT as u8,
@@ -29,7 +41,7 @@ pub fn bring_up(speed: u8, list: &[u32]) -> BringUp {
         rings: RINGS.to_vec(),
         header: 8,
         packet: if speed > 3 { 9 } else { 64 },
-        list: list.to_vec(),
+        list: at_speed(speed, list),
         ..BringUp::default()
     }
 }

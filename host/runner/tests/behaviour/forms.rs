@@ -14,7 +14,7 @@ fn some(of: &str, field: &str, least: u64) -> Vec<u64> {
 
 #[test]
 fn pictures_are_whole_words() {
-    for name in ["configuration", "alternate", "endpoint", "log"] {
+    for name in ["configuration", "alternate", "endpoint", "companion", "log"] {
         assert_eq!(picture(name).bits(), 32, "{name}");
     }
     assert_eq!(picture("hub").bits(), 64);
@@ -22,7 +22,7 @@ fn pictures_are_whole_words() {
 
 #[test]
 fn example_words_have_the_fields_beside_them() {
-    for row in table("words") {
+    for row in table("words").into_iter().chain(table("super words")) {
         let (kind, fields) = row[1].split_once(": ").expect("a kind");
         assert_eq!(words(&row[0]), [picture(kind).pack(&pairs(fields))], "{row:?}");
     }
@@ -73,12 +73,32 @@ fn the_library_reads_endpoints_so() {
     }
 }
 
+/// A companion's fields come back in the block of the context, of an isochronous endpoint each of them.
+#[test]
+fn the_library_reads_companions_so() {
+    for (i, bytes) in some("companion", "bytes", 0).into_iter().enumerate() {
+        let (burst, mult) = (some("companion", "burst", 0)[i], [0, 2, 1, 2][i]);
+        let companion = picture("companion").of(&[("burst", burst), ("mult", mult), ("bytes", bytes)]) as u32;
+        for (speed, dci) in [(4, 3), (5, 30)] {
+            let list = listed(&[vec![endpoint(address(dci), [1, 1024, 1, 1]), companion]], &[]);
+            let left = run(&[step(Call::BringUp(bring_up(speed, &list))), step(claim(0, 0))]);
+            let of = |name: &str| read(&left.ctx, &format!("Dci {dci}"), name);
+            assert_eq!((left.answer.number, of("max burst size"), of("mult")), (0, burst, mult));
+            assert_eq!((of("average TRB length"), of("max ESIT payload"), of("high ESIT payload")), (bytes, bytes, 0));
+        }
+    }
+    assert_eq!((picture("companion").most("mult"), picture("companion").most("burst")), (3, 15));
+}
+
+/// The first table is of speeds 1 to 3, the second of 4 and 5.
 #[test]
 fn lists() {
-    for row in table("lists") {
-        let list: Vec<u32> = words(&row[0]).into_iter().map(|word| word as u32).collect();
-        let left = run(&[step(Call::BringUp(bring_up(3, &list)))]);
-        assert_eq!(u64::from(left.answer.number), number(&row[1]), "{row:?}");
+    for (mark, speeds) in [("lists", 1..=3), ("super lists", 4..=5)] {
+        for (row, speed) in table(mark).iter().flat_map(|row| speeds.clone().map(move |speed| (row, speed))) {
+            let list: Vec<u32> = words(&row[0]).into_iter().map(|word| word as u32).collect();
+            let left = run(&[step(Call::BringUp(BringUp { list, ..bring_up(speed, &[]) }))]);
+            assert_eq!(u64::from(left.answer.number), number(&row[1]), "{row:?}, speed {speed}");
+        }
     }
 }
 

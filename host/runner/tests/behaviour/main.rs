@@ -9,18 +9,23 @@ mod forms;
 mod lists;
 mod page;
 mod picture;
+mod raw;
 mod records;
 mod settings;
 mod values;
 mod why;
 
 /// What the modules read, by its mark.
-const CHECKED: [&str; 41] = [
+const CHECKED: [&str; 46] = [
     "picture configuration",
     "picture alternate",
     "picture endpoint",
+    "picture companion",
     "words",
+    "super words",
     "lists",
+    "super lists",
+    "raw",
     "picture settings",
     "settings",
     "picture hub",
@@ -38,6 +43,7 @@ const CHECKED: [&str; 41] = [
     "speeds",
     "intervals",
     "bursts",
+    "companions",
     "entries",
     "think",
     "writes",

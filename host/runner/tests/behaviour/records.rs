@@ -88,6 +88,7 @@ fn sound_records() {
             let next = changed(change);
             match change.split([' ', '=']).next() {
                 Some("quarantined") => record.quarantined = next.quarantined,
+                Some("reclist") => record.list = next.list,
                 _ => record = next,
             }
         }

@@ -8,7 +8,8 @@ use crate::picture::picture;
 
 /// The answer, and what was written; what is past it must be as it was lent.
 fn converted(to: Form, settings: &[u8], list: &[u32], room: usize) -> (u8, Vec<u8>) {
-    let conversion = Conversion { list: list.to_vec(), settings: settings.to_vec(), room, ..Conversion::to(to) };
+    let (list, settings) = (list.to_vec(), settings.to_vec());
+    let conversion = Conversion { speed: 3, list, settings, room, ..Conversion::to(to) };
     let (reply, bytes) = conversion.ask(&Library);
     assert_eq!(bytes[reply.count..], filled_bytes(room)[reply.count..]);
     (reply.number, bytes[..reply.count].to_vec())

@@ -3,7 +3,7 @@
 use scenario::*;
 
 use crate::device::*;
-use crate::page::{number, table};
+use crate::page::{number, table, words};
 
 /// A number, or `answer N`.
 fn matches(cell: &str, answer: u8, value: u64) -> bool {
@@ -37,9 +37,13 @@ fn packet_sizes() {
     }
 }
 
-/// The context of a first claim of Dci 3 with one endpoint word.
+/// The context of a first claim of Dci 3 with one endpoint word, whose companion, at speeds 4 and 5, is zeros.
 fn added(speed: u8, of: [u64; 4], fill: u8) -> Vec<u8> {
-    let list = listed(&[vec![endpoint(0x81, of)]], &[]);
+    added_words(speed, &[endpoint(0x81, of)], fill)
+}
+
+fn added_words(speed: u8, words: &[u32], fill: u8) -> Vec<u8> {
+    let list = listed(&[words.to_vec()], &[]);
     let claim = Step { ctx: vec![fill; 1056], ..step(claim(0, 0)) };
     let left = run(&[step(Call::BringUp(bring_up(speed, &list))), claim]);
     assert_eq!(left.answer.number, 0);
@@ -74,6 +78,23 @@ fn bursts() {
         for (name, cell) in fields.iter().zip(&row[4..]) {
             let of = [&zeros, &ones].map(|ctx| read(ctx, "Dci 3", name));
             assert!(if cell == "kept" { of[0] == 0 && of[1] > 0 } else { of == [number(cell); 2] }, "{row:?}, {name}");
+        }
+    }
+}
+
+#[test]
+fn companions() {
+    let fields = ["max burst size", "mult", "max ESIT payload", "high ESIT payload", "average TRB length"];
+    for row in table("companions") {
+        let companion = words(&row[1])[0] as u32;
+        for (speed, packets) in [(4, 0), (4, 3), (5, 1)] {
+            let pair = [endpoint(0x81, [kind(&row[0]), 1024, packets, 1]), companion];
+            let [zeros, ones] = [0, 255].map(|fill| added_words(speed, &pair, fill));
+            for (name, cell) in fields.iter().zip(&row[2..]) {
+                let of = [&zeros, &ones].map(|ctx| read(ctx, "Dci 3", name));
+                let holds = if cell == "kept" { of[0] == 0 && of[1] > 0 } else { of == [number(cell); 2] };
+                assert!(holds, "{row:?}, {name}, speed {speed}");
+            }
         }
     }
 }
@@ -116,11 +137,14 @@ fn think_times() {
 /// The contexts of a step, where the lent one was zeros and where it was ones: what is the same in both is written.
 fn filled(step_name: &str) -> Option<[Vec<u8>; 2]> {
     let (name, detail) = step_name.split_once(", ").unwrap_or((step_name, ""));
-    let of = |kind: u64| [0, 255].map(|fill| added(3, [kind, 64, 1, 4], fill));
+    let of = |speed: u8, kind: u64| [0, 255].map(|fill| added(speed, [kind, 64, 1, 4], fill));
     Some(match (name, detail) {
-        ("Configure", "") | ("Configure", "added bulk") => of(2),
-        ("Configure", "added interrupt") => of(3),
-        ("Configure", "added isochronous") => of(1),
+        ("Configure", "") | ("Configure", "added bulk") => of(3, 2),
+        ("Configure", "added interrupt") => of(3, 3),
+        ("Configure", "added isochronous") => of(3, 1),
+        ("Configure at speed 4", "added bulk") => of(4, 2),
+        ("Configure at speed 4", "added interrupt") => of(4, 3),
+        ("Configure at speed 5", "added isochronous") => of(5, 1),
         ("Configure", "dropped") => [0, 255].map(|fill| {
             let list = listed(&[vec![endpoint(0x81, [2, 512, 0, 0])]], &[]);
             let release = Step { ctx: vec![fill; 1056], ..step(Call::Release { interface: 0 }) };

@@ -50,6 +50,7 @@ pub struct World {
 /// What a device sends when it is read.
 #[derive(Clone)]
 pub struct Device {
+    pub speed: u8,
     pub header: Vec<u8>,
     pub value: Vec<u8>,
     pub configurations: Vec<Vec<u32>>,
@@ -80,12 +81,22 @@ fn endpoint(rng: &mut Rng) -> u32 {
     2 << 30 | input << 29 | number << 25 | kind << 23 | size << 12 | packets << 10 | interval << 2
 }
 
-fn configuration(rng: &mut Rng, value: u32) -> Vec<u32> {
+/// An endpoint word, at speeds 4 and 5 with its companion behind it.
+fn endpoint_words(rng: &mut Rng, speed: u8) -> Vec<u32> {
+    let word = endpoint(rng);
+    if !matches!(speed, 4 | 5) {
+        return vec![word];
+    }
+    let mult = if word >> 23 & 3 == 1 { rng.below(3) as u32 } else { 0 };
+    vec![word, 3 << 30 | (rng.below(16) as u32) << 26 | mult << 24 | (rng.below(1 << 16) as u32) << 8]
+}
+
+fn configuration(rng: &mut Rng, speed: u8, value: u32) -> Vec<u32> {
     let mut words = vec![value << 22];
     for interface in 0..rng.below(4) as u32 {
         for alternate in 0..1 + rng.below(3) as u32 {
             words.push(1 << 30 | interface << 22 | alternate << 14);
-            words.extend((0..rng.below(4)).map(|_| endpoint(rng)));
+            (0..rng.below(4)).for_each(|_| words.extend(endpoint_words(rng, speed)));
         }
     }
     words
@@ -93,28 +104,33 @@ fn configuration(rng: &mut Rng, value: u32) -> Vec<u32> {
 
 /// A configuration that cannot be used, now or together with the others.
 fn spoilt(rng: &mut Rng, mut words: Vec<u32>) -> Vec<u32> {
-    match rng.below(6) {
+    match rng.below(7) {
         0 => words.clear(),
         1 => words.push(3 << 30),
-        2 => words.insert(1, endpoint(rng)),
-        3 => words.push(7 << 22),
-        4 => words.extend((0..250).map(|i| 1 << 30 | i << 14)),
+        2 => match words.iter().position(|word| word >> 30 == 3) {
+            Some(at) => drop(words.remove(at)),
+            None => words.insert(1, 3 << 30),
+        },
+        3 => words.insert(1, endpoint(rng)),
+        4 => words.push(7 << 22),
+        5 => words.extend((0..250).map(|i| 1 << 30 | i << 14)),
         _ => drop(words.remove(0)),
     }
     words
 }
 
-pub fn device(rng: &mut Rng) -> Device {
+/// At a speed.
+pub fn device(rng: &mut Rng, speed: u8) -> Device {
     let header_len = if rng.once_in(20) { rng.below(20) } else { 8 };
     let header = (0..header_len).map(|_| rng.of(&[0, 8, 9, 64])).collect();
     let value = if rng.once_in(40) { vec![] } else { vec![rng.below(3) as u8] };
     let count = if rng.once_in(20) { rng.below(256) } else { rng.of(&[0, 1, 1, 2, 3, 8]) };
-    let mut configurations: Vec<_> = (0..count).map(|i| configuration(rng, 1 + i as u32)).collect();
+    let mut configurations: Vec<_> = (0..count).map(|i| configuration(rng, speed, 1 + i as u32)).collect();
     if count > 0 && rng.once_in(6) {
         let i = rng.below(count);
         configurations[i] = spoilt(rng, std::mem::take(&mut configurations[i]));
     }
-    Device { header, value, configurations }
+    Device { speed, header, value, configurations }
 }
 
 fn ring(rng: &mut Rng) -> u64 {
@@ -140,12 +156,13 @@ pub fn world(rng: &mut Rng) -> World {
         return world;
     }
     let rings = rings(rng);
-    let words = configuration(rng, 1);
-    let list: Vec<u32> = words.into_iter().chain(configuration(rng, 2)).collect();
+    let speed = 1 + rng.below(5) as u8;
+    let words = configuration(rng, speed, 1);
+    let list: Vec<u32> = words.into_iter().chain(configuration(rng, speed, 2)).collect();
     let args = BringUp {
         slot: SlotId(1),
         n: N,
-        speed: 1 + rng.below(5) as u8,
+        speed,
         parent: None,
         port: 1,
         root_port: 1,

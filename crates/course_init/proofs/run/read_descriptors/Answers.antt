@@ -3,7 +3,7 @@ use Prim.Native.Nat.{◌-◌}
 use native.Mathlib.Nat.{sub-zero}
 use native.Mathlib.Omega.{arith}
 use borrow.Author.Rules.{rules}
-use Rattle.descriptor_list.proofs.Laws.{valid_configurations}
+use Rattle.descriptor_list.proofs.Companions.{listed}
 use Rattle.course_init.specs.Reading.{bring_up_of}
 use Rattle.course_init.specs.Init.{bring_up_configuration, bring_up_device}
 use Rattle.course_init.specs.Parts.{or_ended, bring_up_left}
@@ -14,7 +14,7 @@ pub returns-in_default : goal.returns-in_default
 returns-in_default c = record {
   all_read = λ n e. absurd cc;
   log_value = λ rings hubs ctx routes spacing.
-      stopped_before _ _ _ _ _ _ c.send-packet.ensures ctx routes _ _ _ (unless_done _ c.in_default.not-Done) _ c.requires.list_value
+      stopped_before _ _ _ _ _ _ c.send-packet.ensures ctx routes _ _ _ (unless_done _ c.in_default.not-Done) _ (listed _ _ c.requires.list_value).begins
       c.before_reading.ensures;
 }
 
@@ -25,7 +25,7 @@ returns-in_default-value c = record {
   log_value = λ rings hubs ctx routes spacing.
       done _ _ _ _ _ _ c.send-packet.ensures _ ctx routes _ c.in-Done.is
       ∙ stopped_before _ _ _ _ _ _ c.send-value.ensures ctx routes _ _ _ (unless_done _ c.in_default-value.not-Done) _
-      c.requires.list_value c.before_reading-in_default-value.ensures;
+      (listed _ _ c.requires.list_value).begins c.before_reading-in_default-value.ensures;
 }
 
 pub returns-in_default-device : goal.returns-in_default-device
@@ -42,7 +42,7 @@ returns-in_default-device c = record {
 pub loop-i-init : goal.loop-i-init
 loop-i-init c = (
   search rules,
-  omega (arith, valid_configurations _ c.requires.list_value, c.count_configurations-all.ensures),
+  omega (arith, (listed _ _ c.requires.list_value).few, c.count_configurations-all.ensures),
   search rules,
   λ rings hubs ctx routes spacing. rw sub-zero,
 )

@@ -18,6 +18,7 @@ pub run_set_configuration-e-requires : goal.run_set_configuration-e-requires
 run_set_configuration-e-requires c =
     record {
       room = first_room _ _ _ c.requires.spaced refl;
+      joinable = c.requires.joinable;
       count_in_bounds = omega (arith, c.requires.all_read.1.0, c.requires.all_read.1.1);
     }
 

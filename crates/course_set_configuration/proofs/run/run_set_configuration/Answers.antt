@@ -11,6 +11,7 @@ configure-requires c =
     let e = stopped_count _ _ _ _ _ _ _ (c.stop_endpoints-stop.ensures []) c.in-Done.is in
     record {
       room = c.requires.room;
+      joinable = c.requires.joinable;
       count_in_bounds = omega (arith, e, c.stop_endpoints-stop.auto.log, c.requires.count_in_bounds);
     }
 

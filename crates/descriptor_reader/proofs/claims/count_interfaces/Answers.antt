@@ -16,17 +16,17 @@ loop-d-init c =
     rw c.into_iter-d-iterator.ensures.into_iter_gives (zero-add _ ∙ unmarked_all _ refl n)
 
 pub returns-in-Configuration : goal.returns-in-Configuration
-returns-in-Configuration c = omega (arith, none_left c.loop-d.marks _ (numbers_stop _ _ _ c.in-Some.ensures.steps _ c.kind.ensures (rw c.in-Configuration.is)))
+returns-in-Configuration c = omega (arith, none_left c.loop-d.marks _ (numbers_stop _ _ _ c.in-Some.ensures.steps.cut_off _ c.kind.ensures (rw c.in-Configuration.is)))
 
 pub loop-d-preserved-in-Interface : goal.loop-d-preserved-in-Interface
 loop-d-preserved-in-Interface c =
-    met _ _ _ _ c.loop-d.invariant _ _ (numbers_interface _ _ _ c.in-Some.ensures.steps _ c.kind.ensures (rw c.in-Interface.is) (rw c.in-Interface.is)) refl
+    met _ _ _ _ c.loop-d.invariant _ _ (numbers_interface _ _ _ c.in-Some.ensures.steps.cut_off _ c.kind.ensures (rw c.in-Interface.is) (rw c.in-Interface.is)) refl
     c.mark.ensures
 
 pub loop-d-preserved : goal.loop-d-preserved
 loop-d-preserved c =
     met_other _ _ _ _ c.loop-d.invariant
-    (numbers_other _ _ _ c.in-Some.ensures.steps _ c.kind.ensures (not_configuration _ c.in_default.not-Configuration) (not_interface _ c.in_default.not-Interface))
+    (numbers_other _ _ _ c.in-Some.ensures.steps.cut_off _ c.kind.ensures (not_configuration _ c.in_default.not-Configuration) (not_interface _ c.in_default.not-Interface))
 
 pub returns : goal.returns
 returns c = omega (arith, none_left c.loop-d.marks _ (numbers_end _ c.in-None.ensures.steps))

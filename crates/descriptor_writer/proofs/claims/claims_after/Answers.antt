@@ -1,30 +1,38 @@
 use mathlib.Core.Path.{refl}
 use native.Mathlib.Omega.{arith}
-use Rattle.descriptor.proofs.Kind.{kind_true, kind_false}
-use Rattle.descriptor_writer.proofs.Claiming.{claiming_start, claimed_end, claimed_configuration, claiming_interface, claiming_endpoint}
+use Rattle.descriptor.specs.declared.WordKind.TheVariants.{Configuration, Alternate, Endpoint}
+use Rattle.descriptor.proofs.Kind.{kind_in, kind_none}
+use Rattle.descriptor_writer.proofs.Claiming.{claiming_start, claimed_end, claimed_configuration, claiming_interface, claiming_endpoint, claiming_companion, companion_left}
 use Rattle.descriptor_writer.proofs.claims.claims_after.Goals as goal
-use Rattle.descriptor_writer.proofs.claims.claims_after.Goals.{then-eq-2, else-eq-2}
+use Rattle.descriptor_writer.proofs.claims.claims_after.Goals.{in-Some-Alternate, in-Some-Endpoint, in-None}
 
 pub loop-w-init : goal.loop-w-init
 loop-w-init c = claiming_start c.args.after.now _ refl refl
 
-pub returns-then-eq : goal.returns-then-eq
-returns-then-eq c =
-    claimed_configuration _ _ _ _ c.loop-w.invariant c.loop-w-test.true (kind_true _ _ c.word_kind-kind.ensures _ _ c.eq.ensures c.if-eq.true)
+pub returns-in-Some-Configuration : goal.returns-in-Some-Configuration
+returns-in-Some-Configuration c =
+    claimed_configuration _ _ _ _ c.loop-w.invariant c.loop-w-test.true
+    (kind_in _ _ c.word_kind.ensures c.in-Some-Configuration.is c.in-Some-Configuration.field-0-is)
 
 pub loop-w-preserved : goal.loop-w-preserved
 loop-w-preserved c =
-    elim c.if-eq-2.branch [
-      | then-eq-2 w ↦
+    elim c.match-word_kind.branch [
+      | in-Some-Alternate w ↦
           rw (w.marks-is, w.bytes-is)
           (claiming_interface _ _ _ _ c.loop-w.invariant c.loop-w-test.true
-          (kind_true _ _ c.word_kind-kind.ensures _ _ c.eq-in-loop-w.ensures w.if-eq-2.true)
+          (kind_in _ _ c.word_kind.ensures w.in-Some-Alternate.is w.in-Some-Alternate.field-0-is)
           _ w.interface_number.ensures _ w.mark.ensures)
-      | else-eq-2 w ↦
+      | in-Some-Endpoint w ↦
           rw (w.marks-is, w.bytes-is)
           (claiming_endpoint _ _ _ _ c.loop-w.invariant c.loop-w-test.true
-          (kind_false _ _ c.word_kind-kind.ensures _ _ c.eq.ensures c.if-eq.false)
-          (kind_false _ _ c.word_kind-kind.ensures _ _ c.eq-in-loop-w.ensures w.if-eq-2.false))
+          (kind_in _ _ c.word_kind.ensures w.in-Some-Endpoint.is w.in-Some-Endpoint.field-0-is))
+      | in-None w ↦
+          rw (w.marks-is, w.bytes-is)
+          (claiming_companion _ _ _ _ c.loop-w.invariant c.loop-w-test.true
+          (companion_left _
+          (kind_none _ _ c.word_kind.ensures w.in-None.is Configuration)
+          (kind_none _ _ c.word_kind.ensures w.in-None.is Alternate)
+          (kind_none _ _ c.word_kind.ensures w.in-None.is Endpoint)))
     ]
 
 pub returns : goal.returns

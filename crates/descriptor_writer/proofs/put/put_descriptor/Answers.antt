@@ -1,22 +1,16 @@
-use native.Mathlib.Omega.{arith}
-use mathlib.Core.Bool.{true, false}
-use mathlib.Core.Path.{◌≡◌, refl, sym, ◌∙◌}
-use Rattle.descriptor.proofs.Kind.{kind_in, none_refused}
-use Rattle.descriptor_writer.proofs.Placed.{first_ok, put_configuration, put_interface, put_endpoint, run_small, packets_some, packet_small}
+use mathlib.Core.Path.{refl}
+use Rattle.descriptor.specs.declared.WordKind.TheVariants.{Configuration, Alternate, Endpoint}
+use Rattle.descriptor.proofs.Kind.{kind_in, kind_none}
+use Rattle.descriptor_writer.proofs.Claiming.{companion_left}
+use Rattle.descriptor_writer.proofs.Placed.{put_configuration, put_interface, put_endpoint, put_companion, endpoints_small, packets_some}
 use Rattle.descriptor_writer.proofs.put.put_descriptor.Goals as goal
 
 pub interface_descriptor-d-requires : goal.interface_descriptor-d-requires
-interface_descriptor-d-requires c = run_small _ _ _ _ c.requires c.endpoint_run-endpoints.ensures
+interface_descriptor-d-requires c = endpoints_small _ _ _ _ c.requires c.count_endpoints.ensures.1
 
-pub overflow_sub-packet : goal.overflow_sub-packet
-overflow_sub-packet c =
-    packets_some _ _ _ c.requires (kind_in _ _ c.word_kind.ensures c.in-Some-Endpoint.is c.in-Some-Endpoint.field-0-is) _ c.endpoint_descriptor-e.ensures
-
-pub overflow_mul-packet : goal.overflow_mul-packet
-overflow_mul-packet c = omega (arith, (packet_small _ _ c.endpoint_descriptor-e.ensures).1)
-
-pub overflow_add-packet : goal.overflow_add-packet
-overflow_add-packet c = omega (arith, (packet_small _ _ c.endpoint_descriptor-e.ensures).0, (packet_small _ _ c.endpoint_descriptor-e.ensures).1)
+pub endpoint_of-requires : goal.endpoint_of-requires
+endpoint_of-requires c =
+    packets_some _ _ _ c.requires (kind_in _ _ c.word_kind.ensures c.in-Some-Endpoint.is c.in-Some-Endpoint.field-0-is)
 
 pub returns-in-Some-Configuration : goal.returns-in-Some-Configuration
 returns-in-Some-Configuration c =
@@ -30,15 +24,17 @@ returns-in-Some-Alternate c =
     rw c.copy_from_slice-in-Some-Alternate.ensures.after
     (put_interface _ _ _ c.requires _ _ refl
     (kind_in _ _ c.word_kind.ensures c.in-Some-Alternate.is c.in-Some-Alternate.field-0-is)
-    _ _ _ c.endpoint_run-endpoints.ensures c.interface_number-interface.ensures c.alternate_setting-alternate.ensures c.interface_descriptor-d.ensures)
+    _ _ _ c.count_endpoints.ensures.0 c.interface_number-interface.ensures c.alternate_setting-alternate.ensures c.interface_descriptor-d.ensures)
 
 pub returns-in-Some-Endpoint : goal.returns-in-Some-Endpoint
 returns-in-Some-Endpoint c =
     rw c.copy_from_slice-in-Some-Endpoint.ensures.after
     (put_endpoint _ _ _ c.requires _ _ refl
     (kind_in _ _ c.word_kind.ensures c.in-Some-Endpoint.is c.in-Some-Endpoint.field-0-is)
-    _ c.endpoint_descriptor-e.ensures c.endpoint_bytes-d.ensures)
+    c.endpoint_of.ensures)
 
-pub unreachable-requires : goal.unreachable-requires
-unreachable-requires c =
-    let e : true ≡ false = sym (first_ok _ _ c.requires.listed) ∙ none_refused _ _ c.word_kind.ensures c.in-None.is in cc
+pub returns-in-None : goal.returns-in-None
+returns-in-None c =
+    let other = kind_none _ _ c.word_kind.ensures c.in-None.is in
+    rw c.copy_from_slice-in-None.ensures.after
+    (put_companion _ _ _ c.requires _ _ refl (companion_left _ (other Configuration) (other Alternate) (other Endpoint)) c.companion_of.ensures)

@@ -1,7 +1,9 @@
 use mathlib.Core.Path.{◌≡◌}
 use native.Mathlib.Omega.{arith}
 use lib.ListN.{length}
+use Rattle.device.specs.Device.{list_of}
 use Rattle.device.specs.Ask.{ask_check}
+use Rattle.device.proofs.Facts.{list_joinable}
 use Rattle.device.proofs.Laws.{record_passed, returned}
 use Rattle.device.proofs.ClaimLaws.{claim_refused, claim_checked, free_many}
 use borrow.Author.Rules.{rules}
@@ -33,8 +35,12 @@ overflow_sub-free-2 c =
 pub list-requires : goal.list-requires
 list-requires c = (record_passed _ _ _ _ _ c.record_check.ensures c.in_ok-record_check.was).facts.counts.list
 
+pub draw_check-requires : goal.draw_check-requires
+draw_check-requires c =
+    rw c.list.ensures (list_joinable c.args.d (record_passed _ _ _ _ _ c.record_check.ensures c.in_ok-record_check.was).is_sound).short
+
 pub returns : goal.returns
-unfolding ask_check
+unfolding ask_check list_of
 returns c =
     let p = record_passed _ _ _ _ _ c.record_check.ensures c.in_ok-record_check.was in
     let eps : length c.args.d.eps ≡ 30 = search rules in

@@ -7,6 +7,7 @@ use Rattle.course_steps.proofs.Laws.{room_as}
 use Rattle.device.specs.Device.{list_of, endpoint_map_in}
 use Rattle.device.specs.SetConfiguration.{set_configuration}
 use Rattle.device.proofs.Laws.{record_passed}
+use Rattle.device.proofs.Facts.{list_joinable}
 use Rattle.device.proofs.Exits.{refused_left}
 use Rattle.device.proofs.SetConfigurationLaws.{set_left}
 use Rattle.device.proofs.record.Device.set_configuration.Goals as goal
@@ -32,6 +33,7 @@ run_set_configuration-e-requires c =
     let p = record_passed _ _ _ _ _ c.record_check.ensures c.in_default.is in
     record {
       room = room_as c.args.self.spacing _ c.queues_of.result c.queues_of.result _ _ p.spaced q q;
+      joinable = rw c.list.ensures (list_joinable c.args.self p.is_sound);
       count_in_bounds = omega (arith, q.room, p.room);
     }
 

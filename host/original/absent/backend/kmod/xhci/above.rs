@@ -39,7 +39,9 @@ fn outcomes(outcomes: &[u8], rings: &[u64]) {
 
 /// The device of src/device.rs with interface 0 claimed at alternate 0, its session, and the routes below them.
 fn claimed() -> (crate::device::Device, crate::device::InterfaceSession, TransferResultHandler) {
-    let inner = device(&record(false), words::configurations(&LIST).expect("descriptors")).unwrap_or_else(|_| panic!());
+    let record = record(false);
+    let descriptors = words::configurations(&LIST, record.speed).expect("descriptors");
+    let inner = device(&record, descriptors).unwrap_or_else(|_| panic!());
     let handler = inner.transfer_result_handler.clone();
     handler.load_routes(&routes(0));
     let mut above = crate::device::Device::from(inner);

@@ -183,7 +183,7 @@ fn bring_up(args: &BringUp, buffers: &mut Buffers) -> Outcome {
         rings: vec![ring],
         header: (args.header as usize, args.packet),
         configuration_value: args.config,
-        configurations: words::configurations(&args.list).ok_or(Cannot::NoSuchInput)?,
+        configurations: words::configurations(&args.list, args.speed).ok_or(Cannot::NoSuchInput)?,
         ..Script::default()
     });
     let (number, code) = answer(proper(|| poll(device.init(&mut host, &info))));
@@ -265,9 +265,10 @@ fn device(record: &Record, config_desc: Vec<ConfigurationDescriptor>) -> core::r
     })
 }
 
-/// The last record list seen, with its descriptors.
+/// The last record list seen and its speed, with its descriptors.
 #[derive(Default)]
 pub struct Original {
+    speed: u8,
     list: Vec<u32>,
     configurations: Vec<ConfigurationDescriptor>,
 }
@@ -278,10 +279,12 @@ impl Original {
         Self::default()
     }
 
-    fn configurations(&mut self, list: &[u32]) -> core::result::Result<Vec<ConfigurationDescriptor>, Cannot> {
-        if self.list != list {
-            self.configurations = words::configurations(list).ok_or(Cannot::NoSuchInput)?;
-            self.list = list.to_vec();
+    fn configurations(&mut self, record: &Record) -> core::result::Result<Vec<ConfigurationDescriptor>, Cannot> {
+        let Record { speed, list, .. } = record;
+        if self.list != *list || self.speed != *speed {
+            self.configurations = words::configurations(list, *speed).ok_or(Cannot::NoSuchInput)?;
+            self.list.clone_from(list);
+            self.speed = *speed;
         }
         Ok(core::mem::take(&mut self.configurations))
     }
@@ -292,7 +295,7 @@ impl Original {
         if !lengths_fit(buffers, record.spacing, record.n.into()) {
             return Err(Cannot::NoSuchInput);
         }
-        let configurations = self.configurations(&record.list)?;
+        let configurations = self.configurations(record)?;
         self.list.clear();
         let mut device = device(record, configurations)?;
         load(&mut device, buffers);
