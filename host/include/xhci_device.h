@@ -214,7 +214,8 @@ struct xhci_device_answered xhci_device_bring_up(
     uint8_t slot, size_t n, uint8_t speed, uint8_t has_parent, size_t parent, uint8_t port,
     uint8_t root_port, size_t header, uint8_t packet, uint8_t value);
 
-/* The claim of an interface's alternate setting. Each of its endpoint words draws a ring, the lowest free one first. */
+/* The claim of an interface's alternate setting. Each of its endpoint words draws a ring, the lowest free one first.
+ * Answered with 14, or with 15 once a Configure was sent, it leaves the rings of its endpoints quarantined. */
 struct xhci_device_answered xhci_device_claim(
     uint64_t *image, size_t image_len, uint8_t *ctx, size_t ctx_len, uint64_t *routes, size_t routes_len,
     uint32_t *log, size_t log_len, const uint8_t *outcomes, size_t outcomes_len,

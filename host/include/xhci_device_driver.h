@@ -13,7 +13,7 @@
  *     ... call.answered, and of a claim or a commit call.reason
  *
  * After each step image, context and routes are as the call leaves them when it is cut there: to give a pending
- * call up is to cut it. From its begin to its end nobody else may write image, context or the slot's own 32
+ * call up is to cut it, and the rings that a Configure may have begun are in quarantine then. From its begin to its end nobody else may write image, context or the slot's own 32
  * routes; other slots' calls may run between two steps, over the same routes. While a step runs, nobody may
  * read these routes: the slot's own are put back first and then written again.
  *

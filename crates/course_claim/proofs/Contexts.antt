@@ -17,7 +17,7 @@ use Rattle.context.proofs.Laws.{written_length}
 use Rattle.context.proofs.Promises.{configure_promise}
 use Rattle.record_endpoint.specs.EndpointMap.{queue_dcis}
 use Rattle.transfer.specs.Routes.{ring_for}
-use Rattle.course_steps.specs.End.{settings_kept}
+use Rattle.course_steps.specs.End.{settings_kept, settings_doubted}
 use Rattle.course_steps.proofs.Laws.{length_dcis}
 use Rattle.course_claim.specs.Claim.{Claim, undo_alternate, claim_context, undo_context, claim_undo, claim_switch, claim_configure, claim_course}
 
@@ -68,14 +68,14 @@ module _ (a : Claim) (ctx routes o : List ℕ) where
       (λ i m k. h i m (omega (arith, length_dcis a.old))))
 
   pub claim_at_configure : AllDone o 0 (length a.old) → outcome_at o (length a.old) ≡ sent.Cut →
-      CutHere o (claim_course a ctx routes) (length a.old) command.Configure (settings_kept answer.Cut 0 (claim_context a ctx) routes)
+      CutHere o (claim_course a ctx routes) (length a.old) command.Configure (settings_doubted answer.Cut (claim_context a ctx) routes)
   unfolding claim_configure on_sent
   claim_at_configure h e = cut_here o _ (length a.old) _ _ _ _ (claim_stopped h) e refl
 
   pub claim_at_undo : (code : ℕ) → AllDone o 0 (length a.old + 1) → outcome_at o (length a.old + 1) ≡ sent.Failed code →
       outcome_at o (length a.old + 2) ≡ sent.Cut →
       CutHere o (claim_course a ctx routes) (length a.old + 2) command.Configure
-      (settings_kept answer.Cut 0 (undo_context a (claim_context a ctx)) routes)
+      (settings_doubted answer.Cut (undo_context a (claim_context a ctx)) routes)
   unfolding claim_configure claim_switch claim_undo on_sent
   claim_at_undo code h f e =
       let n = length a.old in

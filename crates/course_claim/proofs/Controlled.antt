@@ -133,7 +133,7 @@ module _ (a : Claim) (routes : List ℕ) (d : ℕ) (two : 2 ≤ d) (h : d < 32) 
       told_cut
     where
       moved : (r : Result Unit RouteError) →
-          Told (enabled d) made AsHeld (published r answer.InterfaceBroken a.args.slot.0 a.old a.pending (claim_context a ctx) routes).answer
+          Told (enabled d) made AsHeld (published r answer.InterfaceBroken true a.args.slot.0 a.old a.pending (claim_context a ctx) routes).answer
           (configured (claim_context a ctx) enabled d)
       moved (Ok _) = told_accepted (claim_configured ctx sp)
       moved (Err _) = told_broken

@@ -25,7 +25,7 @@ use Rattle.command.proofs.Sweeps.{words_length_resume, words_length_stop, active
 use Rattle.record_endpoint.specs.EndpointMap.{queue_dcis}
 use Rattle.transfer.specs.declared.RouteError.{RouteError}
 use Rattle.transfer.specs.Routes.{replaced, with_replaced}
-use Rattle.course_steps.specs.End.{published, End, settings_kept, settings_moved, answer_of}
+use Rattle.course_steps.specs.End.{published, End, settings_kept, settings_moved, settings_marked, settings_doubted, is_unanswered, answer_of}
 use Rattle.course_steps.proofs.Laws.{length_dcis}
 use Rattle.course_claim.specs.Claim.{Claim, claim_context, undo_context, claim_publish, claim_switch_back, claim_undone, claim_undo, claim_switch, claim_resume, claim_configure, claim_course}
 
@@ -45,11 +45,12 @@ pub data ClaimEnd (a : Claim) (ctx routes : List ℕ) : End → Type 0 where
   -- after a failed SetInterface, the Configure undone: all
   undone : {code : ℕ} → ClaimEnd a ctx routes (settings_kept (answer.Failed code) (length a.old) (undo_context a (claim_context a ctx)) routes)
   -- the same, not undone
-  broken : ClaimEnd a ctx routes (settings_kept answer.InterfaceBroken 0 (undo_context a (claim_context a ctx)) routes)
+  broken : ClaimEnd a ctx routes (settings_doubted answer.InterfaceBroken (undo_context a (claim_context a ctx)) routes)
   -- routes that do not allow it
   unrouted : (replaced routes a.args.slot.0 a.old a.pending ≡ Ok tt → ⊥) →
-      ClaimEnd a ctx routes (settings_kept answer.InterfaceBroken 0 (claim_context a ctx) routes)
-  cut : {active : ℕ} {at : List ℕ} → active ≤ length a.old → ClaimEnd a ctx routes (settings_kept answer.Cut active at routes)
+      ClaimEnd a ctx routes (settings_doubted answer.InterfaceBroken (claim_context a ctx) routes)
+  cut : {active : ℕ} {doubted : Bool} {at : List ℕ} → active ≤ length a.old →
+      ClaimEnd a ctx routes (settings_marked answer.Cut active doubted at routes)
 
 -- Routes and settings are moved exactly if the claim is accepted.
 pub record Moved (a : Claim) (routes : List ℕ) (e : End) : Type 0 where
@@ -69,8 +70,8 @@ refused_accepted x (inr (inl b)) e = absurd cc
 refused_accepted x (inr (inr c)) e = absurd cc
 
 module _ (a : Claim) (ctx routes : List ℕ) where
-  stayed : {x : Answer} {active : ℕ} {at : List ℕ} → Refused x → active ≤ length a.old →
-      Claimed a routes (settings_kept x active at routes)
+  stayed : {x : Answer} {active : ℕ} {doubted : Bool} {at : List ℕ} → Refused x → active ≤ length a.old →
+      Claimed a routes (settings_marked x active doubted at routes)
   stayed {x} r h =
       record {
         answers = inr r;
@@ -119,11 +120,11 @@ module _ (a : Claim) (ctx routes o : List ℕ) where
   -- a command whose cut ends it
   phase_sends : {m n : ℕ} {c : Command} {at : List ℕ} {done : Course End} {failed : ℕ → Course End} →
       Phase a ctx routes o m (n + 1) done → ((code : ℕ) → Phase a ctx routes o m (n + 1) (failed code)) →
-      Phase a ctx routes o (suc m) n (sends c at (λ s. on_sent s done failed (ends (settings_kept answer.Cut 0 at routes))))
+      Phase a ctx routes o (suc m) n (sends c at (λ s. on_sent s done failed (ends (settings_doubted answer.Cut at routes))))
   unfolding result words
   phase_sends {m} {n} {c} {at} {done} {failed} d f =
       let p =
-      on_sent_lem (Phase a ctx routes o m (n + 1)) (outcome_at o n) done failed (ends (settings_kept answer.Cut 0 at routes)) (λ e. d)
+      on_sent_lem (Phase a ctx routes o m (n + 1)) (outcome_at o n) done failed (ends (settings_doubted answer.Cut at routes)) (λ e. d)
       (λ code e. f code)
       (λ e. phase_ends (cut (omega arith)) (λ f. omega (arith, cut_past o n e))) in
       record { end = p.end; few = omega (arith, p.few); used = λ e. omega (arith, p.used e) }
@@ -147,7 +148,7 @@ module _ (a : Claim) (ctx routes o : List ℕ) where
   publish_phase n = go (replaced routes a.args.slot.0 a.old a.pending) refl
     where
       go : (r : Result Unit RouteError) → replaced routes a.args.slot.0 a.old a.pending ≡ r →
-          Phase a ctx routes o 0 n (ends (published r answer.InterfaceBroken a.args.slot.0 a.old a.pending (claim_context a ctx) routes))
+          Phase a ctx routes o 0 n (ends (published r answer.InterfaceBroken true a.args.slot.0 a.old a.pending (claim_context a ctx) routes))
       go (Ok _) e = phase_ends (accepted e) (λ e. absurd cc)
       go (Err _) e = phase_ends (unrouted (λ d. cc)) (λ e. absurd cc)
 
@@ -169,7 +170,7 @@ module _ (a : Claim) (ctx routes o : List ℕ) where
       (λ code. phase_sends (undone_phase (n + 1 + 1) code) (λ later. phase_ends broken (λ e. absurd cc)))
 
   resume_phase : (n code : ℕ) → Phase a ctx routes o (length a.old) n (claim_resume a code (claim_context a ctx) routes)
-  unfolding claim_resume answer_of or_code
+  unfolding claim_resume answer_of or_code is_unanswered
   resume_phase n code =
       let c : Course Sweep = resume_stopped_endpoints (claim_context a ctx) (queue_dcis a.old) in
       let l : length (queue_dcis a.old) ≡ length a.old = length_dcis a.old in
@@ -180,7 +181,7 @@ module _ (a : Claim) (ctx routes o : List ℕ) where
       (omega (arith, words_length_resume o (claim_context a ctx) (queue_dcis a.old) n))
     where
       go : {active : ℕ} (s : Sent) → active ≤ length a.old →
-          ClaimEnd a ctx routes (settings_kept (answer_of (or_code code s)) active (claim_context a ctx) routes)
+          ClaimEnd a ctx routes (settings_marked (answer_of (or_code code s)) active (is_unanswered s) (claim_context a ctx) routes)
       go sent.Done h = configure_failed h
       go (sent.Failed later) h = configure_failed h
       go sent.Cut h = cut h
@@ -325,13 +326,14 @@ module _ (a : Claim) (ctx routes o : List ℕ) where
       (λ e b. absurd cc))
 
 -- A cut leaves a claim with the context of the command that was cut; the answer is Cut.
-module _ (a : Claim) (routes : List ℕ) (P : List ℕ → End → Type 0) (p : (at : List ℕ) (active : ℕ) → P at (settings_kept answer.Cut active at routes)) where
+module _ (a : Claim) (routes : List ℕ) (P : List ℕ → End → Type 0)
+    (p : (at : List ℕ) (active : ℕ) (doubted : Bool) → P at (settings_marked answer.Cut active doubted at routes)) where
   cuts_sends : (c : Command) (at : List ℕ) (done : Course End) (failed : ℕ → Course End) → CutsTo P done →
       ((code : ℕ) → CutsTo P (failed code)) →
-      CutsTo P (sends c at (λ s. on_sent s done failed (ends (settings_kept answer.Cut 0 at routes))))
+      CutsTo P (sends c at (λ s. on_sent s done failed (ends (settings_doubted answer.Cut at routes))))
   unfolding CutsTo EndsWith on_sent
   cuts_sends c at done failed d f =
-      (p at 0, each_outcome (CutsTo P) done failed _ d f tt)
+      (p at 0 true, each_outcome (CutsTo P) done failed _ d f tt)
 
   cuts_ends : (e : End) → CutsTo P (ends e)
   unfolding CutsTo
@@ -356,26 +358,26 @@ module _ (a : Claim) (routes : List ℕ) (P : List ℕ → End → Type 0) (p : 
   sweep_cuts ctx c f t h g = cuts_then (CutSweep ctx) P c f t (λ at r q. rw q.0 at (h r q.1)) g
 
   claim_cuts_to : (ctx : List ℕ) → CutsTo P (claim_course a ctx routes)
-  unfolding claim_course claim_configure claim_resume EndsWith answer_of or_code on_sent
+  unfolding claim_course claim_configure claim_resume EndsWith answer_of or_code is_unanswered on_sent
   claim_cuts_to ctx =
       let next : List ℕ = claim_context a ctx in
-      sweep_cuts ctx _ _ (stop_cuts ctx (queue_dcis a.old)) (λ r e. rw e (p ctx r.active))
+      sweep_cuts ctx _ _ (stop_cuts ctx (queue_dcis a.old)) (λ r e. rw e (p ctx r.active false))
       (λ r.
       on_sent_lem (CutsTo P) r.sent _ _ _
       (λ e.
       cuts_sends _ next _ _ (switch_cuts next)
-      (λ code. sweep_cuts next _ _ (resume_cuts next (queue_dcis a.old)) (λ r e. rw e (p next r.active)) (λ r. cuts_ends _)))
+      (λ code. sweep_cuts next _ _ (resume_cuts next (queue_dcis a.old)) (λ r e. rw e (p next r.active true)) (λ r. cuts_ends _)))
       (λ code e. cuts_ends _)
       (λ e. cuts_ends _))
 
 module _ (a : Claim) (ctx routes : List ℕ) where
   -- a cut leaves a claim with the context of the command that was cut
   pub claim_cuts : CutEnds (λ (e : End). e.ctx) (claim_course a ctx routes)
-  claim_cuts = claim_cuts_to a routes (λ at e. e.ctx ≡ at) (λ at active. refl) ctx
+  claim_cuts = claim_cuts_to a routes (λ at e. e.ctx ≡ at) (λ at active doubted. refl) ctx
 
   -- where it wants an outcome more than there are, it is cut
   pub claim_cut : (o : List ℕ) (n : ℕ) → n ≤ length o → length o < n + length (words o n (claim_course a ctx routes)) →
       (result o n (claim_course a ctx routes)).answer ≡ answer.Cut
   claim_cut o n =
       cut_last (λ at e. e.answer ≡ answer.Cut) o n (claim_course a ctx routes)
-      (claim_cuts_to a routes (λ at e. e.answer ≡ answer.Cut) (λ at active. refl) ctx)
+      (claim_cuts_to a routes (λ at e. e.answer ≡ answer.Cut) (λ at active doubted. refl) ctx)

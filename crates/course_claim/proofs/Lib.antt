@@ -1,3 +1,4 @@
 pub mod Contexts
+pub mod Doubted
 pub mod Laws
 pub mod Controlled

@@ -1,5 +1,5 @@
 -- The course of a claim after its checks: `_claim_interface` of the original.
-use Rattle.std.specs.Prelude.{ℕ, cond, List, length, is_some}
+use Rattle.std.specs.Prelude.{ℕ, true, cond, List, length, is_some}
 use Rattle.std.specs.Option.{unwrap_or}
 use Rattle.answer.specs.declared.Answer.TheVariants as answer
 use Rattle.command.specs.declared.Command.TheVariants as command
@@ -9,7 +9,7 @@ use Rattle.context.specs.Place.{written}
 use Rattle.context.specs.Steps.{configure_writes}
 use Rattle.record_endpoint.specs.EndpointMap.{queue_dcis}
 use Rattle.transfer.specs.Routes.{Queue}
-use Rattle.course_steps.specs.End.{End, settings_kept, move_routes, answer_of}
+use Rattle.course_steps.specs.End.{End, settings_kept, settings_marked, settings_doubted, is_unanswered, move_routes, answer_of}
 use Rattle.course_steps.specs.Arrays.{dcis_in, queues_in}
 use Rattle.course_claim.specs.declared.ClaimArgs.{ClaimArgs}
 use Rattle.course_claim.specs.declared.ClaimPlan.{ClaimPlan}
@@ -42,9 +42,9 @@ undo_context a ctx =
     (configure_writes a.args.speed a.args.interface (undo_alternate a) a.new_words a.old_words a.old a.dcis)
     ctx
 
--- Old routes out, new routes in; routes that do not allow it break the interface.
+-- Old routes out, new routes in; routes that do not allow it break the interface. From the Configure on, an end that is lost has the mark.
 unfoldable pub claim_publish : Claim → List ℕ → List ℕ → Course End
-claim_publish a ctx routes = ends (move_routes answer.InterfaceBroken a.args.slot.0 a.old a.pending ctx routes)
+claim_publish a ctx routes = ends (move_routes answer.InterfaceBroken true a.args.slot.0 a.old a.pending ctx routes)
 
 -- The device back at its old setting, after the controller is.
 unfoldable pub claim_switch_back : Claim → ℕ → List ℕ → List ℕ → Course End
@@ -53,8 +53,8 @@ claim_switch_back a code ctx routes =
     (λ s.
     on_sent s
     (ends (settings_kept (answer.Failed code) (length a.old) ctx routes))
-    (λ later. ends (settings_kept answer.InterfaceBroken 0 ctx routes))
-    (ends (settings_kept answer.Cut 0 ctx routes)))
+    (λ later. ends (settings_doubted answer.InterfaceBroken ctx routes))
+    (ends (settings_doubted answer.Cut ctx routes)))
 
 unfoldable pub claim_undone : Claim → ℕ → List ℕ → List ℕ → Course End
 claim_undone a code ctx routes =
@@ -68,8 +68,8 @@ claim_undo a code ctx routes =
     (λ s.
     on_sent s
     (claim_undone a code next routes)
-    (λ later. ends (settings_kept answer.InterfaceBroken 0 next routes))
-    (ends (settings_kept answer.Cut 0 next routes)))
+    (λ later. ends (settings_doubted answer.InterfaceBroken next routes))
+    (ends (settings_doubted answer.Cut next routes)))
 
 unfoldable pub claim_switch : Claim → List ℕ → List ℕ → Course End
 claim_switch a ctx routes =
@@ -78,12 +78,13 @@ claim_switch a ctx routes =
     on_sent s
     (claim_publish a ctx routes)
     (λ code. claim_undo a code ctx routes)
-    (ends (settings_kept answer.Cut 0 ctx routes)))
+    (ends (settings_doubted answer.Cut ctx routes)))
 
 -- After a failed Configure the old endpoints are resumed; a failed resume's code is the answer.
 unfoldable pub claim_resume : Claim → ℕ → List ℕ → List ℕ → Course End
 claim_resume a code ctx routes =
-    then (resume_stopped_endpoints ctx (queue_dcis a.old)) (λ r. ends (settings_kept (answer_of (or_code code r.sent)) r.active ctx routes))
+    then (resume_stopped_endpoints ctx (queue_dcis a.old))
+    (λ r. ends (settings_marked (answer_of (or_code code r.sent)) r.active (is_unanswered r.sent) ctx routes))
 
 unfoldable pub claim_configure : Claim → List ℕ → List ℕ → Course End
 claim_configure a ctx routes =
@@ -93,7 +94,7 @@ claim_configure a ctx routes =
     on_sent s
     (claim_switch a next routes)
     (λ code. claim_resume a code next routes)
-    (ends (settings_kept answer.Cut 0 next routes)))
+    (ends (settings_doubted answer.Cut next routes)))
 
 -- The old endpoints are stopped first; after a failed stop all of them are active again.
 unfoldable pub claim_course : Claim → List ℕ → List ℕ → Course End

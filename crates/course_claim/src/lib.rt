@@ -52,8 +52,8 @@ fn switch_back(log: &mut [u32], outcomes: &[u8], n: usize, a: ClaimPlan, code: u
         Command::SetInterface(a.args.interface, alternate),
     ) {
         Sent::Done => course_steps::settings_kept(Answer::Failed(code), next, a.old.count),
-        Sent::Failed(_) => course_steps::settings_kept(Answer::InterfaceBroken, next, 0),
-        Sent::Cut => course_steps::settings_kept(Answer::Cut, next, 0),
+        Sent::Failed(_) => course_steps::settings_marked(Answer::InterfaceBroken, next, 0, true),
+        Sent::Cut => course_steps::settings_marked(Answer::Cut, next, 0, true),
     }
 }
 
@@ -90,8 +90,8 @@ fn rollback_interface_configuration(
     let next = n + 1;
     match command::send(log, outcomes, n, Command::Configure) {
         Sent::Done => switch_back(log, outcomes, next, a, code),
-        Sent::Failed(_) => course_steps::settings_kept(Answer::InterfaceBroken, next, 0),
-        Sent::Cut => course_steps::settings_kept(Answer::Cut, next, 0),
+        Sent::Failed(_) => course_steps::settings_marked(Answer::InterfaceBroken, next, 0, true),
+        Sent::Cut => course_steps::settings_marked(Answer::Cut, next, 0, true),
     }
 }
 
@@ -121,16 +121,17 @@ fn switch(
     ) {
         Sent::Done => {
             let refused = Answer::InterfaceBroken;
-            course_steps::publish(routes, a.args.slot, a.old, a.pending, next, refused)
+            course_steps::publish(routes, a.args.slot, a.old, a.pending, next, refused, true)
         }
         Sent::Failed(code) => rollback_interface_configuration(
             ctx, log, outcomes, next, a, old_words, new_words, code,
         ),
-        Sent::Cut => course_steps::settings_kept(Answer::Cut, next, 0),
+        Sent::Cut => course_steps::settings_marked(Answer::Cut, next, 0, true),
     }
 }
 
-// Where the Configure fails, the old endpoints are resumed; a failed resume's code is the answer.
+// Where the Configure fails, the old endpoints are resumed; a failed resume's code is the answer. From here on, an end that is lost is
+// marked: the controller may hold the new rings.
 fn configure(
     ctx: &mut [u8],
     routes: &mut [u64],
@@ -162,10 +163,13 @@ fn configure(
     let next = n + 1;
     match command::send(log, outcomes, n, Command::Configure) {
         Sent::Done => switch(ctx, routes, log, outcomes, next, a, old_words, new_words),
-        Sent::Failed(code) => course_steps::resume(log, outcomes, next, a.old, |sent| {
-            course_steps::answer_of(command::or_code(code, sent))
-        }),
-        Sent::Cut => course_steps::settings_kept(Answer::Cut, next, 0),
+        Sent::Failed(code) => {
+            let back = course_steps::resume_stopped_endpoints(log, outcomes, next, a.old);
+            let answer = course_steps::answer_of(command::or_code(code, back.sent));
+            let doubted = course_steps::is_unanswered(back.sent);
+            course_steps::settings_marked(answer, back.count, back.active, doubted)
+        }
+        Sent::Cut => course_steps::settings_marked(Answer::Cut, next, 0, true),
     }
 }
 

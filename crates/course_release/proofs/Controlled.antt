@@ -1,7 +1,7 @@
 -- The controller along a release: which commands it sends, and which endpoints it leaves enabled.
 use Prim.Native.Nat.{ℕ, ◌<◌, ◌≤◌}
 use mathlib.Core.Path.{◌≡◌, refl, ◌∙◌}
-use mathlib.Core.Bool.{Bool, not, ◌&&◌}
+use mathlib.Core.Bool.{Bool, false, not, ◌&&◌}
 use mathlib.Core.List.{List, []}
 use lib.ListN.{length, get_or}
 use Rattle.std.specs.Prelude.{Result, Ok, Err}
@@ -86,7 +86,7 @@ module _ (a : Release) (ctx routes : List ℕ) (sp : Spaced a.spacing (length ct
       (λ e. told_cut))
     where
       moved : (r : Result Unit RouteError) →
-          Told (enabled d) made (Unit {0}) (published r answer.InvalidEndpoint a.slot a.old [] (release_context a ctx) routes).answer
+          Told (enabled d) made (Unit {0}) (published r answer.InvalidEndpoint false a.slot a.old [] (release_context a ctx) routes).answer
           (configured (release_context a ctx) enabled d)
       moved (Ok _) = told_accepted release_configured
       moved (Err _) = told_invalid

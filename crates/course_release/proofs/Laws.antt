@@ -103,7 +103,7 @@ stayed : (a : Release) (x : Answer) (n : ℕ) (ctx routes : List ℕ) → 13 ≤
 stayed a x n ctx routes h = inr (record { refused = h; kept = refl; left = refl })
 
 published_says : (a : Release) (ctx routes : List ℕ) (r : Result Unit RouteError) → replaced routes a.slot a.old [] ≡ r →
-    Says a routes (published r answer.InvalidEndpoint a.slot a.old [] ctx routes)
+    Says a routes (published r answer.InvalidEndpoint false a.slot a.old [] ctx routes)
 unfolding published number
 published_says a ctx routes (Ok _) e = inl (record { accepted = refl; moved = refl; there = e; left = refl })
 published_says a ctx routes (Err _) e = stayed a answer.InvalidEndpoint 0 ctx routes (omega arith)
@@ -145,7 +145,7 @@ OneAnswer a routes x =
     ⊎ ((x ≡ answer.InvalidEndpoint) × (replaced routes a.slot a.old [] ≡ Ok tt → ⊥))
 
 published_answers : (a : Release) (ctx routes : List ℕ) (r : Result Unit RouteError) → replaced routes a.slot a.old [] ≡ r →
-    OneAnswer a routes (published r answer.InvalidEndpoint a.slot a.old [] ctx routes).answer
+    OneAnswer a routes (published r answer.InvalidEndpoint false a.slot a.old [] ctx routes).answer
 unfolding published
 published_answers a ctx routes (Ok _) e = inl refl
 published_answers a ctx routes (Err _) e =

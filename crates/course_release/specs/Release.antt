@@ -1,5 +1,5 @@
 -- The course of a release after its checks: `_release_interface` of the original.
-use Rattle.std.specs.Prelude.{ℕ, List, [], length}
+use Rattle.std.specs.Prelude.{ℕ, false, List, [], length}
 use Rattle.answer.specs.declared.Answer.TheVariants as answer
 use Rattle.command.specs.declared.Command.TheVariants as command
 use Rattle.command.specs.Course.{Course, ends, sends, on_sent, then}
@@ -30,7 +30,7 @@ release_context a ctx =
 
 -- Old routes out; routes that do not allow it stay.
 unfoldable pub release_publish : Release → List ℕ → List ℕ → Course End
-release_publish a ctx routes = ends (move_routes answer.InvalidEndpoint a.slot a.old [] ctx routes)
+release_publish a ctx routes = ends (move_routes answer.InvalidEndpoint false a.slot a.old [] ctx routes)
 
 unfoldable pub release_resume : Release → ℕ → List ℕ → List ℕ → Course End
 release_resume a code ctx routes =

@@ -62,6 +62,7 @@ fn configure(
             Queues::NONE,
             next,
             Answer::InvalidEndpoint,
+            false,
         ),
         Sent::Failed(code) => course_steps::resume(log, outcomes, next, a.old, |sent| {
             course_steps::configure_failed(code, sent)

@@ -66,7 +66,7 @@ module _
     (replaced-as : (t ≡ replaced routes a.slot a.old []) × (table ≡ with_replaced routes a.slot a.old [])) where
   -- or one is not its ring's
   pub not_published : (x : RouteError) → t ≡ Err x →
-      r ≡ record { answer = answer.InvalidEndpoint; count = n; active = 0; moved = false } →
+      r ≡ record { answer = answer.InvalidEndpoint; count = n; active = 0; moved = false; doubted = false } →
       course_leaves r ctx table log ≡ played o n (set_publish a ctx routes) log
   unfolding set_publish set_published
   not_published x z e =
@@ -81,6 +81,7 @@ module _
         count = n + 1;
         active = 0;
         moved = true;
+        doubted = false;
       } →
       course_leaves r next table left ≡ played o n (set_publish a ctx routes) log
   unfolding set_publish set_published set_evaluate

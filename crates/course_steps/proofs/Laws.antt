@@ -25,7 +25,7 @@ use Rattle.record_endpoint.specs.EndpointMap.{gathered, queues_of, queue_dcis, q
 use Rattle.record_endpoint.specs.Order.{dci_at}
 use Rattle.transfer.specs.Routes.{Queue, queues}
 use Rattle.course_steps.specs.declared.CourseEnd.{CourseEnd}
-use Rattle.course_steps.specs.End.{settings_kept}
+use Rattle.course_steps.specs.End.{settings_kept, settings_marked}
 use Rattle.course_steps.specs.Arrays.{dcis_in, rings_in, queues_in, course_leaves, Room}
 
 -- the Dcis of queues made of Dcis and rings
@@ -127,20 +127,29 @@ pub room_same : (s m n : ℕ) (old all : Queues) → Room s m old all → n ≡ 
 room_same s m n old all r e = rw e r
 
 -- what a phase leaves where its course has ended
-pub ended : {log ctx routes : List ℕ} {n active : ℕ} {a : Answer} {moved : Bool} {r : CourseEnd} (o : List ℕ) →
-    r ≡ record { answer = a; count = n; active = active; moved = moved } →
+pub ended : {log ctx routes : List ℕ} {n active : ℕ} {a : Answer} {moved doubted : Bool} {r : CourseEnd} (o : List ℕ) →
+    r ≡ record { answer = a; count = n; active = active; moved = moved; doubted = doubted } →
     course_leaves r ctx routes log
-    ≡ played o n (ends (record { answer = a; active = active; moved = moved; ctx = ctx; routes = routes })) log
+    ≡ played o n (ends (record { answer = a; active = active; moved = moved; doubted = doubted; ctx = ctx; routes = routes })) log
 ended o e = rw (e, played_ends)
 
--- where it ends with some queues' endpoints resumed
+-- where it ends with some queues' endpoints resumed, and a mark
+pub ended_marked : {left ctx routes : List ℕ} {back : Swept} {r : CourseEnd} (q : Queues) (o log : List ℕ) (n : ℕ) (f : Sent → Answer) (g : Sent → Bool) →
+    SweptAs back left (played o n (resume_stopped_endpoints ctx (dcis_in q)) log) →
+    r ≡ record { answer = f back.sent; count = back.count; active = back.active; moved = false; doubted = g back.sent } →
+    course_leaves r ctx routes left
+    ≡ played o n
+    (then (resume_stopped_endpoints ctx (queue_dcis (queues_in q))) (λ s. ends (settings_marked (f s.sent) s.active (g s.sent) ctx routes))) log
+ended_marked q o log n f g a e = rw dcis_in_lem (swept_on o log n _ _ a refl (ended o e))
+
+-- and without one
 pub ended_resumed : {left ctx routes : List ℕ} {back : Swept} {r : CourseEnd} (q : Queues) (o log : List ℕ) (n : ℕ) (f : Sent → Answer) →
     SweptAs back left (played o n (resume_stopped_endpoints ctx (dcis_in q)) log) →
-    r ≡ record { answer = f back.sent; count = back.count; active = back.active; moved = false } →
+    r ≡ record { answer = f back.sent; count = back.count; active = back.active; moved = false; doubted = false } →
     course_leaves r ctx routes left
     ≡ played o n
     (then (resume_stopped_endpoints ctx (queue_dcis (queues_in q))) (λ s. ends (settings_kept (f s.sent) s.active ctx routes))) log
-ended_resumed q o log n f a e = rw dcis_in_lem (swept_on o log n _ _ a refl (ended o e))
+ended_resumed q o log n f a e = ended_marked q o log n f (λ s. false) a e
 
 -- queues that count none, as `Queues::NONE`, are none
 pub none_counted : (q : Queues) → q.count ≡ 0 → queues_in q ≡ []

@@ -21,7 +21,7 @@ queues_in q = queues (dcis_in q) (rings_in q)
 abbrev pub course_leaves : CourseEnd → List ℕ → List ℕ → List ℕ → Played End
 course_leaves r ctx routes log =
     record {
-      end = record { answer = r.answer; active = r.active; moved = r.moved; ctx = ctx; routes = routes };
+      end = record { answer = r.answer; active = r.active; moved = r.moved; doubted = r.doubted; ctx = ctx; routes = routes };
       count = r.count;
       log = log;
     }

@@ -15,14 +15,28 @@ pub record End : Type 0 where
   pub active : ℕ
   -- whether the old settings are ended and their routes taken out
   pub moved : Bool
+  -- whether it was lost with a Configure sent, so that the controller may hold the rings of new endpoints
+  pub doubted : Bool
   pub ctx : List ℕ
   pub routes : List ℕ
 
 abbrev pub settings_kept : Answer → ℕ → List ℕ → List ℕ → End
-settings_kept a n ctx routes = record { answer = a; active = n; moved = false; ctx = ctx; routes = routes }
+settings_kept a n ctx routes = record { answer = a; active = n; moved = false; doubted = false; ctx = ctx; routes = routes }
 
 abbrev pub settings_moved : Answer → List ℕ → List ℕ → End
-settings_moved a ctx routes = record { answer = a; active = 0; moved = true; ctx = ctx; routes = routes }
+settings_moved a ctx routes = record { answer = a; active = 0; moved = true; doubted = false; ctx = ctx; routes = routes }
+
+-- Settings kept, with the mark.
+abbrev pub settings_marked : Answer → ℕ → Bool → List ℕ → List ℕ → End
+settings_marked a n b ctx routes = record { answer = a; active = n; moved = false; doubted = b; ctx = ctx; routes = routes }
+
+abbrev pub settings_doubted : Answer → List ℕ → List ℕ → End
+settings_doubted a ctx routes = settings_marked a 0 true ctx routes
+
+unfoldable pub is_unanswered : Sent → Bool
+is_unanswered sent.Done = false
+is_unanswered (sent.Failed code) = false
+is_unanswered sent.Cut = true
 
 -- The answer of a failed or cut command.
 unfoldable pub answer_of : Sent → Answer
@@ -36,13 +50,14 @@ configure_failed code sent.Done = answer.Failed code
 configure_failed code (sent.Failed later) = answer.Failed code
 configure_failed code sent.Cut = answer.Cut
 
--- Old routes out and new ones in: accepted; where the routes do not allow it nothing is moved, and the answer is `refused`.
-unfoldable pub published : Result Unit RouteError → Answer → ℕ → List Queue → List Queue → List ℕ → List ℕ → End
-published (Ok _) refused slot old new ctx routes = settings_moved answer.Accepted ctx (with_replaced routes slot old new)
-published (Err _) refused slot old new ctx routes = settings_kept refused 0 ctx routes
+-- Old routes out and new ones in: accepted; where the routes do not allow it nothing is moved, the answer is `refused`, and the mark
+-- is `doubted`.
+unfoldable pub published : Result Unit RouteError → Answer → Bool → ℕ → List Queue → List Queue → List ℕ → List ℕ → End
+published (Ok _) refused doubted slot old new ctx routes = settings_moved answer.Accepted ctx (with_replaced routes slot old new)
+published (Err _) refused doubted slot old new ctx routes = settings_marked refused 0 doubted ctx routes
 
-abbrev pub move_routes : Answer → ℕ → List Queue → List Queue → List ℕ → List ℕ → End
-move_routes refused slot old new ctx routes = published (replaced routes slot old new) refused slot old new ctx routes
+abbrev pub move_routes : Answer → Bool → ℕ → List Queue → List Queue → List ℕ → List ℕ → End
+move_routes refused doubted slot old new ctx routes = published (replaced routes slot old new) refused doubted slot old new ctx routes
 
 -- Endpoints are resumed; how that ends decides the answer.
 unfoldable pub resumed : (Sent → Answer) → List ℕ → List ℕ → List ℕ → Course End

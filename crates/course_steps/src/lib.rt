@@ -11,7 +11,7 @@ ghost use Rattle.context.specs.Promises.{EndpointDcis};
 ghost use Rattle.transfer.specs.Routes.{replaced, with_replaced};
 ghost use Rattle.answer.specs.declared.Answer.{Answer};
 ghost use Rattle.command.specs.declared.Sent.{Sent};
-ghost use Rattle.course_steps.specs.End.{answer_of, configure_failed, move_routes, Answers, resumed};
+ghost use Rattle.course_steps.specs.End.{is_unanswered, answer_of, configure_failed, move_routes, Answers, resumed};
 ghost use Rattle.course_steps.specs.Arrays.{dcis_in, queues_in, course_leaves};
 ghost use Rattle.course_steps.specs.Each.{Gives, send_from};
 ghost use Rattle.command.specs.declared.Command.{Command};
@@ -23,13 +23,14 @@ use record_endpoint::Queues;
 use transfer::RouteError;
 
 // How a course ended: of the old endpoints, by rising address, how many are active, and whether they are gone. Two fields, as the
-// definitions and the theorems have them; of endpoints that are gone none is active.
+// definitions and the theorems have them; of endpoints that are gone none is active. And whether it was lost with a Configure sent.
 #[derive(Clone, Copy)]
 pub struct CourseEnd {
     pub answer: Answer,
     pub count: usize,
     pub active: usize,
     pub moved: bool,
+    pub doubted: bool,
 }
 
 // Sends a command for each of some endpoints in order, until one is not done; those before it are counted as active.
@@ -174,29 +175,52 @@ pub fn configure_failed(code: u8, s: Sent) -> Answer
 // An end that leaves the routes and the held settings as they were. A course names it in each arm that ends so, since each has sent
 // another number of commands.
 pub fn settings_kept(answer: Answer, count: usize, active: usize) -> CourseEnd
-    ensures { result ≡ record { answer = answer; count = count; active = active; moved = false } }
+    ensures { result ≡ record { answer = answer; count = count; active = active; moved = false; doubted = false } }
 {
     CourseEnd {
         answer,
         count,
         active,
         moved: false,
+        doubted: false,
+    }
+}
+
+// The same with the mark of a claim: lost with a Configure sent, so that the controller may hold the rings of new endpoints.
+pub fn settings_marked(answer: Answer, count: usize, active: usize, doubted: bool) -> CourseEnd
+    ensures { result ≡ record { answer = answer; count = count; active = active; moved = false; doubted = doubted } }
+{
+    CourseEnd {
+        doubted,
+        ..settings_kept(answer, count, active)
+    }
+}
+
+#[tactic(auto, unfolding(crate::specs::End::is_unanswered))]
+pub fn is_unanswered(s: Sent) -> bool
+    ensures { result ≡ is_unanswered s }
+{
+    match s {
+        Sent::Done => false,
+        Sent::Failed(_) => false,
+        Sent::Cut => true,
     }
 }
 
 // An end after which the old endpoints are gone.
 pub fn settings_moved(answer: Answer, count: usize) -> CourseEnd
-    ensures { result ≡ record { answer = answer; count = count; active = 0; moved = true } }
+    ensures { result ≡ record { answer = answer; count = count; active = 0; moved = true; doubted = false } }
 {
     CourseEnd {
         answer,
         count,
         active: 0,
         moved: true,
+        doubted: false,
     }
 }
 
-// Moves routes as a course's last step: accepted, or answered as refused where the routes do not allow it.
+// Moves routes as a course's last step: accepted, or answered and marked as refused where the routes do not allow it.
 pub fn publish(
     routes: &mut [u64],
     slot: SlotId,
@@ -204,14 +228,15 @@ pub fn publish(
     new: Queues,
     n: usize,
     refused: Answer,
+    doubted: bool,
 ) -> CourseEnd
     ensures { (o ctx log : List ℕ) →
         course_leaves result ctx routes.new log
-        ≡ played o n (ends (move_routes refused slot.0 (queues_in old) (queues_in new) ctx routes.old)) log }
+        ≡ played o n (ends (move_routes refused doubted slot.0 (queues_in old) (queues_in new) ctx routes.old)) log }
 {
     match publish_endpoint_routes(routes, slot, old, new) {
         Ok(()) => settings_moved(Answer::Accepted, n),
-        Err(_) => settings_kept(refused, n, 0),
+        Err(_) => settings_marked(refused, n, 0, doubted),
     }
 }
 

@@ -3,20 +3,18 @@ use lib.Dec.{eqb}
 use Rattle.std.proofs.Common.{Some, None, Result, Err}
 use Rattle.std.specs.Option.{option_map_or, unwrap_or}
 use Prim.Native.Nat.{ℕ, ◌+◌, ◌≤◌}
-use mathlib.Core.Path.{◌≡◌, refl, sym, ◌∙◌}
-use mathlib.Core.Bool.{true, cond, Bool, false}
+use mathlib.Core.Path.{◌≡◌, refl, sym, ap, ◌∙◌}
+use mathlib.Core.Bool.{true, cond, Bool, false, ◌&&◌, true≢false}
 use mathlib.Core.List.{List, [], ◌∷◌, ◌++◌}
 use native.Mathlib.Omega.{arith}
 use lib.ListN.{length, take, drop}
 use lib.Seq.{length-take-le}
 use Rattle.answer.specs.declared.Answer.{Answer}
-use Rattle.answer.specs.declared.Answer.TheVariants as answer
-use Rattle.answer.specs.Answer.{is_broken}
-use Rattle.answer.specs.contracts.AnswerPartialEq.TheImpl as answers
+use Rattle.answer.specs.Answer.{number, is_lost}
 use Rattle.answer.specs.Check.{Check, Pass, Refuse, check_of, CheckedAs}
 use Rattle.descriptor_list.specs.declared.EndpointWords.{EndpointWords}
 use Rattle.descriptor_list.specs.Lookup.{find_endpoints}
-use Rattle.command.specs.Course.{played}
+use Rattle.command.specs.Course.{result, played}
 use Rattle.record_ring.specs.Rings.{entered}
 use Rattle.record_ring.specs.Store.{lowest, free_rings}
 use Rattle.record_endpoint.specs.Endpoint.{rings_of}
@@ -32,36 +30,49 @@ use Rattle.record_settings.specs.Held.{Held, is_held, alternate_of, held_alterna
 use Rattle.record_settings.proofs.Laws.{held_alternate_is}
 use Rattle.record_checks.specs.Draw.{draw_check}
 use Rattle.course_steps.specs.declared.CourseEnd.{CourseEnd}
+use Rattle.course_steps.specs.End.{End}
 use Rattle.course_steps.specs.Arrays as arrays
 use Rattle.course_steps.proofs.Laws.{queues_as}
 use Rattle.course_claim.specs.declared.ClaimArgs.{ClaimArgs}
 use Rattle.course_claim.specs.declared.ClaimPlan.{ClaimPlan}
-use Rattle.course_claim.specs.Claim.{claim_of, claim_course}
+use Rattle.course_claim.specs.Claim.{Claim, claim_of, claim_course}
+use Rattle.course_claim.proofs.Laws.{ClaimEnd, claim_ends, accepted, stop_failed, configure_failed, undone, broken, unrouted, cut}
 use Rattle.device.specs.declared.record.Device.{Device}
 use Rattle.device.specs.declared.record.Called.{Called}
-use Rattle.device.specs.Device.{list_of, endpoint_map_in, held_of, quarantined_of, given_of, free_of, with_endpoints, with_held, with_quarantined}
+use Rattle.device.specs.Device.{list_of, endpoint_map_in, held_of, quarantined_of, given_of, free_of, with_endpoints, with_held, quarantines}
 use Rattle.device.specs.Sound.{live_rings, sound}
 use Rattle.device.specs.Left.{leaves, ended}
 use Rattle.device.specs.Check.{record_check}
-use Rattle.device.specs.Claim.{claim_check, drawn, pending_of, args_in, claim_in, quarantines, claim_record, claim_run}
-use Rattle.device.proofs.Compared.{broken_test}
+use Rattle.device.specs.Claim.{claim_check, drawn, pending_of, args_in, claim_in, claim_record, claim_run}
 use Rattle.device.proofs.Ends.{handed, else_quarantined}
 use Rattle.device.proofs.Facts.{sound_facts, none_quarantined}
 use Rattle.device.proofs.Kept.{claim_entered}
 use Rattle.device.proofs.Laws.{refused_first, own_check}
 
--- Rings go in quarantine after 14, and after no other answer.
-module _ (a : Answer) (rings : List ℕ) (d : Device) (b : Bool) (e : b ≡ answers.eq-value.it a answer.InterfaceBroken) where
-  broken : b ≡ is_broken a
-  broken = e ∙ broken_test a
+-- Where its rings are in doubt, a claim's settings have not moved and it is lost.
+doubted_lost : (a : Claim) (ctx routes : List ℕ) (e : End) → ClaimEnd a ctx routes e → e.doubted ≡ true → (e.moved ≡ false) × (is_lost e.answer ≡ true)
+unfolding number
+doubted_lost a ctx routes _ (accepted d) t = absurd (true≢false (sym t))
+doubted_lost a ctx routes _ stop_failed t = absurd (true≢false (sym t))
+doubted_lost a ctx routes _ (configure_failed h) t = absurd (true≢false (sym t))
+doubted_lost a ctx routes _ undone t = absurd (true≢false (sym t))
+doubted_lost a ctx routes _ broken t = (refl, refl)
+doubted_lost a ctx routes _ (unrouted n) t = (refl, refl)
+doubted_lost a ctx routes _ (cut h) t = (refl, refl)
 
-  pub is_quarantined : b ≡ true → quarantines a rings d ≡ with_quarantined rings d
-  unfolding quarantines
-  is_quarantined t = rw (← broken, t)
+pub course_doubted : (a : Claim) (o ctx routes log ctx' routes' log' : List ℕ) (e : CourseEnd) →
+    arrays.course_leaves e ctx' routes' log' ≡ played o 0 (claim_course a ctx routes) log →
+    e.doubted ≡ true → (e.moved ≡ false) × (is_lost e.answer ≡ true)
+unfolding played
+course_doubted a o ctx routes log ctx' routes' log' e run t =
+    let f = doubted_lost a ctx routes (result o 0 (claim_course a ctx routes)) (claim_ends a ctx routes o 0) (sym (ap (λ p. p.end.doubted) run) ∙ t) in
+    (ap (λ p. p.end.moved) run ∙ f.0, ap (λ p. is_lost p.end.answer) run ∙ f.1)
 
-  pub not_quarantined : b ≡ false → d ≡ quarantines a rings d
-  unfolding quarantines
-  not_quarantined f = sym (rw (← broken, f))
+-- The record of a claim whose rings are not in doubt, before its end is taken in.
+pub not_doubted : (moved doubted lost : Bool) (rings : List ℕ) (d : Device) → doubted ≡ false → d ≡ cond moved d (quarantines (doubted && lost) rings d)
+unfolding quarantines
+not_doubted true doubted lost rings d e = refl
+not_doubted false doubted lost rings d e = rw e
 
 -- The alternate setting to which a claim is undone is the held one.
 pub undone_to : (i : ℕ) (hs : List Held) → unwrap_or (held_alternate i hs) 0 ≡ alternate_of i hs
@@ -196,12 +207,12 @@ module _ (d : Device) (i alt : ℕ) (rings : List ℕ) where
   -- the record that the end of the course makes
   pub claim_made :
       (y : Device) (c m : EndpointMap) (q : Queues) (e : CourseEnd) (by : List ℕ) (r : Called) → m ≡ claimed_endpoints i by c →
-      y ≡ cond e.moved d (quarantines e.answer (take q.count q.rings) d) →
+      y ≡ cond e.moved d (quarantines (e.doubted && is_lost e.answer) (take q.count q.rings) d) →
       r ≡ handed e
       (cond e.moved (with_held (with_setting i alt (held_of d)) (with_endpoints m y)) (with_endpoints (with_active (Interface i) e.active c) y)) →
       c ≡ endpoint_map_in d → QueuesAs q by → by ≡ pending_of d i alt rings → (ctx routes log : List ℕ) →
       leaves r ctx routes log ≡ ended (claim_record d i alt rings) (arrays.course_leaves e ctx routes log)
   unfolding claim_record ended
   claim_made y c m q e by r p ey er k s h ctx routes log =
-      let z = else_quarantined e.moved e.answer d y (with_setting i alt (held_of d)) m (with_active (Interface i) e.active c) _ ey in
+      let z = else_quarantined e.moved (e.doubted && is_lost e.answer) d y (with_setting i alt (held_of d)) m (with_active (Interface i) e.active c) _ ey in
       rw (er, z, s.rings, p, k, h)

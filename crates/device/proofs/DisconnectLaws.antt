@@ -6,6 +6,8 @@ use mathlib.Core.Bool.{Bool, true, false, cond}
 use mathlib.Core.List.{List, [], ◌∷◌, ◌++◌}
 use lib.ListN.{length, take}
 use Rattle.answer.specs.declared.Answer.{Answer}
+use Rattle.answer.specs.declared.Answer.TheVariants as answer
+use Rattle.answer.specs.contracts.AnswerPartialEq.TheImpl as answers
 use Rattle.answer.specs.Check.{Check, Pass}
 use Rattle.answer.specs.Answer.{is_broken, is_lost}
 use Rattle.command.specs.Course.{played, result}
@@ -24,13 +26,13 @@ use Rattle.course_disconnect.specs.Disconnect.{disconnect_course}
 use Rattle.course_disconnect.proofs.Ends.{Ended, disconnect_ends}
 use Rattle.device.specs.declared.record.Device.{Device}
 use Rattle.device.specs.declared.record.Called.{Called}
-use Rattle.device.specs.Device.{endpoint_map_in, quarantined_of, keep, put, rebuilt, control_revoked, gone, with_endpoints, with_held, with_quarantined, unusable}
+use Rattle.device.specs.Device.{endpoint_map_in, quarantined_of, keep, put, rebuilt, control_revoked, gone, with_endpoints, with_held, with_quarantined, quarantines, unusable}
 use Rattle.device.specs.Sound.{sound}
 use Rattle.device.specs.Left.{leaves, marked, ended}
 use Rattle.device.specs.Check.{disconnect_check}
 use Rattle.device.specs.Calls.{on_check}
-use Rattle.device.specs.Claim.{quarantines}
 use Rattle.device.specs.Disconnect.{all_revoked, unplugged, rings_in_doubt, disconnect_record, disconnect}
+use Rattle.device.proofs.Compared.{broken_test}
 use Rattle.device.proofs.Ends.{handed, quarantine_first}
 use Rattle.device.proofs.Facts.{sound_facts}
 use Rattle.device.proofs.Disconnected.{UpPassed, up_passed, more_few}
@@ -39,6 +41,19 @@ use Rattle.device.proofs.Disconnected.{UpPassed, up_passed, more_few}
 pub disconnect_passed : (d : Device) (ctx routes log : ℕ) (x : Check) → x ≡ disconnect_check d ctx routes log → x ≡ Pass →
     UpPassed d ctx routes log
 disconnect_passed d ctx routes log x k p = up_passed d ctx routes log (sym k ∙ p)
+
+-- Rings go in quarantine after 14, and after no other answer.
+module _ (a : Answer) (rings : List ℕ) (d : Device) (b : Bool) (e : b ≡ answers.eq-value.it a answer.InterfaceBroken) where
+  tested : b ≡ is_broken a
+  tested = e ∙ broken_test a
+
+  pub is_quarantined : b ≡ true → quarantines (is_broken a) rings d ≡ with_quarantined rings d
+  unfolding quarantines
+  is_quarantined t = rw (← tested, t)
+
+  pub not_quarantined : b ≡ false → d ≡ quarantines (is_broken a) rings d
+  unfolding quarantines
+  not_quarantined f = sym (rw (← tested, f))
 
 module _ (d : Device) where
   -- the record with its device gone, before and after control is revoked, and with control revoked alone
@@ -81,8 +96,8 @@ revoked_quarantined rings d = refl
 
 -- Control is revoked after the rings have entered quarantine.
 revoked_after : (b : Bool) (a : Answer) (d : Device) →
-    revoked_only (cond b (down_only d) (quarantines a (rings_in_doubt d) d))
-    ≡ cond b (gone_only d) (quarantines a (rings_in_doubt d) (revoked_only d))
+    revoked_only (cond b (down_only d) (quarantines (is_broken a) (rings_in_doubt d) d))
+    ≡ cond b (gone_only d) (quarantines (is_broken a) (rings_in_doubt d) (revoked_only d))
 unfolding quarantines rebuilt
 revoked_after true a d = refl
 revoked_after false a d = go (is_broken a)
@@ -102,17 +117,17 @@ unfolding with_endpoints all_revoked
 revoked_all d = refl
 
 record_made : (b : Bool) (a : Answer) (d x : Device) →
-    x ≡ cond b (gone_only d) (quarantines a (rings_in_doubt d) (revoked_only d)) →
+    x ≡ cond b (gone_only d) (quarantines (is_broken a) (rings_in_doubt d) (revoked_only d)) →
     marked a (cond b (with_held [] (with_endpoints no_endpoints x)) (with_endpoints (with_active Any 0 (endpoint_map_in d)) x))
-    ≡ cond b (unplugged d) (marked a (quarantines a (rings_in_doubt d) (all_revoked d)))
-unfolding marked quarantines
+    ≡ cond b (unplugged d) (marked a (quarantines (is_broken a) (rings_in_doubt d) (all_revoked d)))
+unfolding marked
 record_made true a d x p = rw p (gone_marked (is_lost a) d)
 record_made false a d x p =
     rw p (ap (marked a) (quarantine_first (is_broken a) (with_active Any 0 (endpoint_map_in d)) (rings_in_doubt d) (revoked_only d) ∙ rw (revoked_all d)))
 
 -- what the end of the course makes of the record
 pub disconnect_made : (d y x : Device) (c n : EndpointMap) (e : CourseEnd) (r : Called) → c ≡ endpoint_map_in d → n ≡ no_endpoints → e.active ≡ 0 →
-    y ≡ cond e.moved (down_only d) (quarantines e.answer (rings_in_doubt d) d) → x ≡ revoked_only y →
+    y ≡ cond e.moved (down_only d) (quarantines (is_broken e.answer) (rings_in_doubt d) d) → x ≡ revoked_only y →
     r ≡ handed e (cond e.moved (with_held [] (with_endpoints n x)) (with_endpoints (with_active Any e.active c) x)) →
     (ctx routes log : List ℕ) → leaves r ctx routes log ≡ ended (disconnect_record d) (arrays.course_leaves e ctx routes log)
 unfolding ended disconnect_record

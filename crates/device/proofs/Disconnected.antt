@@ -28,10 +28,9 @@ use Rattle.record_checks.proofs.Laws.{Apart, apart_none, placed_rings, placed_no
 use Rattle.record_checks.proofs.Together.{SoundRings, rings_ok_left, once_live, once_kept, once_from, once_fits}
 use Rattle.course_steps.specs.End.{End}
 use Rattle.device.specs.declared.record.Device.{Device}
-use Rattle.device.specs.Device.{list_of, endpoint_map_in, held_of, quarantined_of, given_of, Same, keep, put, lost, control_revoked, gone, endpoint_arrays, setting_arrays, ring_array, with_endpoints, with_held, with_quarantined, unusable}
+use Rattle.device.specs.Device.{list_of, endpoint_map_in, held_of, quarantined_of, given_of, Same, keep, put, lost, control_revoked, gone, endpoint_arrays, setting_arrays, ring_array, with_endpoints, with_held, with_quarantined, unusable, quarantines}
 use Rattle.device.specs.Sound.{live_rings, sound}
 use Rattle.device.specs.Left.{marked}
-use Rattle.device.specs.Claim.{quarantines}
 use Rattle.device.specs.Check.{check_marked, disconnect_check}
 use Rattle.device.specs.Disconnect.{all_revoked, unplugged, rings_in_doubt, disconnect_record}
 use Rattle.device.proofs.Facts.{SoundFacts, sound_facts}

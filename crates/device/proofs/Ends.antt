@@ -4,7 +4,7 @@ use mathlib.Core.Bool.{Bool, true, false, cond}
 use mathlib.Core.Logic.{◌⊎◌, inl, inr}
 use mathlib.Core.List.{List}
 use Prim.Native.Nat.{ℕ}
-use Rattle.answer.specs.Answer.{is_accepted, is_broken}
+use Rattle.answer.specs.Answer.{is_accepted, is_lost}
 use Rattle.answer.specs.declared.Answer.{Answer}
 use Rattle.record_endpoint.specs.declared.endpoint_map.EndpointMap.{EndpointMap}
 use Rattle.record_settings.specs.declared.held.Settings.{Settings}
@@ -12,9 +12,9 @@ use Rattle.record_settings.specs.Held.{Held, SettingsAs}
 use Rattle.course_steps.specs.declared.CourseEnd.{CourseEnd}
 use Rattle.device.specs.declared.record.Device.{Device}
 use Rattle.device.specs.declared.record.Called.{Called}
-use Rattle.device.specs.Device.{quarantined_of, keep, put, rebuilt, with_endpoints, with_held, with_configuration, with_quarantined}
+use Rattle.device.specs.Device.{quarantined_of, keep, put, rebuilt, with_endpoints, with_held, with_configuration, with_quarantined, quarantines}
 use Rattle.device.specs.Left.{marked}
-use Rattle.device.specs.Claim.{quarantines}
+use Rattle.device.specs.SetConfiguration.{ended_by}
 
 -- what a call hands back at the end of its course
 abbrev pub handed : CourseEnd → Device → Called
@@ -22,33 +22,34 @@ handed e d = record { device = marked e.answer d; answer = e.answer; count = e.c
 
 -- rings put in quarantine before the endpoints are written
 pub quarantine_first : (b : Bool) (l : EndpointMap) (rings : List ℕ) (d : Device) →
-    with_endpoints l (cond b (with_quarantined rings d) d) ≡ cond b (with_quarantined rings (with_endpoints l d)) (with_endpoints l d)
-unfolding with_endpoints with_quarantined quarantined_of
+    with_endpoints l (quarantines b rings d) ≡ quarantines b rings (with_endpoints l d)
+unfolding quarantines with_endpoints with_quarantined quarantined_of
 quarantine_first true l rings d = refl
 quarantine_first false l rings d = refl
 
 pub else_quarantined :
-    (b : Bool) (a : Answer) (d x : Device) (hs : List Held) (m l : EndpointMap) (rings : List ℕ) → x ≡ cond b d (quarantines a rings d) →
-    cond b (with_held hs (with_endpoints m x)) (with_endpoints l x) ≡ cond b (with_held hs (with_endpoints m d)) (quarantines a rings (with_endpoints l d))
-unfolding quarantines
-else_quarantined true a d x hs m l rings p = rw p
-else_quarantined false a d x hs m l rings p = rw p (quarantine_first (is_broken a) l rings d)
+    (b t : Bool) (d x : Device) (hs : List Held) (m l : EndpointMap) (rings : List ℕ) → x ≡ cond b d (quarantines t rings d) →
+    cond b (with_held hs (with_endpoints m x)) (with_endpoints l x) ≡ cond b (with_held hs (with_endpoints m d)) (quarantines t rings (with_endpoints l d))
+else_quarantined true t d x hs m l rings p = rw p
+else_quarantined false t d x hs m l rings p = rw p (quarantine_first t l rings d)
 
--- a value set before the endpoints and the settings are written
-value_first : (b : Bool) (hs : List Held) (m : EndpointMap) (value : ℕ) (d : Device) →
-    with_held hs (with_endpoints m (cond b (with_configuration value d) d))
-    ≡ cond b (with_configuration value (with_held hs (with_endpoints m d))) (with_held hs (with_endpoints m d))
-unfolding with_held with_endpoints with_configuration
-value_first true hs m value d = refl
-value_first false hs m value d = refl
+-- a value set, or rings put in quarantine, before the endpoints and the settings are written
+ended_first : (b k : Bool) (hs : List Held) (m : EndpointMap) (value : ℕ) (rings : List ℕ) (d : Device) →
+    with_held hs (with_endpoints m (cond b (with_configuration value d) (quarantines k rings d)))
+    ≡ cond b (with_configuration value (with_held hs (with_endpoints m d))) (quarantines k rings (with_held hs (with_endpoints m d)))
+unfolding quarantines with_held with_endpoints with_configuration with_quarantined quarantined_of
+ended_first true k hs m value rings d = refl
+ended_first false true hs m value rings d = refl
+ended_first false false hs m value rings d = refl
 
-pub then_configured :
-    (b : Bool) (a : Answer) (d x : Device) (hs : List Held) (m l : EndpointMap) (value : ℕ) →
-    x ≡ cond b (cond (is_accepted a) (with_configuration value d) d) d →
+pub then_ended :
+    (b : Bool) (a : Answer) (d x : Device) (hs : List Held) (m l : EndpointMap) (value : ℕ) (rings : List ℕ) →
+    x ≡ cond b (ended_by a value rings d) d →
     cond b (with_held hs (with_endpoints m x)) (with_endpoints l x)
-    ≡ cond b (cond (is_accepted a) (with_configuration value (with_held hs (with_endpoints m d))) (with_held hs (with_endpoints m d))) (with_endpoints l d)
-then_configured true a d x hs m l value p = rw p (value_first (is_accepted a) hs m value d)
-then_configured false a d x hs m l value p = rw p
+    ≡ cond b (ended_by a value rings (with_held hs (with_endpoints m d))) (with_endpoints l d)
+unfolding ended_by
+then_ended true a d x hs m l value rings p = rw p (ended_first (is_accepted a) (is_lost a) hs m value rings d)
+then_ended false a d x hs m l value rings p = rw p
 
 -- the record with the arrays of other settings
 abbrev pub holding : Settings → Device → Device

@@ -1,7 +1,7 @@
 -- What claim, release, set configuration and hub update make of a record.
 use Prim.Native.Nat.{ℕ, ◌≤◌, ◌<◌}
 use mathlib.Core.Path.{◌≡◌, refl, sym, ◌∙◌}
-use mathlib.Core.Bool.{Bool, true, false, cond}
+use mathlib.Core.Bool.{Bool, true, false, cond, ◌&&◌}
 use mathlib.Core.List.{List, []}
 use native.Mathlib.Omega.{arith}
 use borrow.Author.Tests.{leb-true}
@@ -9,12 +9,12 @@ use lib.Dec.{leb}
 use lib.ListN.{length, get_or, take, replicate, get_or-replicate}
 use Rattle.laws.specs.Distinct.{elem}
 use Rattle.laws.proofs.Cases.{false_if}
-use Rattle.laws.proofs.Tests.{not_both}
+use Rattle.laws.proofs.Tests.{and_right, not_both}
 use Rattle.laws.proofs.Distinct.{elem_place}
 use Rattle.answer.specs.declared.Answer.{Answer}
 use Rattle.answer.specs.declared.Answer.TheVariants as answer
 use Rattle.answer.specs.Check.{Pass}
-use Rattle.answer.specs.Answer.{number, is_accepted, is_broken, is_lost}
+use Rattle.answer.specs.Answer.{number, is_accepted, is_lost}
 use Rattle.descriptor_list.specs.Lookup.{find_endpoints}
 use Rattle.record_ring.specs.Rings.{rings_ok, disjoint, entered}
 use Rattle.record_ring.specs.Store.{given_ok, lowest, free_rings}
@@ -31,17 +31,17 @@ use Rattle.course_steps.specs.End.{End}
 use Rattle.record_checks.proofs.Together.{rings_ok_elem}
 use Rattle.record_checks.proofs.Laws.{ring_live, apart_none, apart_offered, apart_claimed, apart_released}
 use Rattle.device.specs.declared.record.Device.{Device}
-use Rattle.device.specs.Device.{list_of, endpoint_map_in, held_of, quarantined_of, given_of, free_of, with_endpoints, with_held, with_configuration, unusable}
+use Rattle.device.specs.Device.{list_of, endpoint_map_in, held_of, quarantined_of, given_of, free_of, with_endpoints, with_held, with_configuration, quarantines, unusable}
 use Rattle.device.specs.Sound.{live_rings, sound}
 use Rattle.device.specs.Left.{marked}
 use Rattle.device.specs.Check.{record_check}
-use Rattle.device.specs.Claim.{claim_check, drawn, pending_of, quarantines, claim_record}
+use Rattle.device.specs.Claim.{claim_check, drawn, pending_of, claim_record}
 use Rattle.device.specs.Release.{release_check, release_record}
-use Rattle.device.specs.SetConfiguration.{bare, set_record}
+use Rattle.device.specs.SetConfiguration.{bare, ended_by, set_record}
 use Rattle.device.proofs.Facts.{SoundFacts, sound_facts}
 use Rattle.device.proofs.Laws.{passed, pass_if}
 use Rattle.device.proofs.Updates.{with_quarantined_quarantined}
-use Rattle.device.proofs.Made.{Made, sound_clean, sound_apart, held_made, configured_made, pending_entered, active_made, quarantined_made}
+use Rattle.device.proofs.Made.{Made, sound_clean, sound_apart, held_made, configured_made, pending_entered, active_made, quarantined_made, ended_made}
 
 -- What a passed check of a claim says.
 pub record ClaimPassed (d : Device) (i a : ℕ) : Type 0 where
@@ -136,7 +136,7 @@ claim_stays d ctx routes log i a k e m =
     let words = setting_words (list_of d) i a in
     rw m
     (quarantined_made d t.0.usable t.0.is_sound (Interface i) e.active (pending_rings words rings)
-    (apart_offered words rings (endpoint_map_in d).rings d.control (quarantined_of d) (given_of d) p.offer p.from_given) e.answer)
+    (apart_offered words rings (endpoint_map_in d).rings d.control (quarantined_of d) (given_of d) p.offer p.from_given) e.doubted e.answer)
 
 -- A release that moves its setting.
 pub release_moves :
@@ -163,18 +163,23 @@ release_stays d ctx routes log i k e m =
     rw m (active_made d t.0.usable t.0.is_sound (Interface i) e.active e.answer)
 
 bare_made : (d : Device) → d.usable ≡ true → sound d ≡ true → (value : ℕ) (a : Answer) (b : Bool) →
-    Made d (marked a (cond b (with_configuration value (with_held [] (with_endpoints no_endpoints d))) (with_held [] (with_endpoints no_endpoints d)))) [] no_endpoints (is_lost a)
+    Made d
+    (marked a
+    (cond b (with_configuration value (with_held [] (with_endpoints no_endpoints d)))
+    (quarantines (is_lost a) (queue_rings (queues_of (endpoint_map_in d).rings)) (with_held [] (with_endpoints no_endpoints d)))))
+    [] no_endpoints (is_lost a)
 unfolding no_endpoints
 bare_made d u s value a true =
     configured_made d u s value [] no_endpoints a clean_none (sound_none (list_of d)) (match_none (list_of d)) (apart_none d.control (given_of d))
 bare_made d u s value a false =
-    held_made d u s [] no_endpoints a clean_none (sound_none (list_of d)) (match_none (list_of d)) (apart_none d.control (given_of d))
+    ended_made d u s [] no_endpoints a clean_none (sound_none (list_of d)) (match_none (list_of d)) (apart_none d.control (given_of d))
+    (endpoint_map_in d).rings (sound_apart d s)
 
 -- A set configuration that ends the held settings.
 pub set_moves :
     (d : Device) (ctx routes log value : ℕ) → record_check d ctx routes log Pass ≡ Pass → (e : End) → e.moved ≡ true →
     Made d (set_record d value e) [] no_endpoints (is_lost e.answer)
-unfolding set_record bare
+unfolding set_record bare ended_by
 set_moves d ctx routes log value k e m =
     let t = passed d ctx routes log Pass k in
     rw m (bare_made d t.0.usable t.0.is_sound value e.answer (is_accepted e.answer))
@@ -201,21 +206,33 @@ claim_entered d ctx routes log i a k =
     pending_entered d t.0.usable t.0.is_sound (pending_rings words rings)
     (apart_offered words rings (endpoint_map_in d).rings d.control (quarantined_of d) (given_of d) p.offer p.from_given)
 
--- After 14 they are quarantined.
+-- Lost with a Configure sent, they are quarantined.
 pub claim_quarantined :
     (d : Device) (ctx routes log i a : ℕ) → record_check d ctx routes log (claim_check d i a Pass) ≡ Pass →
-    (e : End) → e.moved ≡ false → is_broken e.answer ≡ true →
+    (e : End) → e.moved ≡ false → (e.doubted && is_lost e.answer) ≡ true →
     quarantined_of (claim_record d i a (drawn d i a) e) ≡ queue_rings (queues_of (pending_of d i a (drawn d i a)))
 unfolding claim_record marked quarantines unusable with_endpoints quarantined_of
 claim_quarantined d ctx routes log i a k e m b =
     let c = with_active (Interface i) e.active (endpoint_map_in d) in
-    rw (m, b)
+    rw (m, b, and_right e.doubted (is_lost e.answer) b)
     (with_quarantined_quarantined (queue_rings (queues_of (pending_of d i a (drawn d i a)))) (with_endpoints c d)
     ∙ claim_entered d ctx routes log i a k)
+
+-- The rings of the settings that a set configuration ended are quarantined where it is lost.
+pub set_quarantined :
+    (d : Device) (ctx routes log value : ℕ) → record_check d ctx routes log Pass ≡ Pass →
+    (e : End) → e.moved ≡ true → is_accepted e.answer ≡ false → is_lost e.answer ≡ true →
+    quarantined_of (set_record d value e) ≡ queue_rings (queues_of (endpoint_map_in d).rings)
+unfolding set_record bare ended_by quarantines marked unusable with_held with_endpoints quarantined_of
+set_quarantined d ctx routes log value k e m n l =
+    let t = passed d ctx routes log Pass k in
+    rw (m, n, l)
+    (with_quarantined_quarantined (queue_rings (queues_of (endpoint_map_in d).rings)) (with_held [] (with_endpoints no_endpoints d))
+    ∙ pending_entered d t.0.usable t.0.is_sound (endpoint_map_in d).rings (sound_apart d t.0.is_sound))
 
 -- An accepted set configuration keeps its value.
 pub set_value :
     (d : Device) (value : ℕ) (e : End) → e.moved ≡ true → e.answer ≡ answer.Accepted →
     ((set_record d value e).configured ≡ true) × ((set_record d value e).current_config_value ≡ value)
-unfolding set_record marked with_configuration number
+unfolding set_record ended_by marked with_configuration number
 set_value d value e m a = rw (m, a) (refl, refl)

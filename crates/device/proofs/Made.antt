@@ -1,7 +1,7 @@
 -- The records that calls make of a sound one: what they hold, and that they are sound.
 use Prim.Native.Nat.{ℕ, ◌≤◌}
 use mathlib.Core.Path.{◌≡◌, refl, sym, ap, ◌∙◌}
-use mathlib.Core.Bool.{Bool, true, false, not, cond, ◌||◌}
+use mathlib.Core.Bool.{Bool, true, false, not, cond, ◌&&◌}
 use mathlib.Core.List.{List, [], ◌∷◌, ◌++◌}
 use native.Mathlib.Omega.{arith}
 use borrow.Author.Tests.{le-leb}
@@ -12,7 +12,7 @@ use Rattle.laws.specs.Distinct.{elem}
 use Rattle.laws.proofs.Tests.{and_left, and-true, not_both}
 use Rattle.laws.proofs.Distinct.{elem_none, elem_here, elem_cases}
 use Rattle.answer.specs.declared.Answer.{Answer}
-use Rattle.answer.specs.Answer.{is_broken, is_cut, is_lost}
+use Rattle.answer.specs.Answer.{is_lost}
 use Rattle.descriptor_list.specs.Companions.{valid_at}
 use Rattle.record_ring.specs.Rings.{ring_ok, entered}
 use Rattle.record_ring.proofs.Entered.{entered_none, elem_left, elem_right, elem_either}
@@ -29,10 +29,9 @@ use Rattle.record_checks.proofs.Laws.{Apart, placed_given, control_ok, clean_in,
 use Rattle.record_checks.proofs.Together.{SoundRings, rings_sound as rings_sound_told}
 use Rattle.record_checks.proofs.Stored.{SoundStore, store_sound as store_sound_told}
 use Rattle.device.specs.declared.record.Device.{Device}
-use Rattle.device.specs.Device.{words_of, list_of, endpoint_map_in, held_of, quarantined_of, given_of, Same, keep, put, lost, valued, endpoint_arrays, setting_arrays, ring_array, with_endpoints, with_held, with_configuration, with_quarantined, unusable}
+use Rattle.device.specs.Device.{words_of, list_of, endpoint_map_in, held_of, quarantined_of, given_of, Same, keep, put, lost, valued, endpoint_arrays, setting_arrays, ring_array, with_endpoints, with_held, with_configuration, with_quarantined, quarantines, unusable}
 use Rattle.device.specs.Sound.{slot_sound, counts_fit, lists_sound, live_rings, rings_sound, store_sound, sound}
 use Rattle.device.specs.Left.{marked}
-use Rattle.device.specs.Claim.{quarantines}
 use Rattle.device.proofs.Counts.{sound_counts_lem}
 use Rattle.device.proofs.Facts.{SoundFacts, sound_facts, none_quarantined}
 use Rattle.device.proofs.Updates.{same_self, same_then, same_list, rebuilt_same, live_of, with_endpoints_map, with_endpoints_live, with_held_held, with_quarantined_quarantined}
@@ -281,6 +280,82 @@ module _ (d : Device) (u : d.usable ≡ true) (s : sound d ≡ true) where
       claim_sound (endpoint_map_in d).rings d.control (given_of d) (sound_control d s) (sound_apart d s) by false kept (λ t. not_both false t refl) in
       rw (none_quarantined d u s) (entered_none (queue_rings (queues_of by)) (rw (queue_rings_lem by) rings.apart))
 
+  -- A record made of d, where it is lost with rings in quarantine if they are in doubt.
+  module _ (e : Device) (hs : List Held) (c : EndpointMap) (b : Base d e hs c) (v : e.up ≡ d.up) (w : e.usable ≡ true)
+      (q : quarantined_of e ≡ quarantined_of d) (apart : Apart c.rings d.control (given_of d))
+      (settings : settings_sound (list_of d) hs ≡ true) (match : endpoints_match (list_of d) hs c ≡ true)
+      (by : List ℕ) (kept : Apart by d.control (given_of d)) where
+    broken : Device
+    broken = with_quarantined (queue_rings (queues_of by)) e
+
+    broken_entered : entered (quarantined_of e) (queue_rings (queues_of by)) ≡ placed_rings by
+    broken_entered = rw q (pending_entered by kept ∙ queue_rings_lem by)
+
+    broken_rings : quarantined_of broken ≡ placed_rings by
+    unfolding broken
+    broken_rings = with_quarantined_quarantined (queue_rings (queues_of by)) e ∙ broken_entered
+
+    broken_few : length (entered (quarantined_of e) (queue_rings (queues_of by))) ≤ 61
+    broken_few = rw broken_entered (omega (arith, placed_few by))
+
+    broken_same : Same d broken
+    unfolding broken with_quarantined
+    broken_same =
+        same_then d e broken b.same
+        (rebuilt_same keep keep keep (put (ring_array (entered (quarantined_of e) (queue_rings (queues_of by))))) e)
+
+    broken_base : Base d (unusable broken) hs c
+    unfolding broken with_quarantined unusable held_of endpoint_map_in live_of quarantined_of
+    broken_base =
+        record {
+          same = same_then d broken (unusable broken) broken_same (rebuilt_same lost keep keep keep broken);
+          held = b.held;
+          endpoints = b.endpoints;
+          live = b.live;
+          count = b.count;
+          few = broken_few;
+          rings = rw broken_rings
+              (claim_sound c.rings d.control (given_of d) (sound_control d s) apart by false kept (λ t. not_both false t refl));
+          store = rw broken_rings (given_store d c.rings (placed_rings by) s apart (placed_given by d.control (given_of d) kept));
+        }
+
+    broken_sound : sound (unusable broken) ≡ true
+    broken_sound = base_sound d (unusable broken) hs c s broken_base settings match
+
+    whole_sound : sound e ≡ true
+    whole_sound = base_sound d e hs c s b settings match
+
+    lost_cond : (t k : Bool) → Made d (cond k (unusable (cond (t && k) broken e)) (cond (t && k) broken e)) hs c k
+    unfolding broken with_quarantined held_of endpoint_map_in
+    lost_cond true true = made_cond d broken hs c true broken_same v w b.held b.endpoints broken_sound
+    lost_cond true false = made_cond d e hs c false b.same v w b.held b.endpoints whole_sound
+    lost_cond false k = made_cond d e hs c k b.same v w b.held b.endpoints (sound_cond e k whole_sound)
+
+    doubted_made : (t : Bool) (a : Answer) →
+        Made d (marked a (quarantines (t && is_lost a) (queue_rings (queues_of by)) e)) hs c (is_lost a)
+    unfolding marked quarantines broken
+    doubted_made t a = lost_cond t (is_lost a)
+
+  held_up : (hs : List Held) (c : EndpointMap) → (with_held hs (with_endpoints c d)).up ≡ d.up
+  unfolding with_held with_endpoints
+  held_up hs c = refl
+
+  held_usable : (hs : List Held) (c : EndpointMap) → (with_held hs (with_endpoints c d)).usable ≡ true
+  unfolding with_held with_endpoints
+  held_usable hs c = u
+
+  held_quarantined : (hs : List Held) (c : EndpointMap) → quarantined_of (with_held hs (with_endpoints c d)) ≡ quarantined_of d
+  unfolding with_held with_endpoints quarantined_of
+  held_quarantined hs c = refl
+
+  -- Other settings and endpoints, and where it is lost rings in quarantine.
+  pub ended_made : (hs : List Held) (c : EndpointMap) (a : Answer) → CleanMap c → settings_sound (list_of d) hs ≡ true →
+      endpoints_match (list_of d) hs c ≡ true → Apart c.rings d.control (given_of d) → (by : List ℕ) → Apart by d.control (given_of d) →
+      Made d (marked a (quarantines (is_lost a) (queue_rings (queues_of by)) (with_held hs (with_endpoints c d)))) hs c (is_lost a)
+  ended_made hs c a clean settings match apart by kept =
+      doubted_made (with_held hs (with_endpoints c d)) hs c (held_base hs c clean apart) (held_up hs c) (held_usable hs c) (held_quarantined hs c) apart
+      settings match by kept true a
+
   module _ (who : Owner) (n : ℕ) where
     abbrev active : EndpointMap
     active = with_active who n (endpoint_map_in d)
@@ -306,6 +381,10 @@ module _ (d : Device) (u : d.usable ≡ true) (s : sound d ≡ true) where
     unfolding revoked with_endpoints
     revoked_usable = u
 
+    revoked_quarantined : quarantined_of revoked ≡ quarantined_of d
+    unfolding revoked with_endpoints quarantined_of
+    revoked_quarantined = refl
+
     revoked_sound : sound revoked ≡ true
     revoked_sound = base_sound d revoked (held_of d) active s revoked_base (sound_facts d s).settings active_match
 
@@ -317,59 +396,11 @@ module _ (d : Device) (u : d.usable ≡ true) (s : sound d ≡ true) where
         let b = revoked_base in
         made_marked d revoked (held_of d) active a b.same revoked_up revoked_usable b.held b.endpoints revoked_sound
 
-    -- The same, with rings in quarantine after 14.
-    module _ (by : List ℕ) (kept : Apart by d.control (given_of d)) where
-      broken : Device
-      broken = with_quarantined (queue_rings (queues_of by)) revoked
-
-      broken_entered : entered (quarantined_of revoked) (queue_rings (queues_of by)) ≡ placed_rings by
-      unfolding revoked with_endpoints quarantined_of
-      broken_entered = pending_entered by kept ∙ queue_rings_lem by
-
-      broken_rings : quarantined_of broken ≡ placed_rings by
-      unfolding broken
-      broken_rings = with_quarantined_quarantined (queue_rings (queues_of by)) revoked ∙ broken_entered
-
-      broken_few : length (entered (quarantined_of revoked) (queue_rings (queues_of by))) ≤ 61
-      broken_few = rw broken_entered (omega (arith, placed_few by))
-
-      broken_same : Same d broken
-      unfolding broken with_quarantined
-      broken_same =
-          same_then d revoked broken revoked_base.same
-          (rebuilt_same keep keep keep (put (ring_array (entered (quarantined_of revoked) (queue_rings (queues_of by))))) revoked)
-
-      broken_base : Base d (unusable broken) (held_of d) active
-      unfolding broken with_quarantined unusable held_of endpoint_map_in live_of quarantined_of
-      broken_base =
-          let b = revoked_base in
-          record {
-            same = same_then d broken (unusable broken) broken_same (rebuilt_same lost keep keep keep broken);
-            held = b.held;
-            endpoints = b.endpoints;
-            live = b.live;
-            count = b.count;
-            few = broken_few;
-            rings = rw broken_rings
-                (claim_sound active.rings d.control (given_of d) (sound_control d s) active_apart by false kept (λ t. not_both false t refl));
-            store = rw broken_rings (given_store d active.rings (placed_rings by) s active_apart (placed_given by d.control (given_of d) kept));
-          }
-
-      broken_sound : sound (unusable broken) ≡ true
-      broken_sound = base_sound d (unusable broken) (held_of d) active s broken_base (sound_facts d s).settings active_match
-
-      quarantined_cond : (b k : Bool) →
-          Made d (cond (b || k) (unusable (cond b broken revoked)) (cond b broken revoked)) (held_of d) active (b || k)
-      unfolding broken with_quarantined held_of endpoint_map_in
-      quarantined_cond true k =
-          let b = revoked_base in
-          made_cond d broken (held_of d) active true broken_same revoked_up revoked_usable b.held b.endpoints broken_sound
-      quarantined_cond false k =
-          let b = revoked_base in
-          made_cond d revoked (held_of d) active k b.same revoked_up revoked_usable b.held b.endpoints
-          (sound_cond revoked k revoked_sound)
-
-      pub quarantined_made : (a : Answer) →
-          Made d (marked a (quarantines a (queue_rings (queues_of by)) (with_endpoints (with_active who n (endpoint_map_in d)) d))) (held_of d) (with_active who n (endpoint_map_in d)) (is_lost a)
-      unfolding quarantines marked broken revoked
-      quarantined_made a = quarantined_cond (is_broken a) (is_cut a)
+    -- The same, where it is lost with rings in quarantine if they are in doubt.
+    pub quarantined_made : (by : List ℕ) → Apart by d.control (given_of d) → (t : Bool) (a : Answer) →
+        Made d (marked a (quarantines (t && is_lost a) (queue_rings (queues_of by)) (with_endpoints (with_active who n (endpoint_map_in d)) d))) (held_of d)
+        (with_active who n (endpoint_map_in d)) (is_lost a)
+    unfolding revoked
+    quarantined_made by kept t a =
+        doubted_made revoked (held_of d) active revoked_base revoked_up revoked_usable revoked_quarantined active_apart (sound_facts d s).settings active_match
+        by kept t a

@@ -1,8 +1,7 @@
 -- The claim of an interface's alternate setting, with free rings drawn for its endpoint words.
-use Rattle.std.specs.Prelude.{ℕ, cond, List, [], length}
-use Rattle.answer.specs.declared.Answer.{Answer}
+use Rattle.std.specs.Prelude.{ℕ, cond, ◌&&◌, List, [], length}
 use Rattle.answer.specs.Check.{Check, Pass}
-use Rattle.answer.specs.Answer.{is_broken}
+use Rattle.answer.specs.Answer.{is_lost}
 use Rattle.command.specs.Course.{played}
 use Rattle.record_endpoint.specs.declared.endpoint_map.Owner.TheVariants.{Interface}
 use Rattle.record_endpoint.specs.EndpointMap.{owned_rings, queues_of, queue_dcis, queue_rings, pending_rings, claimed_endpoints, with_active}
@@ -13,7 +12,7 @@ use Rattle.course_steps.specs.End.{End}
 use Rattle.course_claim.specs.declared.ClaimArgs.{ClaimArgs}
 use Rattle.course_claim.specs.Claim.{Claim, claim_course}
 use Rattle.device.specs.declared.record.Device.{Device}
-use Rattle.device.specs.Device.{list_of, endpoint_map_in, held_of, free_of, with_endpoints, with_held, with_quarantined}
+use Rattle.device.specs.Device.{list_of, endpoint_map_in, held_of, free_of, with_endpoints, with_held, quarantines}
 use Rattle.device.specs.Left.{Left, refused, marked, ended}
 use Rattle.device.specs.Check.{record_check}
 use Rattle.device.specs.Calls.{on_check}
@@ -55,18 +54,15 @@ claim_in d interface alternate rings =
       dcis = queue_dcis (queues_of (endpoint_map_in d).rings);
     }
 
--- After 14 the pending rings are quarantined, by rising address.
-unfoldable pub quarantines : Answer → List ℕ → Device → Device
-quarantines a rings d = cond (is_broken a) (with_quarantined rings d) d
-
--- The record that the end of its course makes.
+-- The record that the end of its course makes: where it is lost with a Configure sent, the pending rings are quarantined, by rising address.
 unfoldable pub claim_record : Device → ℕ → ℕ → List ℕ → End → Device
 claim_record d interface alternate rings e =
     let pending = pending_of d interface alternate rings in
     marked e.answer
     (cond e.moved
     (with_held (with_setting interface alternate (held_of d)) (with_endpoints (claimed_endpoints interface pending (endpoint_map_in d)) d))
-    (quarantines e.answer (queue_rings (queues_of pending)) (with_endpoints (with_active (Interface interface) e.active (endpoint_map_in d)) d)))
+    (quarantines (e.doubted && is_lost e.answer) (queue_rings (queues_of pending))
+    (with_endpoints (with_active (Interface interface) e.active (endpoint_map_in d)) d)))
 
 -- The course with some rings, and the record that its end makes; the checks have passed.
 abbrev pub claim_run : Device → List ℕ → List ℕ → List ℕ → List ℕ → ℕ → ℕ → List ℕ → Left

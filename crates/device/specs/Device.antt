@@ -1,5 +1,5 @@
 -- What a record says, and what a call makes of it.
-use Rattle.std.specs.Prelude.{ℕ, ◌≡◌, Bool, true, false, List, length, take, replicate}
+use Rattle.std.specs.Prelude.{ℕ, ◌≡◌, Bool, true, false, cond, List, length, take, replicate}
 use Rattle.descriptor_list.specs.Valid.{LIST-ROOM}
 use Rattle.descriptor_list.specs.Companions.{joined}
 use Rattle.record_ring.specs.Rings.{RING-ROOM, entered}
@@ -214,3 +214,7 @@ with_held hs d = rebuilt keep keep keep (put (setting_arrays hs)) keep d
 unfoldable pub with_quarantined : List ℕ → Device → Device
 unfolding rebuilt ring_array
 with_quarantined rings d = rebuilt keep keep keep keep (put (ring_array (entered (quarantined_of d) rings))) d
+
+-- The same where they are in doubt.
+unfoldable pub quarantines : Bool → List ℕ → Device → Device
+quarantines doubted rings d = cond doubted (with_quarantined rings d) d

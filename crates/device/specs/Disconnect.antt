@@ -1,16 +1,16 @@
 -- The unplugging of a device.
 use Rattle.std.specs.Prelude.{ℕ, cond, List, [], ◌∷◌, length}
+use Rattle.answer.specs.Answer.{is_broken}
 use Rattle.command.specs.Course.{played}
 use Rattle.record_endpoint.specs.declared.endpoint_map.Owner.TheVariants.{Any}
 use Rattle.record_endpoint.specs.EndpointMap.{queues_of, queue_dcis, queue_rings, no_endpoints, with_active}
 use Rattle.course_steps.specs.End.{End}
 use Rattle.course_disconnect.specs.Disconnect.{disconnect_course}
 use Rattle.device.specs.declared.record.Device.{Device}
-use Rattle.device.specs.Device.{endpoint_map_in, keep, put, rebuilt, control_revoked, gone, endpoint_arrays, setting_arrays}
+use Rattle.device.specs.Device.{endpoint_map_in, keep, put, rebuilt, control_revoked, gone, endpoint_arrays, setting_arrays, quarantines}
 use Rattle.device.specs.Left.{Left, refused, marked, ended}
 use Rattle.device.specs.Check.{disconnect_check}
 use Rattle.device.specs.Calls.{on_check}
-use Rattle.device.specs.Claim.{quarantines}
 
 -- The record with control and every endpoint revoked.
 unfoldable pub all_revoked : Device → Device
@@ -29,7 +29,7 @@ rings_in_doubt d = d.control ∷ queue_rings (queues_of (endpoint_map_in d).ring
 -- The record that the end of its course makes.
 unfoldable pub disconnect_record : Device → End → Device
 disconnect_record d e =
-    cond e.moved (unplugged d) (marked e.answer (quarantines e.answer (rings_in_doubt d) (all_revoked d)))
+    cond e.moved (unplugged d) (marked e.answer (quarantines (is_broken e.answer) (rings_in_doubt d) (all_revoked d)))
 
 -- The course, and the record that its end makes; the checks have passed.
 abbrev pub disconnect_run : Device → List ℕ → List ℕ → List ℕ → List ℕ → Left

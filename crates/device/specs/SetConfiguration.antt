@@ -2,14 +2,15 @@
 use Rattle.std.specs.Prelude.{ℕ, cond, List, [], length}
 use Rattle.command.specs.Course.{played}
 use Rattle.record_endpoint.specs.declared.endpoint_map.Owner.TheVariants.{Any}
-use Rattle.record_endpoint.specs.EndpointMap.{queues_of, no_endpoints, with_active}
+use Rattle.record_endpoint.specs.EndpointMap.{queues_of, queue_rings, no_endpoints, with_active}
 use Rattle.record_settings.specs.Held.{held_words}
 use Rattle.course_steps.specs.End.{End}
 use Rattle.course_set_configuration.specs.SetConfiguration.{Settings, set_course}
+use Rattle.answer.specs.declared.Answer.{Answer}
 use Rattle.answer.specs.Check.{Pass}
-use Rattle.answer.specs.Answer.{is_accepted}
+use Rattle.answer.specs.Answer.{is_accepted, is_lost}
 use Rattle.device.specs.declared.record.Device.{Device}
-use Rattle.device.specs.Device.{list_of, endpoint_map_in, held_of, with_endpoints, with_held, with_configuration}
+use Rattle.device.specs.Device.{list_of, endpoint_map_in, held_of, with_endpoints, with_held, with_configuration, quarantines}
 use Rattle.device.specs.Left.{Left, refused, marked, ended}
 use Rattle.device.specs.Check.{record_check}
 use Rattle.device.specs.Calls.{on_check}
@@ -30,12 +31,17 @@ settings_in d value =
 unfoldable pub bare : Device → Device
 bare d = with_held [] (with_endpoints no_endpoints d)
 
--- The record that the end of its course makes: the value is set where the last Evaluate is done.
+-- The record whose settings were ended, by the answer: with the value where the last Evaluate is done, and where it is lost with their
+-- rings in quarantine.
+unfoldable pub ended_by : Answer → ℕ → List ℕ → Device → Device
+ended_by a value rings d = cond (is_accepted a) (with_configuration value d) (quarantines (is_lost a) rings d)
+
+-- The record that the end of its course makes: the rings are those of its endpoints, by rising address.
 unfoldable pub set_record : Device → ℕ → End → Device
 set_record d value e =
     marked e.answer
     (cond e.moved
-    (cond (is_accepted e.answer) (with_configuration value (bare d)) (bare d))
+    (ended_by e.answer value (queue_rings (queues_of (endpoint_map_in d).rings)) (bare d))
     (with_endpoints (with_active Any e.active (endpoint_map_in d)) d))
 
 -- The course, and the record that its end makes; the checks have passed.

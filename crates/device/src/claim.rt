@@ -1,6 +1,7 @@
 // The claim of an interface's alternate setting.
-ghost use Rattle.std.specs.Prelude.{◌≡◌, ◌≤◌, ℕ, List, [], Some, Ok, length, take};
+ghost use Rattle.std.specs.Prelude.{◌≡◌, ◌≤◌, ℕ, List, [], Some, Ok, true, false, length, take};
 ghost use Rattle.std.specs.Option.{option_map_or};
+ghost use Rattle.answer.specs.Answer.{is_lost};
 ghost use Rattle.answer.specs.Check.{Pass, check_of, CheckedAs};
 ghost use Rattle.descriptor_list.specs.declared.EndpointWords as words;
 ghost use Rattle.descriptor_list.specs.Companions.{joined, Joinable};
@@ -137,7 +138,7 @@ pub fn old_words(list: &[u32], a: ClaimArgs) -> SettingWords
     }
 }
 
-// The end of the course makes the record; where the settings did not move, 14 puts the pending rings in quarantine.
+// The end of the course makes the record; where it is lost with a Configure sent, the pending rings go in quarantine.
 fn claim_end(
     mut d: Device,
     c: EndpointMap,
@@ -149,15 +150,14 @@ fn claim_end(
 ) -> Called
     requires held_count_bound { (d.held_count ≤ HELD-ROOM) × (length (with_setting interface alternate (held_of d)) ≤ HELD-ROOM) }
     requires c_value { (c ≡ endpoint_map_in d) × (entered (quarantined_of d) (take q.count q.rings) ≡ take q.count q.rings) × QueuesAs q pending }
+    requires doubted { e.doubted ≡ true → (e.moved ≡ false) × (is_lost e.answer ≡ true) }
     ensures { (ctx routes log rings : List ℕ) → pending ≡ pending_of d interface alternate rings →
         leaves result ctx routes log ≡ ended (claim_record d interface alternate rings) (arrays.course_leaves e ctx routes log) }
 {
     let held = d.settings().with_setting(interface, alternate);
     let claimed = record_endpoint::claimed_endpoints(interface, pending, c);
-    if !e.moved && e.answer == Answer::InterfaceBroken {
-        let quarantined = record_endpoint::padded(q.rings(), 0);
-        d.quarantined = quarantined;
-        d.quarantined_count = q.count;
+    if e.doubted {
+        d = update::quarantined(d, q);
     }
     update::at_end(d, c, e, Owner::Interface(interface), claimed, held)
 }

@@ -1,9 +1,9 @@
 // The setting of a configuration, which ends all held settings.
-ghost use Rattle.std.specs.Prelude.{◌≡◌, cond};
-ghost use Rattle.device.specs.Device.{with_configuration};
-ghost use Rattle.answer.specs.Answer.{is_accepted};
+ghost use Rattle.std.specs.Prelude.{◌≡◌, cond, take};
+ghost use Rattle.record_ring.specs.Rings.{entered};
+ghost use Rattle.device.specs.Device.{quarantined_of};
 ghost use Rattle.device.specs.Left.{leaves};
-ghost use Rattle.device.specs.SetConfiguration.{set_configuration};
+ghost use Rattle.device.specs.SetConfiguration.{ended_by, set_configuration};
 
 use super::record::{Called, Device};
 use super::{endpoint_map, update};
@@ -11,19 +11,27 @@ use answer::Answer;
 use course_set_configuration::{SettingsArgs, run_set_configuration};
 use course_steps::CourseEnd;
 use record_checks::Lengths;
-use record_endpoint::Owner;
+use record_endpoint::{Owner, Queues};
 use record_settings::Settings;
 
-// The value is the record's where the settings moved and the call is accepted.
-#[tactic(auto, unfolding(crate::specs::Device::with_configuration, answer::specs::Answer::number))]
-fn configured(mut d: Device, e: CourseEnd, value: u8) -> Device
-    ensures { result ≡ cond e.moved (cond (is_accepted e.answer) (with_configuration value d) d) d }
+// Where the settings moved: the value is the record's if the call is accepted; if it is lost, the ended endpoints' rings go in quarantine.
+#[tactic(auto, unfolding(crate::specs::SetConfiguration::ended_by, crate::specs::Device::quarantines, crate::specs::Device::with_configuration, answer::specs::Answer::number))]
+fn configured(mut d: Device, e: CourseEnd, value: u8, q: Queues) -> Device
+    requires { entered (quarantined_of d) (take q.count q.rings) ≡ take q.count q.rings }
+    ensures { result ≡ cond e.moved (ended_by e.answer value (take q.count q.rings) d) d }
 {
-    if e.moved && e.answer == Answer::Accepted {
-        d.configured = true;
-        d.current_config_value = value;
+    if !e.moved {
+        return d;
     }
-    d
+    match e.answer {
+        Answer::Accepted => {
+            d.configured = true;
+            d.current_config_value = value;
+            d
+        }
+        Answer::InterfaceBroken | Answer::Cut => update::quarantined(d, q),
+        _ => d,
+    }
 }
 
 impl Device {
@@ -57,7 +65,7 @@ impl Device {
             old: record_endpoint::queues_of(c.rings),
         };
         let e = run_set_configuration(ctx, routes, log, outcomes, 0, args, self.list());
-        self = configured(self, e, value);
+        self = configured(self, e, value, args.old);
         update::at_end(
             self,
             c,

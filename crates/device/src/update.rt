@@ -1,14 +1,15 @@
 // What a refusal and the end of a course make of a record.
-ghost use Rattle.std.specs.Prelude.{◌≡◌, cond, List};
+ghost use Rattle.std.specs.Prelude.{◌≡◌, cond, List, take};
 ghost use Rattle.record_endpoint.specs.EndpointMap.{with_active};
+ghost use Rattle.record_ring.specs.Rings.{entered};
 ghost use Rattle.record_settings.specs.Held.{Held, SettingsAs};
-ghost use Rattle.device.specs.Device.{with_endpoints, with_held};
+ghost use Rattle.device.specs.Device.{quarantined_of, with_endpoints, with_held, with_quarantined};
 ghost use Rattle.device.specs.Left.{marked};
 
 use super::record::{Called, Device};
 use answer::Answer;
 use course_steps::CourseEnd;
-use record_endpoint::{EndpointMap, Endpoints, Owner};
+use record_endpoint::{EndpointMap, Endpoints, Owner, Queues};
 use record_settings::Settings;
 
 // A refusal changes nothing.
@@ -34,6 +35,17 @@ pub fn marked(mut d: Device, a: Answer) -> Device
         }
         _ => d,
     }
+}
+
+// The rings of some queues in quarantine, which is empty: they enter it as they are.
+pub fn quarantined(mut d: Device, q: Queues) -> Device
+    requires { entered (quarantined_of d) (take q.count q.rings) ≡ take q.count q.rings }
+    ensures { result ≡ with_quarantined (take q.count q.rings) d }
+{
+    let quarantined = record_endpoint::padded(q.rings(), 0);
+    d.quarantined = quarantined;
+    d.quarantined_count = q.count;
+    d
 }
 
 // Other endpoints and held settings where the course moved them, else the owner's endpoints as far as they were made active again.

@@ -86,7 +86,7 @@ current_later code (sent.Failed later) = refl
 current_later code sent.Cut = refl
 
 module _ (a : Claim) where
-  moved : (r : Result Unit RouteError) (ctx routes : List ℕ) → Current (published r answer.InterfaceBroken a.args.slot.0 a.old a.pending ctx routes)
+  moved : (r : Result Unit RouteError) (ctx routes : List ℕ) → Current (published r answer.InterfaceBroken true a.args.slot.0 a.old a.pending ctx routes)
   unfolding published number
   moved (Ok _) ctx routes = refl
   moved (Err _) ctx routes = refl

@@ -33,7 +33,7 @@ use Rattle.record_endpoint.specs.EndpointMap.{owned_rings, queues_of}
 use Rattle.record_endpoint.proofs.Laws.{queues_fit}
 use Rattle.record_settings.specs.Held.{is_held, alternate_of}
 use Rattle.record_checks.specs.Draw.{same_rings}
-use Rattle.course_steps.specs.End.{settings_kept}
+use Rattle.course_steps.specs.End.{settings_doubted}
 use Rattle.course_claim.specs.Claim.{Claim, claim_context, claim_course}
 use Rattle.course_claim.proofs.Contexts.{claim_at_configure}
 use Rattle.device.specs.declared.record.Device.{Device}
@@ -249,7 +249,7 @@ module _ (d : Device) (ctx routes log : List ℕ) (i a : ℕ) (e : ask_check d (
   unfolding ask_check
   ready = (passed d (length ctx) (length routes) (length log) (claim_check d i a Pass) e).0
 
-  cut : CutHere o (claim_course works ctx routes) stops command.Configure (settings_kept answer.Cut 0 (claim_context works ctx) routes)
+  cut : CutHere o (claim_course works ctx routes) stops command.Configure (settings_doubted answer.Cut (claim_context works ctx) routes)
   unfolding works claim_in
   cut = claim_at_configure works ctx routes o (λ k l m. dones_before stops k (omega arith)) (dones_past stops)
 

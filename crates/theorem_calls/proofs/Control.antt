@@ -6,18 +6,18 @@ use mathlib.Core.List.{List}
 use lib.ListN.{length}
 use Rattle.laws.proofs.Tests.{not_both}
 use Rattle.answer.specs.declared.Answer.{Answer}
-use Rattle.answer.specs.Answer.{is_accepted, is_broken, is_lost}
+use Rattle.answer.specs.Answer.{is_accepted, is_lost}
 use Rattle.record_endpoint.specs.declared.entry.Handle.{Handle}
 use Rattle.record_endpoint.specs.declared.entry.Handle.TheVariants.{Revoked}
 use Rattle.course_steps.specs.End.{End}
 use Rattle.device.specs.declared.record.Device.{Device}
-use Rattle.device.specs.Device.{no_device, with_endpoints, with_held, with_configuration, with_quarantined, unusable}
+use Rattle.device.specs.Device.{no_device, with_endpoints, with_held, with_configuration, with_quarantined, quarantines, unusable}
 use Rattle.device.specs.Left.{Left, refused, marked, ended}
 use Rattle.device.specs.Calls.{hub_left, hub_update}
-use Rattle.device.specs.Claim.{quarantines, claim_record, claim}
+use Rattle.device.specs.Claim.{claim_record, claim}
 use Rattle.device.specs.Ask.{commit}
 use Rattle.device.specs.Release.{release_record, release}
-use Rattle.device.specs.SetConfiguration.{bare, set_record, set_configuration}
+use Rattle.device.specs.SetConfiguration.{bare, ended_by, set_record, set_configuration}
 use Rattle.device.specs.Disconnect.{all_revoked, unplugged, disconnect_record, disconnect}
 use Rattle.device_bring_up.specs.BringUp.{brought_record, brought_left, bring_up}
 use Rattle.theorem_slot.specs.Call.{Buffers, Asked, brings_up, claims, commits, releases, configures, updates_hub, disconnects, left}
@@ -37,26 +37,26 @@ mark : {h : Handle} (a : Answer) (d : Device) → Control h d → Control h (mar
 unfolding marked unusable
 mark a d e = either (is_lost a) _ _ e e
 
-in_quarantine : {h : Handle} (a : Answer) (rings : List ℕ) (d : Device) → Control h d → Control h (quarantines a rings d)
+in_quarantine : {h : Handle} (b : Bool) (rings : List ℕ) (d : Device) → Control h d → Control h (quarantines b rings d)
 unfolding quarantines with_quarantined
-in_quarantine a rings d e = either (is_broken a) _ _ e e
+in_quarantine b rings d e = either b _ _ e e
 
 module _ (d : Device) where
   claim_control : (i a : ℕ) (rings : List ℕ) (e : End) → Control d.control_handle (claim_record d i a rings e)
   unfolding claim_record with_held with_endpoints
-  claim_control i a rings e = mark e.answer _ (either e.moved _ _ refl (in_quarantine e.answer _ _ refl))
+  claim_control i a rings e = mark e.answer _ (either e.moved _ _ refl (in_quarantine _ _ _ refl))
 
   release_control : (i : ℕ) (e : End) → Control d.control_handle (release_record d i e)
   unfolding release_record with_held with_endpoints
   release_control i e = mark e.answer _ (either e.moved _ _ refl refl)
 
   set_control : (value : ℕ) (e : End) → Control d.control_handle (set_record d value e)
-  unfolding set_record bare with_held with_endpoints with_configuration
-  set_control value e = mark e.answer _ (either e.moved _ _ (either (is_accepted e.answer) _ _ refl refl) refl)
+  unfolding set_record bare ended_by with_held with_endpoints with_configuration
+  set_control value e = mark e.answer _ (either e.moved _ _ (either (is_accepted e.answer) _ _ refl (in_quarantine _ _ _ refl)) refl)
 
   disconnect_control : (e : End) → Control Revoked (disconnect_record d e)
   unfolding disconnect_record unplugged all_revoked
-  disconnect_control e = either e.moved _ _ refl (mark e.answer _ (in_quarantine e.answer _ _ refl))
+  disconnect_control e = either e.moved _ _ refl (mark e.answer _ (in_quarantine _ _ _ refl))
 
 module _ (b : Buffers) (d : Device) (routes : List ℕ) where
   Says : Asked → Left → Type 0

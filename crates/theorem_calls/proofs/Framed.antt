@@ -8,27 +8,27 @@ use lib.ListN.{length}
 use Rattle.laws.proofs.Tests.{not_both}
 use Rattle.answer.specs.declared.Answer.{Answer}
 use Rattle.answer.specs.declared.Answer.TheVariants as answer
-use Rattle.answer.specs.Answer.{number, is_accepted, is_broken, is_lost}
+use Rattle.answer.specs.Answer.{number, is_accepted, is_lost}
 use Rattle.answer.specs.Check.{Pass}
 use Rattle.command.specs.Course.{result, played}
 use Rattle.record_endpoint.specs.declared.entry.Endpoints.{Endpoints}
 use Rattle.record_endpoint.specs.declared.endpoint_map.EndpointMap.{EndpointMap}
 use Rattle.record_endpoint.specs.declared.endpoint_map.Owner.TheVariants.{Any}
-use Rattle.record_endpoint.specs.EndpointMap.{no_endpoints, with_active}
+use Rattle.record_endpoint.specs.EndpointMap.{queues_of, queue_rings, no_endpoints, with_active}
 use Rattle.record_ring.specs.Rings.{entered}
 use Rattle.record_settings.specs.Held.{Held}
 use Rattle.course_steps.specs.End.{End}
 use Rattle.course_set_configuration.specs.SetConfiguration.{Settings, set_course}
 use Rattle.course_set_configuration.proofs.Laws.{OneAnswer, Answered, set_answers}
 use Rattle.device.specs.declared.record.Device.{Device}
-use Rattle.device.specs.Device.{endpoint_map_in, quarantined_of, Same, Status, HeldArrays, keep, put, rebuilt, lost, valued, control_revoked, gone, endpoint_arrays, setting_arrays, ring_array, unusable, with_configuration, with_endpoints, with_held, with_quarantined}
+use Rattle.device.specs.Device.{endpoint_map_in, quarantined_of, Same, Status, HeldArrays, keep, put, rebuilt, lost, valued, control_revoked, gone, endpoint_arrays, setting_arrays, ring_array, unusable, with_configuration, with_endpoints, with_held, with_quarantined, quarantines}
 use Rattle.device.specs.Left.{Left, refused, marked, ended}
 use Rattle.device.specs.Calls.{hub_left, hub_update}
 use Rattle.device.specs.Check.{record_check}
-use Rattle.device.specs.Claim.{quarantines, claim_record, claim}
+use Rattle.device.specs.Claim.{claim_record, claim}
 use Rattle.device.specs.Ask.{commit}
 use Rattle.device.specs.Release.{release_record, release}
-use Rattle.device.specs.SetConfiguration.{settings_in, bare, set_record, set_run, set_configuration}
+use Rattle.device.specs.SetConfiguration.{settings_in, bare, ended_by, set_record, set_run, set_configuration}
 use Rattle.device.specs.Disconnect.{all_revoked, unplugged, disconnect_record, disconnect}
 use Rattle.device.proofs.Updates.{same_self, same_then, rebuilt_same}
 use Rattle.theorem_slot.specs.Call.{Buffers, Asked, brings_up, claims, commits, releases, configures, updates_hub, disconnects, left}
@@ -96,9 +96,9 @@ framed_marked : (d e : Device) (v : Bool × ℕ) (a : Answer) → Framed d v e �
 unfolding marked
 framed_marked d e v a f = framed_cond (is_lost a) (framed_unusable d e v f) f
 
-framed_quarantines : (d e : Device) (v : Bool × ℕ) (a : Answer) (rings : List ℕ) → Framed d v e → Framed d v (quarantines a rings e)
+framed_quarantines : (d e : Device) (v : Bool × ℕ) (b : Bool) (rings : List ℕ) → Framed d v e → Framed d v (quarantines b rings e)
 unfolding quarantines
-framed_quarantines d e v a rings f = framed_cond (is_broken a) (framed_quarantined d e v f rings) f
+framed_quarantines d e v b rings f = framed_cond b (framed_quarantined d e v f rings) f
 
 module _ (d : Device) where
   abbrev v : Bool × ℕ
@@ -111,7 +111,7 @@ module _ (d : Device) where
   unfolding claim_record
   claim_framed i a rings e =
       framed_marked d _ v e.answer
-      (framed_cond e.moved (framed_held d _ v (self _) _) (framed_quarantines d _ v e.answer _ (self _)))
+      (framed_cond e.moved (framed_held d _ v (self _) _) (framed_quarantines d _ v _ _ (self _)))
 
   release_framed : (i : ℕ) (e : End) → Framed d v (release_record d i e)
   unfolding release_record
@@ -123,15 +123,16 @@ module _ (d : Device) where
 
   set_framed : (value : ℕ) (e : End) → (is_accepted e.answer ≡ true → e.moved ≡ true) →
       Framed d (cond (is_accepted e.answer) (true, value) v) (set_record d value e)
-  unfolding set_record
+  unfolding set_record ended_by
   set_framed value e m = framed_marked d _ _ e.answer (go e.moved (is_accepted e.answer) m)
     where
       go :
           (b accepted : Bool) → (accepted ≡ true → b ≡ true) →
           Framed d (cond accepted (true, value) v)
-          (cond b (cond accepted (with_configuration value (bare d)) (bare d)) (with_endpoints (with_active Any e.active (endpoint_map_in d)) d))
+          (cond b (cond accepted (with_configuration value (bare d)) (quarantines (is_lost e.answer) (queue_rings (queues_of (endpoint_map_in d).rings)) (bare d)))
+          (with_endpoints (with_active Any e.active (endpoint_map_in d)) d))
       go true true n = framed_valued d (bare d) v bare_framed value
-      go true false n = bare_framed
+      go true false n = framed_quarantines d (bare d) v _ _ bare_framed
       go false true n = not_both false (n refl) refl
       go false false n = self _
 
@@ -139,7 +140,7 @@ module _ (d : Device) where
   unfolding disconnect_record
   disconnect_framed e =
       framed_cond e.moved (framed_unplugged d d v (framed_self d))
-      (framed_marked d _ v e.answer (framed_quarantines d _ v e.answer _ (framed_revoked d d v (framed_self d))))
+      (framed_marked d _ v e.answer (framed_quarantines d _ v _ _ (framed_revoked d d v (framed_self d))))
 
 -- An accepted set configuration has moved its settings.
 accepted_moves : (a : Settings) (routes : List ℕ) (e : End) → Answered a routes e → is_accepted e.answer ≡ true → e.moved ≡ true

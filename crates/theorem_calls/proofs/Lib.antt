@@ -6,6 +6,7 @@ pub mod Failed
 pub mod Framed
 pub mod Listed
 pub mod Logged
+pub mod Quarantine
 pub mod Spelled
 pub mod Stays
 mod Steadily

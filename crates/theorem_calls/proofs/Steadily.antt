@@ -50,12 +50,12 @@ address_reads : {P : Type 0} → reads_context (command_word command.Address) �
 unfolding reads_context command_word
 address_reads e = not_both true refl e
 
-published_steady : (refused : Answer) (slot : ℕ) (old new : List Queue) (ctx routes : List ℕ) →
-    EndSteady ctx (ends (move_routes refused slot old new ctx routes))
+published_steady : (refused : Answer) (doubted : Bool) (slot : ℕ) (old new : List Queue) (ctx routes : List ℕ) →
+    EndSteady ctx (ends (move_routes refused doubted slot old new ctx routes))
 unfolding Steady published
-published_steady refused slot old new ctx routes = go (replaced routes slot old new)
+published_steady refused doubted slot old new ctx routes = go (replaced routes slot old new)
   where
-    go : (r : Result Unit RouteError) → (published r refused slot old new ctx routes).ctx ≡ ctx
+    go : (r : Result Unit RouteError) → (published r refused doubted slot old new ctx routes).ctx ≡ ctx
     go (Ok _) = refl
     go (Err _) = refl
 
@@ -81,7 +81,7 @@ module _ (a : Claim) (routes : List ℕ) where
   switch_steady : (ctx : List ℕ) → EndSteady ctx (claim_switch a ctx routes)
   unfolding Steady claim_switch claim_publish
   switch_steady ctx =
-      (λ e. refl, each_outcome (EndSteady ctx) _ _ _ (published_steady _ _ _ _ ctx routes) (λ code. undo_steady code ctx) refl)
+      (λ e. refl, each_outcome (EndSteady ctx) _ _ _ (published_steady _ _ _ _ _ ctx routes) (λ code. undo_steady code ctx) refl)
 
   configure_steady : (ctx : List ℕ) → EndSteady ctx (claim_configure a ctx routes)
   unfolding Steady claim_configure
@@ -105,7 +105,7 @@ module _ (a : Release) (routes : List ℕ) where
   unfolding Steady release_configure release_publish
   release_configure_steady ctx = (
     λ e. configure_reads e,
-    each_outcome (EndSteady _) _ _ _ (published_steady _ _ _ _ _ routes) (λ code. release_resume_steady code _) refl,
+    each_outcome (EndSteady _) _ _ _ (published_steady _ _ _ _ _ _ routes) (λ code. release_resume_steady code _) refl,
   )
 
   pub release_steady : (ctx : List ℕ) → EndSteady ctx (release_course a ctx routes)

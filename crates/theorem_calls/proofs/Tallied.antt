@@ -109,7 +109,7 @@ module _ (a : Claim) (routes : List ℕ) where
   unfolding Follows claim_publish published back number
   published_back ctx = go (replaced routes a.args.slot.0 a.old a.pending)
     where
-      go : (r : Result Unit RouteError) → Q (published r answer.InterfaceBroken a.args.slot.0 a.old a.pending ctx routes) (counted 0 true true)
+      go : (r : Result Unit RouteError) → Q (published r answer.InterfaceBroken true a.args.slot.0 a.old a.pending ctx routes) (counted 0 true true)
       go (Ok _) m = not_both true refl m
       go (Err _) m = refl
 
@@ -173,7 +173,7 @@ module _ (a : Release) (routes : List ℕ) where
   unfolding Follows release_publish published back number
   released_back ctx = go (replaced routes a.slot a.old [])
     where
-      go : (r : Result Unit RouteError) → R (published r answer.InvalidEndpoint a.slot a.old [] ctx routes) (counted 0 true false)
+      go : (r : Result Unit RouteError) → R (published r answer.InvalidEndpoint false a.slot a.old [] ctx routes) (counted 0 true false)
       go (Ok _) m = not_both true refl m
       go (Err _) m = refl
 

@@ -24,7 +24,7 @@ use Rattle.command.proofs.Sweeps.{undo_words, undo_result, stop_words, stop_each
 use Rattle.answer.specs.declared.Answer.TheVariants as answer
 use Rattle.command.proofs.Cuts.{each_outcome}
 use Rattle.record_endpoint.specs.EndpointMap.{queue_dcis}
-use Rattle.course_steps.specs.End.{End, settings_kept}
+use Rattle.course_steps.specs.End.{End, settings_kept, settings_doubted}
 use Rattle.course_claim.specs.Claim.{Claim, claim_context, undo_context, undo_alternate, claim_publish, claim_switch_back, claim_undone, claim_undo, claim_switch, claim_resume, claim_configure, claim_course}
 use Rattle.transfer.specs.declared.RouteError.{RouteError}
 use Rattle.transfer.specs.Routes.{replaced}
@@ -173,7 +173,7 @@ module _ (o : List ℕ) where
         rest : Sent → Course End
         rest s =
             on_sent s (ends (settings_kept (answer.Failed code) (length a.old) ctx routes))
-            (λ later. ends (settings_kept answer.InterfaceBroken 0 ctx routes)) (ends (settings_kept answer.Cut 0 ctx routes))
+            (λ later. ends (settings_doubted answer.InterfaceBroken ctx routes)) (ends (settings_doubted answer.Cut ctx routes))
 
         none : (s : Sent) → words o (n + 1) (rest s) ≡ []
         none s = each_outcome (λ (c : Course End). words o (n + 1) c ≡ []) _ _ _ refl (λ later. refl) refl s
@@ -196,8 +196,8 @@ module _ (o : List ℕ) where
             (s : Sent) →
             words o (n + 1) (claim_undone a code next routes) ≡ cond (is_some a.args.held_alternate) (log_word 6 a.args.interface (undo_alternate a) ∷ []) [] →
             words o (n + 1)
-            (on_sent s (claim_undone a code next routes) (λ later. ends (settings_kept answer.InterfaceBroken 0 next routes))
-            (ends (settings_kept answer.Cut 0 next routes)))
+            (on_sent s (claim_undone a code next routes) (λ later. ends (settings_doubted answer.InterfaceBroken next routes))
+            (ends (settings_doubted answer.Cut next routes)))
             ≡ back_words s
         go Done e = e
         go (Failed later) e = refl

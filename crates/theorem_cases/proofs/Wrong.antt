@@ -20,6 +20,7 @@ use Rattle.theorem_cases.specs.DevicePaths.{all_dropped, ended}
 use Rattle.theorem_cases.specs.Example.{ctx, log, alone, second}
 use Rattle.theorem_cases.specs.Example as example
 use Rattle.theorem_cases.specs.Faults.{faults, told, try, crowded, asked_of, fit, faults_hold}
+use Rattle.theorem_cases.specs.Doubted.{held_either, held_as, control, rings_hold}
 use Rattle.theorem_cases.specs.Given.{numbers, releasings, configurings}
 use Rattle.theorem_cases.specs.Lists.{ListOfCalls, first_claim, hears, holding, route, alternates, while_up, none, device, listed_holds}
 use Rattle.theorem_cases.specs.Path.{path, path_holds, paths_of, none_missing, done, cut, fails, device_of, table_of}
@@ -86,6 +87,22 @@ wrong_lists =
     (while_up (first_claim ∷ hears (claims 0 1) (0 ∷ 0 ∷ 7 ∷ 5 ∷ []) answer.InterfaceBroken ∷ [])
     (holding 0 0 ∷ []) (route 3 32 ∷ []) (3 ∷ 4 ∷ []) true
     (48 ∷ 64 ∷ 80 ∷ 96 ∷ []) [] (known 1) (alternates unknown (known 0) (known 0)))
+    -- after one that is cut at its Configure they are free
+    ∷ listed_holds
+    (while_up (first_claim ∷ hears (claims 0 1) (0 ∷ []) answer.Cut ∷ []) (holding 0 0 ∷ []) (route 3 32 ∷ []) (3 ∷ []) true
+    (48 ∷ 64 ∷ 80 ∷ 96 ∷ []) [] (known 1) (alternates (known 0) (known 0) (known 0)))
+    -- and after one that is cut in a Resume once its Configure failed
+    ∷ listed_holds
+    (while_up (first_claim ∷ hears (claims 0 1) (0 ∷ 7 ∷ []) answer.Cut ∷ []) (holding 0 0 ∷ []) (route 3 32 ∷ []) (3 ∷ []) true
+    (48 ∷ 64 ∷ 80 ∷ 96 ∷ []) [] (known 1) (alternates (known 0) (known 0) (known 0)))
+    -- the ring that a repeated address does not keep is in quarantine too
+    ∷ listed_holds
+    (while_up (hears (claims 2 0) (0 ∷ []) answer.Cut ∷ []) [] [] (7 ∷ []) true
+    (64 ∷ 80 ∷ 96 ∷ []) (32 ∷ 48 ∷ []) (known 1) (alternates (known 0) (known 0) unknown))
+    -- the rings that a broken set configuration ended are free
+    ∷ listed_holds
+    (while_up (first_claim ∷ hears (configures 1) (0 ∷ 0 ∷ 0 ∷ 7 ∷ []) answer.InterfaceBroken ∷ []) [] [] [] true
+    (32 ∷ 48 ∷ 64 ∷ 80 ∷ 96 ∷ []) [] (known 1) (alternates (known 0) (known 0) (known 0)))
     -- a release of an interface that holds nothing is accepted, and the controller drops a held endpoint of the same address
     ∷ listed_holds
     (while_up (first_claim ∷ hears (releases 1) example.done answer.Accepted ∷ []) (holding 0 0 ∷ []) (route 3 32 ∷ []) [] false
@@ -117,6 +134,22 @@ wrong_lists =
     (48 ∷ 64 ∷ 80 ∷ 96 ∷ []) [] (known 1) (alternates (known 1) (known 0) (known 0)))
     ∷ []
 
+abbrev pub wrong_rings : List Bool
+wrong_rings =
+    -- after a claim that is cut at its Configure, which acted, the controller has the old ring
+    rings_hold
+    (held_as (first_claim ∷ hears (claims 0 1) (0 ∷ []) answer.Cut ∷ []) (control (route 3 32 ∷ [])) (control (route 3 32 ∷ [])))
+    -- after one whose Configure failed it has the new ones
+    ∷ rings_hold
+    (held_either (first_claim ∷ hears (claims 0 1) (0 ∷ 7 ∷ 0 ∷ []) (answer.Failed 7) ∷ []) (control (route 3 48 ∷ route 4 64 ∷ [])))
+    -- an endpoint that is dropped and added has none
+    ∷ rings_hold (held_either (first_claim ∷ hears (claims 0 1) example.done answer.Accepted ∷ []) (control (route 4 64 ∷ [])))
+    -- of a repeated address it has the first word's ring
+    ∷ rings_hold (held_either (hears (claims 2 0) example.done answer.Accepted ∷ []) (control (route 7 32 ∷ [])))
+    -- after an unplugging it has control's
+    ∷ rings_hold (held_either (first_claim ∷ hears disconnects example.done answer.Accepted ∷ []) (control []))
+    ∷ []
+
 abbrev pub wrong_paths : List Bool
 wrong_paths =
     -- another slot's route is out after a release
@@ -131,7 +164,7 @@ wrong_paths =
     -- a set configuration sends 1, whatever value was asked for
     ∷ path_holds held (configures 2)
     (path (all_dropped (done (set_value 1) ∷ done evaluate ∷ [])) answer.Accepted
-    (telling (known 1) first_alternates (with_value 2 (ended true))))
+    (telling (known 1) first_alternates (with_value 2 (ended true []))))
     -- a claim goes on past a failed Stop
     ∷ path_holds held (claims 0 0)
     (path (fails 7 (stop 4) ∷ done (stop 3) ∷ done configure ∷ done (set_interface 0 0) ∷ []) answer.Accepted held)

@@ -25,10 +25,11 @@ all_dropped rest = all_stopped (done configure ∷ rest)
 abbrev pub not_set : List Sent → List Sent
 not_set rest = all_dropped (fails 7 (set_value 2) ∷ rest)
 
--- The settings are ended once SetConfiguration is done and the routes are out; the value is the record's once the Evaluate is done. The
--- device has it from the SetConfiguration on, with every interface at alternate 0.
-abbrev pub ended : (usable : Bool) → Standing
-ended usable = telling (known 2) first_alternates (idle_as usable [])
+-- The settings are ended once SetConfiguration is done and the routes are out; the value is the record's once the Evaluate is done, and
+-- where it is not, the ended rings are in quarantine, by rising address. The device has the value from the SetConfiguration on, with every
+-- interface at alternate 0.
+abbrev pub ended : (usable : Bool) → (quarantined : List ℕ) → Standing
+ended usable quarantined = telling (known 2) first_alternates (idle_as usable quarantined)
 
 abbrev pub set_paths : List Path
 set_paths =
@@ -66,9 +67,9 @@ set_paths =
     ∷ path (not_set (done configure ∷ done (resume 4) ∷ cut (resume 3) ∷ [])) answer.Cut (lost Active Revoked Revoked)
     ∷ path (not_set (done configure ∷ done (resume 4) ∷ done (resume 3) ∷ cut (resume 9) ∷ [])) answer.Cut (lost Active Active Revoked)
     -- SetConfiguration is done: the settings are ended, and the Evaluate is left
-    ∷ path (all_dropped (done (set_value 2) ∷ cut evaluate ∷ [])) answer.Cut (ended false)
-    ∷ path (all_dropped (done (set_value 2) ∷ fails 7 evaluate ∷ [])) answer.InterfaceBroken (ended false)
-    ∷ path (all_dropped (done (set_value 2) ∷ done evaluate ∷ [])) answer.Accepted (with_value 2 (ended true))
+    ∷ path (all_dropped (done (set_value 2) ∷ cut evaluate ∷ [])) answer.Cut (ended false (48 ∷ 32 ∷ 64 ∷ []))
+    ∷ path (all_dropped (done (set_value 2) ∷ fails 7 evaluate ∷ [])) answer.InterfaceBroken (ended false (48 ∷ 32 ∷ 64 ∷ []))
+    ∷ path (all_dropped (done (set_value 2) ∷ done evaluate ∷ [])) answer.Accepted (with_value 2 (ended true []))
     ∷ []
 
 -- The same where no interface holds anything.
@@ -80,8 +81,8 @@ idle_set_paths =
     ∷ path (done configure ∷ fails 7 (set_value 2) ∷ cut configure ∷ []) answer.Cut (idle_as false [])
     ∷ path (done configure ∷ fails 7 (set_value 2) ∷ fails 5 configure ∷ []) answer.InterfaceBroken (idle_as false [])
     ∷ path (done configure ∷ fails 7 (set_value 2) ∷ done configure ∷ []) (answer.Failed 7) idle
-    ∷ path (done configure ∷ done (set_value 2) ∷ cut evaluate ∷ []) answer.Cut (ended false)
-    ∷ path (done configure ∷ done (set_value 2) ∷ fails 7 evaluate ∷ []) answer.InterfaceBroken (ended false)
+    ∷ path (done configure ∷ done (set_value 2) ∷ cut evaluate ∷ []) answer.Cut (ended false [])
+    ∷ path (done configure ∷ done (set_value 2) ∷ fails 7 evaluate ∷ []) answer.InterfaceBroken (ended false [])
     ∷ path (done configure ∷ done (set_value 2) ∷ done evaluate ∷ []) answer.Accepted (with_value 2 idle)
     ∷ []
 

@@ -2,6 +2,7 @@
 use Rattle.std.specs.Prelude.{ℕ, Bool, ◌&&◌, ◌++◌}
 use Rattle.theorem_cases.specs.Cases.{cases, all_hold}
 use Rattle.theorem_cases.specs.DevicePaths.{device_paths, unplugging_table, other_device_paths}
+use Rattle.theorem_cases.specs.Doubted.{rings_held, all_rings}
 use Rattle.theorem_cases.specs.Faults.{all_faults, fault_table}
 use Rattle.theorem_cases.specs.Given.{all_given}
 use Rattle.theorem_cases.specs.InterfacePaths.{interface_beginnings, interface_paths, interface_mismatches}
@@ -16,4 +17,4 @@ paths_hold =
 
 -- The ring of the added endpoint is any.
 abbrev pub holds : (ring : ℕ) → Bool
-holds ring = all_hold (cases ring) && (all_listed lists && (paths_hold && (all_faults fault_table && all_given)))
+holds ring = all_hold (cases ring) && (all_listed lists && (all_rings rings_held && (paths_hold && (all_faults fault_table && all_given))))

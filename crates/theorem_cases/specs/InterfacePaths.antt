@@ -1,6 +1,7 @@
 -- Every path of a claim, of a commit and of a release; 01, "Course of each call".
 use Rattle.std.specs.Prelude.{true, false, List, [], ◌∷◌, ◌++◌}
 use Rattle.answer.specs.declared.Answer.TheVariants as answer
+use Rattle.record_endpoint.specs.declared.entry.Handle.{Handle}
 use Rattle.record_endpoint.specs.declared.entry.Handle.TheVariants.{Active, Revoked}
 use Rattle.device.specs.Ask.{asking}
 use Rattle.theorem_slot.specs.Call.{claims, commits, releases}
@@ -18,9 +19,13 @@ switched =
     (route 1 16 ∷ route 4 96 ∷ route 7 80 ∷ route 9 64 ∷ [])
     (known 0 ∷ known 0 ∷ known 0 ∷ [])
 
--- Broken: both new rings are in quarantine, by rising address. The device may be at either alternate.
+-- Lost with a Configure sent: both new rings are in quarantine, by rising address.
+abbrev pub doubted : (h02 h81 h84 : Handle) → Standing
+doubted h02 h81 h84 = held_as false Active h02 h81 h84 (96 ∷ 80 ∷ [])
+
+-- Broken: the device may be at either alternate.
 abbrev pub broken : Standing
-broken = told 0 unknown (held_as false Active Revoked Revoked Active (96 ∷ 80 ∷ []))
+broken = told 0 unknown (doubted Revoked Revoked Active)
 
 -- The second Stop fails, and what comes after.
 abbrev pub second_fails : List Sent → List Sent
@@ -53,17 +58,17 @@ abbrev pub claim_paths : List Path
 claim_paths =
     unstopped_paths
     -- Configure fails: both are resumed, and only those are active; a failed Resume's code is the answer
-    ++ (path (stopped (cut configure ∷ [])) answer.Cut (lost Revoked Revoked Active)
+    ++ (path (stopped (cut configure ∷ [])) answer.Cut (doubted Revoked Revoked Active)
     ∷ path (stopped (fails 7 configure ∷ done (resume 4) ∷ done (resume 3) ∷ [])) (answer.Failed 7) (kept Active Active Active)
     ∷ path (stopped (fails 7 configure ∷ fails 5 (resume 4) ∷ [])) (answer.Failed 5) (kept Revoked Revoked Active)
-    ∷ path (stopped (fails 7 configure ∷ cut (resume 4) ∷ [])) answer.Cut (lost Revoked Revoked Active)
+    ∷ path (stopped (fails 7 configure ∷ cut (resume 4) ∷ [])) answer.Cut (doubted Revoked Revoked Active)
     ∷ path (stopped (fails 7 configure ∷ done (resume 4) ∷ fails 5 (resume 3) ∷ [])) (answer.Failed 5) (kept Active Revoked Active)
-    ∷ path (stopped (fails 7 configure ∷ done (resume 4) ∷ cut (resume 3) ∷ [])) answer.Cut (lost Active Revoked Active)
+    ∷ path (stopped (fails 7 configure ∷ done (resume 4) ∷ cut (resume 3) ∷ [])) answer.Cut (doubted Active Revoked Active)
     -- SetInterface fails: a Configure back, and the device back at alternate 1
-    ∷ path (configured (cut (set_interface 0 0) ∷ [])) answer.Cut (told 0 unknown (lost Revoked Revoked Active))
-    ∷ path (not_switched (cut configure ∷ [])) answer.Cut (told 0 unknown (lost Revoked Revoked Active))
+    ∷ path (configured (cut (set_interface 0 0) ∷ [])) answer.Cut broken
+    ∷ path (not_switched (cut configure ∷ [])) answer.Cut broken
     ∷ path (not_switched (fails 5 configure ∷ [])) answer.InterfaceBroken broken
-    ∷ path (not_switched (done configure ∷ cut (set_interface 0 1) ∷ [])) answer.Cut (told 0 unknown (lost Revoked Revoked Active))
+    ∷ path (not_switched (done configure ∷ cut (set_interface 0 1) ∷ [])) answer.Cut broken
     ∷ path (not_switched (done configure ∷ fails 5 (set_interface 0 1) ∷ [])) answer.InterfaceBroken broken
     ∷ path (not_switched (done configure ∷ done (set_interface 0 1) ∷ [])) (answer.Failed 7) (kept Active Active Active)
     -- all done
@@ -88,11 +93,11 @@ first_not_switched rest = done configure ∷ fails 7 (set_interface 0 1) ∷ res
 
 abbrev pub first_claim_paths : List Path
 first_claim_paths =
-    path (cut configure ∷ []) answer.Cut (idle_as false [])
+    path (cut configure ∷ []) answer.Cut (idle_as false (48 ∷ 32 ∷ []))
     ∷ path (fails 7 configure ∷ []) (answer.Failed 7) idle
-    ∷ path (done configure ∷ cut (set_interface 0 1) ∷ []) answer.Cut (told 0 unknown (idle_as false []))
+    ∷ path (done configure ∷ cut (set_interface 0 1) ∷ []) answer.Cut first_broken
     -- SetInterface fails: a Configure back, and no SetInterface, since nothing was held
-    ∷ path (first_not_switched (cut configure ∷ [])) answer.Cut (told 0 unknown (idle_as false []))
+    ∷ path (first_not_switched (cut configure ∷ [])) answer.Cut first_broken
     ∷ path (first_not_switched (fails 5 configure ∷ [])) answer.InterfaceBroken first_broken
     ∷ path (first_not_switched (done configure ∷ [])) (answer.Failed 7) (told 0 unknown idle)
     ∷ path (done configure ∷ done (set_interface 0 1) ∷ []) answer.Accepted first_held
@@ -103,21 +108,24 @@ first_claim_paths =
 abbrev pub bare_not_switched : List Sent → List Sent
 bare_not_switched rest = done configure ∷ fails 7 (set_interface 1 0) ∷ done configure ∷ rest
 
+abbrev pub bare_broken : Standing
+bare_broken = told 1 unknown (bare_as false (32 ∷ []))
+
 abbrev pub bare_claim_paths : List Path
 bare_claim_paths =
-    path (cut configure ∷ []) answer.Cut (bare_as false [])
+    path (cut configure ∷ []) answer.Cut (bare_as false (32 ∷ []))
     ∷ path (fails 7 configure ∷ []) (answer.Failed 7) bare
-    ∷ path (done configure ∷ cut (set_interface 1 0) ∷ []) answer.Cut (told 1 unknown (bare_as false []))
-    ∷ path (done configure ∷ fails 7 (set_interface 1 0) ∷ cut configure ∷ []) answer.Cut (told 1 unknown (bare_as false []))
-    ∷ path (done configure ∷ fails 7 (set_interface 1 0) ∷ fails 5 configure ∷ []) answer.InterfaceBroken (told 1 unknown (bare_as false (32 ∷ [])))
-    ∷ path (bare_not_switched (cut (set_interface 1 1) ∷ [])) answer.Cut (told 1 unknown (bare_as false []))
-    ∷ path (bare_not_switched (fails 5 (set_interface 1 1) ∷ [])) answer.InterfaceBroken (told 1 unknown (bare_as false (32 ∷ [])))
+    ∷ path (done configure ∷ cut (set_interface 1 0) ∷ []) answer.Cut bare_broken
+    ∷ path (done configure ∷ fails 7 (set_interface 1 0) ∷ cut configure ∷ []) answer.Cut bare_broken
+    ∷ path (done configure ∷ fails 7 (set_interface 1 0) ∷ fails 5 configure ∷ []) answer.InterfaceBroken bare_broken
+    ∷ path (bare_not_switched (cut (set_interface 1 1) ∷ [])) answer.Cut bare_broken
+    ∷ path (bare_not_switched (fails 5 (set_interface 1 1) ∷ [])) answer.InterfaceBroken bare_broken
     ∷ path (bare_not_switched (done (set_interface 1 1) ∷ [])) (answer.Failed 7) bare
     ∷ path (done configure ∷ done (set_interface 1 0) ∷ []) answer.Accepted
     (standing true true Active (owned 0x84 32 1 Active ∷ []) (holding 1 0 ∷ []) [] (route 1 16 ∷ route 9 32 ∷ []) (known 0 ∷ known 0 ∷ known 0 ∷ []))
     ∷ []
 
--- Interface 2 is claimed at alternate 1, which has 0x85 twice: 80 and 96 are drawn, and the last word's is kept.
+-- Interface 2 is claimed at alternate 1, which has 0x85 twice: 80 and 96 are drawn, and the last word's is kept, in quarantine too.
 abbrev pub repeated_paths : List Path
 repeated_paths =
     path (done configure ∷ done (set_interface 2 1) ∷ []) answer.Accepted
@@ -127,6 +135,7 @@ repeated_paths =
     (known 1 ∷ known 0 ∷ known 1 ∷ []))
     ∷ path (done configure ∷ fails 7 (set_interface 2 1) ∷ fails 5 configure ∷ []) answer.InterfaceBroken
     (told 2 unknown (held_as false Active Active Active Active (96 ∷ [])))
+    ∷ path (done configure ∷ cut (set_interface 2 1) ∷ []) answer.Cut (told 2 unknown (held_as false Active Active Active Active (96 ∷ [])))
     ∷ []
 
 -- A release of interface 0: its old endpoints are stopped; interface 1's stays. It tells the device nothing, so that is still at alternate 1.

@@ -1,6 +1,7 @@
 pub mod Added
 pub mod Cases
 pub mod DevicePaths
+pub mod Doubted
 pub mod Example
 pub mod Faults
 pub mod Given

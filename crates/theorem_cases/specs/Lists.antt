@@ -170,9 +170,9 @@ lists =
     ∷ while_up (hears (claims 2 0) done answer.Accepted ∷ []) (holding 2 0 ∷ []) (route 7 48 ∷ []) (7 ∷ []) false
     (32 ∷ 64 ∷ 80 ∷ 96 ∷ []) []
     (known 1) (alternates (known 0) (known 0) (known 0))
-    -- 6: a set configuration cut at its last Evaluate
+    -- 6: a set configuration cut at its last Evaluate: the ended ring is in doubt
     ∷ while_up (first_claim ∷ hears (configures 1) (0 ∷ 0 ∷ 0 ∷ []) answer.Cut ∷ []) [] [] [] true
-    (32 ∷ 48 ∷ 64 ∷ 80 ∷ 96 ∷ []) []
+    (48 ∷ 64 ∷ 80 ∷ 96 ∷ []) (32 ∷ [])
     (known 1) (alternates (known 0) (known 0) (known 0))
     -- 7: a set configuration that fails and is undone
     ∷ while_up (first_claim ∷ hears (configures 1) (0 ∷ 0 ∷ 9 ∷ 0 ∷ 0 ∷ []) (answer.Failed 9) ∷ [])
@@ -250,6 +250,22 @@ lists =
     (holding 0 1 ∷ []) (route 3 48 ∷ route 4 64 ∷ []) (3 ∷ 4 ∷ []) false
     (32 ∷ 80 ∷ 96 ∷ []) []
     (known 1) (alternates (known 1) (known 0) (known 0))
+    -- 17: a claim cut at its Configure: the controller may have the new rings
+    ∷ while_up (first_claim ∷ hears (claims 0 1) (0 ∷ []) answer.Cut ∷ []) (holding 0 0 ∷ []) (route 3 32 ∷ []) (3 ∷ []) true
+    (80 ∷ 96 ∷ []) (48 ∷ 64 ∷ [])
+    (known 1) (alternates (known 0) (known 0) (known 0))
+    -- 18: one cut at its Stop: it has none
+    ∷ while_up (first_claim ∷ hears (claims 0 1) [] answer.Cut ∷ []) (holding 0 0 ∷ []) (route 3 32 ∷ []) (3 ∷ []) true
+    (48 ∷ 64 ∷ 80 ∷ 96 ∷ []) []
+    (known 1) (alternates (known 0) (known 0) (known 0))
+    -- 19: the repeated address again, cut at SetInterface: the ring that it does not keep stays free
+    ∷ while_up (hears (claims 2 0) (0 ∷ []) answer.Cut ∷ []) [] [] (7 ∷ []) true
+    (32 ∷ 64 ∷ 80 ∷ 96 ∷ []) (48 ∷ [])
+    (known 1) (alternates (known 0) (known 0) unknown)
+    -- 20: a claim cut in the Resume after its Configure failed: a Configure was sent
+    ∷ while_up (first_claim ∷ hears (claims 0 1) (0 ∷ 7 ∷ []) answer.Cut ∷ []) (holding 0 0 ∷ []) (route 3 32 ∷ []) (3 ∷ []) true
+    (80 ∷ 96 ∷ []) (48 ∷ 64 ∷ [])
+    (known 1) (alternates (known 0) (known 0) (known 0))
     ∷ []
 
 -- The interfaces and alternates of settings, in order.

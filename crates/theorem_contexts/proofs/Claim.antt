@@ -15,7 +15,7 @@ use Rattle.context.specs.Place.{Spaced}
 use Rattle.record_endpoint.specs.declared.endpoint_map.Owner.TheVariants.{Interface}
 use Rattle.record_endpoint.specs.EndpointMap.{owned_rings}
 use Rattle.record_endpoint.proofs.Laws.{queues_fit}
-use Rattle.course_steps.specs.End.{settings_kept}
+use Rattle.course_steps.specs.End.{settings_doubted}
 use Rattle.course_claim.specs.Claim.{Claim, claim_context, undo_context, claim_course}
 use Rattle.course_claim.proofs.Contexts.{claim_at_configure, claim_at_undo, claim_context_length}
 use Rattle.device.specs.declared.record.Device.{Device}
@@ -58,7 +58,7 @@ module _ (d : Device) (ctx routes log : List ℕ) (i a : ℕ)
   unfolding n
   few = omega (arith, facts.room, queues_fit (owned_rings (Interface i) (endpoint_map_in d)))
 
-  first_cut : CutHere (done_times n) (claim_course given ctx routes) n command.Configure (settings_kept answer.Cut 0 (claim_context given ctx) routes)
+  first_cut : CutHere (done_times n) (claim_course given ctx routes) n command.Configure (settings_doubted answer.Cut (claim_context given ctx) routes)
   unfolding n given claim_in
   first_cut = claim_at_configure given ctx routes (done_times n) (λ k l m. dones_before n k (omega arith)) (dones_past n)
 
@@ -68,7 +68,7 @@ module _ (d : Device) (ctx routes log : List ℕ) (i a : ℕ)
 
   undo_cut : (code : ℕ) → (code ≡ 0 → ⊥) →
       CutHere (failed_after (n + 1) code) (claim_course given ctx routes) (n + 2) command.Configure
-      (settings_kept answer.Cut 0 (undo_context given (claim_context given ctx)) routes)
+      (settings_doubted answer.Cut (undo_context given (claim_context given ctx)) routes)
   unfolding n given claim_in
   undo_cut code z =
       let two : n + 1 + 1 ≡ n + 2 = omega arith in

@@ -1,3 +1,4 @@
 pub mod Done
 pub mod Followed
 pub mod Laws
+pub mod Sent

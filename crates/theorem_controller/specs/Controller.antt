@@ -50,3 +50,8 @@ unfoldable pub done_word : ℕ → List ℕ → ℕ → List ℕ → Bool
 done_word operation outcomes i [] = false
 done_word operation outcomes i (w ∷ ws) =
     (eqb (operation_of w) operation && is_done (outcome_at outcomes i)) || done_word operation outcomes (i + 1) ws
+
+-- Whether a command of an operation is among logged words, whatever its outcome.
+unfoldable pub sent_word : ℕ → List ℕ → Bool
+sent_word operation [] = false
+sent_word operation (w ∷ ws) = eqb (operation_of w) operation || sent_word operation ws

@@ -28,7 +28,7 @@ use Rattle.record_settings.specs.Held.{is_held, alternate_of, held_alternate}
 use Rattle.record_settings.proofs.Laws.{held_alternate_is}
 use Rattle.transfer.specs.declared.RouteError.{RouteError}
 use Rattle.transfer.specs.Routes.{replaced}
-use Rattle.course_steps.specs.End.{End, settings_kept, published, answer_of}
+use Rattle.course_steps.specs.End.{End, settings_kept, settings_marked, settings_doubted, is_unanswered, published, answer_of}
 use Rattle.course_claim.specs.Claim.{Claim, claim_context, undo_alternate, undo_context, claim_publish, claim_switch_back, claim_undone, claim_undo, claim_switch, claim_resume, claim_configure, claim_course}
 use Rattle.course_claim.proofs.Laws.{claim_words}
 use Rattle.course_claim.proofs.Controlled.{claim_operands}
@@ -84,21 +84,22 @@ module _ (v : Known) (a : Claim) (routes : List ℕ) (u : DeviceState) where
   set_here b w = rw (eq-eqb interface interface refl)
 
   -- ends that are lost
-  lost : (x : Answer) (n : ℕ) (ctx : List ℕ) (w : DeviceState) → Beside w → is_lost x ≡ true → is_accepted x ≡ false → Says (settings_kept x n ctx routes) w
-  lost x n ctx w h e f =
+  lost : (x : Answer) (n : ℕ) (b : Bool) (ctx : List ℕ) (w : DeviceState) → Beside w → is_lost x ≡ true → is_accepted x ≡ false →
+      Says (settings_marked x n b ctx routes) w
+  lost x n b ctx w h e f =
       record {
         beside = h;
         accepted = λ t. not_both (is_accepted x) t f;
         kept = λ t l. not_both (is_lost x) e l;
       }
 
-  broken : (n : ℕ) (ctx : List ℕ) (w : DeviceState) → Beside w → Says (settings_kept answer.InterfaceBroken n ctx routes) w
+  broken : (ctx : List ℕ) (w : DeviceState) → Beside w → Says (settings_doubted answer.InterfaceBroken ctx routes) w
   unfolding number
-  broken n ctx w h = lost answer.InterfaceBroken n ctx w h refl refl
+  broken ctx w h = lost answer.InterfaceBroken 0 true ctx w h refl refl
 
-  cut : (n : ℕ) (ctx : List ℕ) (w : DeviceState) → Beside w → Says (settings_kept answer.Cut n ctx routes) w
+  cut : (n : ℕ) (b : Bool) (ctx : List ℕ) (w : DeviceState) → Beside w → Says (settings_marked answer.Cut n b ctx routes) w
   unfolding number
-  cut n ctx w h = lost answer.Cut n ctx w h refl refl
+  cut n b ctx w h = lost answer.Cut n b ctx w h refl refl
 
   -- ends that failed
   failed : (code n : ℕ) (ctx : List ℕ) (w : DeviceState) → Beside w →
@@ -122,13 +123,13 @@ module _ (v : Known) (a : Claim) (routes : List ℕ) (u : DeviceState) where
       go (Some was) e =
           hears_sends v Says w (command.SetInterface interface (undo_alternate a)) ctx _ _ _
           (failed code _ ctx _ (beside_set (undo_alternate a) sent.Done w h) (λ old t o. set_here (undo_alternate a) w ∙ ap (λ x. known (unwrap_or x 0)) t ∙ sym o))
-          (λ later. broken 0 ctx _ (beside_set (undo_alternate a) (sent.Failed later) w h))
-          (cut 0 ctx _ (beside_set (undo_alternate a) sent.Cut w h))
+          (λ later. broken ctx _ (beside_set (undo_alternate a) (sent.Failed later) w h))
+          (cut 0 true ctx _ (beside_set (undo_alternate a) sent.Cut w h))
       go None e = failed code _ ctx w h (λ old t. absurd cc)
 
   published_says :
       (r : Result Unit RouteError) (ctx : List ℕ) →
-      Says (published r answer.InterfaceBroken a.args.slot.0 a.old a.pending ctx routes) (interface_set interface a.args.alternate sent.Done u)
+      Says (published r answer.InterfaceBroken true a.args.slot.0 a.old a.pending ctx routes) (interface_set interface a.args.alternate sent.Done u)
   unfolding published number
   published_says (Ok _) ctx =
       record {
@@ -136,7 +137,7 @@ module _ (v : Known) (a : Claim) (routes : List ℕ) (u : DeviceState) where
         accepted = λ t. set_here a.args.alternate u;
         kept = λ t l. not_both true refl t;
       }
-  published_says (Err _) ctx = broken 0 ctx _ (beside_set a.args.alternate sent.Done u beside_first)
+  published_says (Err _) ctx = broken ctx _ (beside_set a.args.alternate sent.Done u beside_first)
 
   switch_hears : (ctx : List ℕ) → Hears v Says u (claim_switch a ctx routes)
   unfolding claim_switch claim_publish claim_undo Hears device_step
@@ -147,12 +148,12 @@ module _ (v : Known) (a : Claim) (routes : List ℕ) (u : DeviceState) where
       (λ code.
       hears_quiet v Says (interface_set interface a.args.alternate (sent.Failed code) u) command.Configure (λ s w. refl) (undo_context a ctx) _ _ _
       (undone_hears _ (was (sent.Failed code)) code (undo_context a ctx))
-      (λ later. broken 0 _ _ (was (sent.Failed code)))
-      (cut 0 _ _ (was (sent.Failed code))))
-      (cut 0 ctx _ (was sent.Cut))
+      (λ later. broken _ _ (was (sent.Failed code)))
+      (cut 0 true _ _ (was (sent.Failed code))))
+      (cut 0 true ctx _ (was sent.Cut))
 
   claim_hears : (ctx : List ℕ) → Hears v Says u (claim_course a ctx routes)
-  unfolding claim_course claim_configure claim_resume answer_of or_code Hears device_step
+  unfolding claim_course claim_configure claim_resume answer_of or_code is_unanswered Hears device_step
   claim_hears ctx =
       let dcis : List ℕ = queue_dcis a.old in
       let next : List ℕ = claim_context a ctx in
@@ -162,14 +163,14 @@ module _ (v : Known) (a : Claim) (routes : List ℕ) (u : DeviceState) where
       (λ e.
       hears_quiet v Says u command.Configure (λ s w. refl) next _ _ _ (switch_hears next)
       (λ code. resume_then v Says u next dcis _ (λ r. resumed code r.active next r.sent))
-      (cut 0 next u beside_first))
+      (cut 0 true next u beside_first))
       (λ code e. failed_first code _ ctx)
-      (λ e. cut _ ctx u beside_first))
+      (λ e. cut _ false ctx u beside_first))
     where
-      resumed : (code n : ℕ) (ctx : List ℕ) (s : Sent) → Says (settings_kept (answer_of (or_code code s)) n ctx routes) u
+      resumed : (code n : ℕ) (ctx : List ℕ) (s : Sent) → Says (settings_marked (answer_of (or_code code s)) n (is_unanswered s) ctx routes) u
       resumed code n ctx sent.Done = failed_first code n ctx
       resumed code n ctx (sent.Failed later) = failed_first later n ctx
-      resumed code n ctx sent.Cut = cut n ctx u beside_first
+      resumed code n ctx sent.Cut = cut n true ctx u beside_first
 
   pub claim_says : (o : List ℕ) (n : ℕ) (ctx : List ℕ) →
       Says (result o n (claim_course a ctx routes)) (heard v o n (claim_course a ctx routes) u)
@@ -178,7 +179,7 @@ module _ (v : Known) (a : Claim) (routes : List ℕ) (u : DeviceState) where
 -- The record keeps its configuration value.
 claim_status : (d : Device) (i a : ℕ) (rings : List ℕ) (e : End) → status (claim_record d i a rings e) ≡ status d
 unfolding claim_record with_held with_endpoints
-claim_status d i a rings e = marked_status e.answer _ ∙ status_either e.moved _ _ _ refl (quarantines_status e.answer _ _).0
+claim_status d i a rings e = marked_status e.answer _ ∙ status_either e.moved _ _ _ refl (quarantines_status _ _ _).0
 
 -- The call.
 module _ (slot : ℕ) (before : List ℕ) (s : State) (g : Stands slot before s) (buffers : Buffers) (keeps : Bool) (i a : ℕ)

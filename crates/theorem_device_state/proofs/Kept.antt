@@ -9,12 +9,11 @@ use lib.Dec.{eqb}
 use Rattle.laws.proofs.Tests.{not_both}
 use Rattle.laws.proofs.Cases.{Decided, decided, or_left, or_right}
 use Rattle.answer.specs.declared.Answer.{Answer}
-use Rattle.answer.specs.Answer.{is_lost, is_broken}
+use Rattle.answer.specs.Answer.{is_lost}
 use Rattle.record_settings.specs.Held.{is_held, alternate_of}
 use Rattle.device.specs.declared.record.Device.{Device}
-use Rattle.device.specs.Device.{unusable, with_quarantined}
+use Rattle.device.specs.Device.{unusable, with_quarantined, quarantines}
 use Rattle.device.specs.Left.{marked}
-use Rattle.device.specs.Claim.{quarantines}
 use Rattle.theorem_slot.specs.Plain.{HeldSetting, Plain, is_up, without}
 use Rattle.theorem_slot.proofs.Settings.{pairs, has_setting}
 use Rattle.theorem_device_state.specs.DeviceState.{known, DeviceState}
@@ -108,14 +107,11 @@ marked_usable x d = go (is_lost x)
     go true e = not_both false e refl
     go false e = (refl, e)
 
-pub quarantines_status : (x : Answer) (rings : List ℕ) (d : Device) →
-    (status (quarantines x rings d) ≡ status d) × ((quarantines x rings d).usable ≡ d.usable)
+pub quarantines_status : (b : Bool) (rings : List ℕ) (d : Device) →
+    (status (quarantines b rings d) ≡ status d) × ((quarantines b rings d).usable ≡ d.usable)
 unfolding quarantines with_quarantined
-quarantines_status x rings d = go (is_broken x)
-  where
-    go : (b : Bool) → (status (cond b (with_quarantined rings d) d) ≡ status d) × ((cond b (with_quarantined rings d) d).usable ≡ d.usable)
-    go true = (refl, refl)
-    go false = (refl, refl)
+quarantines_status true rings d = (refl, refl)
+quarantines_status false rings d = (refl, refl)
 
 -- What two records say, either says.
 pub status_either : (b : Bool) (x y : Device) (v : Bool × (Bool × ℕ)) → status x ≡ v → status y ≡ v → status (cond b x y) ≡ v

@@ -8,7 +8,7 @@ use lib.ListN.{length, take}
 use Rattle.laws.proofs.Tests.{not_both}
 use Rattle.laws.proofs.Cases.{or_left_false}
 use Rattle.answer.specs.declared.Answer.{Answer}
-use Rattle.answer.specs.Answer.{is_accepted, is_lost}
+use Rattle.answer.specs.Answer.{is_accepted, is_broken, is_lost}
 use Rattle.answer.specs.Check.{Check, Pass}
 use Rattle.command.specs.Course.{Course, words, played}
 use Rattle.command.proofs.Operations.{ByteOperands, EachCommand}
@@ -24,12 +24,11 @@ use Rattle.course_release.proofs.Controlled.{release_sends, release_operands}
 use Rattle.course_disconnect.specs.Disconnect.{disconnect_course}
 use Rattle.course_disconnect.proofs.Ends.{disconnect_words, disconnect_each, disconnect_operands}
 use Rattle.device.specs.declared.record.Device.{Device}
-use Rattle.device.specs.Device.{endpoint_map_in, with_endpoints, with_held}
+use Rattle.device.specs.Device.{endpoint_map_in, with_endpoints, with_held, quarantines}
 use Rattle.device.specs.Left.{Left, refused, ended, marked}
 use Rattle.device.specs.Check.{record_check, hub_check, disconnect_check}
 use Rattle.device.specs.Calls.{on_check, hub_course, hub_left, hub_update}
 use Rattle.device.specs.Release.{release_check, release_in, release_record, release_run, release}
-use Rattle.device.specs.Claim.{quarantines}
 use Rattle.device.specs.Disconnect.{all_revoked, unplugged, rings_in_doubt, disconnect_record, disconnect_run, disconnect}
 use Rattle.device.proofs.Laws.{passed}
 use Rattle.device.proofs.Disconnected.{up_passed}
@@ -156,14 +155,14 @@ unfolding disconnect_record unplugged all_revoked
 unplugging_record d e = go e.moved
   where
     rest : Device
-    rest = marked e.answer (quarantines e.answer (rings_in_doubt d) (all_revoked d))
+    rest = marked e.answer (quarantines (is_broken e.answer) (rings_in_doubt d) (all_revoked d))
 
     go :
         (b : Bool) → (cond b (unplugged d) rest).usable ≡ true →
         ((is_lost e.answer ≡ false) × (d.usable ≡ true)) × (status (cond b (unplugged d) rest) ≡ status d)
     go true t = not_both false t refl
     go false t =
-        let q = quarantines_status e.answer (rings_in_doubt d) (all_revoked d) in
+        let q = quarantines_status (is_broken e.answer) (rings_in_doubt d) (all_revoked d) in
         let m = marked_usable e.answer _ t in
         ((m.0, sym q.1 ∙ m.1), marked_status e.answer _ ∙ q.0)
 

@@ -28,7 +28,7 @@ use Rattle.course_set_configuration.proofs.Laws.{set_words, set_operands, set_ou
 use Rattle.device.specs.declared.record.Device.{Device}
 use Rattle.device.specs.Device.{endpoint_map_in, with_endpoints, with_held, with_configuration}
 use Rattle.device.specs.Left.{refused, ended}
-use Rattle.device.specs.SetConfiguration.{settings_in, bare, set_record, set_run, set_configuration}
+use Rattle.device.specs.SetConfiguration.{settings_in, bare, ended_by, set_record, set_run, set_configuration}
 use Rattle.device.proofs.Laws.{Passed, passed}
 use Rattle.theorem_slot.specs.Call.{Buffers, configures, left}
 use Rattle.theorem_slot.specs.Plain.{Plain, ends_all, effect_of, held_after, anew, seen, observed}
@@ -114,7 +114,7 @@ module _ (v : Known) (a : Settings) (routes : List ℕ) (u : DeviceState) (allow
 
 -- The record has the value that is set, or keeps its own.
 set_status_set : (d : Device) (value : ℕ) (e : End) → e.moved ≡ true → is_accepted e.answer ≡ true → status (set_record d value e) ≡ (d.up, (true, value))
-unfolding set_record with_configuration bare with_held with_endpoints
+unfolding set_record ended_by with_configuration bare with_held with_endpoints
 set_status_set d value e m t = marked_status e.answer _ ∙ rw (m, t) refl
 
 set_status_kept : (d : Device) (value : ℕ) (e : End) → e.moved ≡ false → status (set_record d value e) ≡ status d

@@ -26,14 +26,14 @@ use Rattle.theorem_slot.proofs.Rings.{given_parted, records_groups}
 use Rattle.theorem_library.specs.Library.{Exchange, reads, GivenImage, image_after, image_then, Exchanges, image_end, table_end, turns_of, LibraryDemand3, LibraryGroups}
 
 -- What a call that reads its image leaves.
-record Leaves (x : Crossed) (l : Left) : Type 0 where
+pub record Leaves (x : Crossed) (l : Left) : Type 0 where
   pub image : is_image x.image ≡ true
   pub device : decode x.image ≡ l.device
   pub routes : x.routes ≡ l.routes
   pub answer : x.answered.answer ≡ number l.answer
   pub count : x.answered.count ≡ l.count
 
-leaves : (x : Crossed) (l : Left) (ok : Bool) (image ctx routes log : List ℕ) → ok ≡ true → CrossedAs x ok l image ctx routes log → Leaves x l
+pub leaves : (x : Crossed) (l : Left) (ok : Bool) (image ctx routes log : List ℕ) → ok ≡ true → CrossedAs x ok l image ctx routes log → Leaves x l
 unfolding crossed answered_of
 leaves x l ok image ctx routes log t c =
     let e : x ≡ crossed true l image ctx routes log = c.equal ∙ ap (λ b. crossed b l image ctx routes log) t in
@@ -56,7 +56,7 @@ untouched x l true image ctx routes log c h =
 untouched x l false image ctx routes log c h = (ap (λ (y : Crossed). y.answered.count) c.equal, ap (λ (y : Crossed). y.routes) c.equal)
 
 -- The caller's image, and the record and table of a state.
-record Has (image routes : List ℕ) (s : State) : Type 0 where
+pub record Has (image routes : List ℕ) (s : State) : Type 0 where
   pub there : is_image image ≡ true
   pub device : decode image ≡ s.device
   pub table : routes ≡ s.routes
@@ -144,11 +144,11 @@ module _ (image routes : List ℕ) (s : State) (h : Has image routes s) where
   one disconnects = disconnect_left
 
 -- A list of calls: its turns are those of the theorem, and the caller has the record and the table that they leave.
-record Went (slot : ℕ) (still : ℕ → Bool) (image routes : List ℕ) (s : State) (es : List Exchange) : Type 0 where
+pub record Went (slot : ℕ) (still : ℕ → Bool) (image routes : List ℕ) (s : State) (es : List Exchange) : Type 0 where
   pub turns : Turns slot still s (turns_of es)
   pub has : Has (image_end image es) (table_end routes es) (after s (turns_of es))
 
-went :
+pub went :
     (slot : ℕ) (still : ℕ → Bool) (image routes : List ℕ) (s : State) (es : List Exchange) → Has image routes s →
     Exchanges slot still image routes es → Went slot still image routes s es
 unfolding Exchanges Turns turns_of image_end table_end after

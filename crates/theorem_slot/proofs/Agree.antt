@@ -6,7 +6,7 @@ use mathlib.Core.List.{List}
 use Rattle.laws.specs.Distinct.{elem}
 use Rattle.laws.proofs.Tests.{and-true}
 use Rattle.transfer.specs.Routes.{Queue}
-use Rattle.theorem_slot.specs.Groups.{Groups, keeps, claimed_groups, broken_groups, returned_groups, doubted_groups}
+use Rattle.theorem_slot.specs.Groups.{Groups, keeps, claimed_groups, broken_groups, returned_groups, ended_groups, doubted_groups}
 use Rattle.theorem_slot.proofs.Bools.{Tests, implies, implies_if, alike, law}
 
 -- The rings that endpoints or control use and those in quarantine, of given ones, are the groups'.
@@ -92,6 +92,23 @@ module _ (rings : List ℕ) (u q : ℕ → Bool) (g : Groups) (a : Agree rings u
             rw (a.free x, returned x, made x)
             (by_law (λ m u q k o. (m && (not u && not q)) || o) (λ m u q k o. m && (not (u && not o) && not q)) refl x);
         quarantined = a.quarantined;
+      }
+
+  -- Settings end in a call that is lost.
+  pub agree_lost :
+      (old : List Queue) (v r : ℕ → Bool) → ((x : ℕ) → keeps x old ≡ o x) → ((x : ℕ) → v x ≡ (u x && not (o x))) →
+      ((x : ℕ) → r x ≡ (q x || o x)) → Agree rings v r (ended_groups old g)
+  unfolding ended_groups
+  agree_lost old v r returned made doubted =
+      record {
+        given = a.given;
+        live = λ x.
+            rw (a.live x, returned x, made x, doubted x)
+            (by_law (λ m u q k o. (u && not q) && not o) (λ m u q k o. (u && not o) && not (q || o)) refl x);
+        free = λ x.
+            rw (a.free x, made x, doubted x)
+            (by_law (λ m u q k o. m && (not u && not q)) (λ m u q k o. m && (not (u && not o) && not (q || o))) refl x);
+        quarantined = λ x. rw (a.quarantined x, returned x, doubted x) refl;
       }
 
   -- An unplugging is broken.

@@ -2,7 +2,7 @@
 use Rattle.std.proofs.Common.{Ok}
 use Prim.Native.Nat.{ℕ, ◌≤◌, ◌<◌}
 use mathlib.Core.Path.{◌≡◌, refl, sym, ◌∙◌, ap}
-use mathlib.Core.Bool.{true, false, not, cond}
+use mathlib.Core.Bool.{Bool, true, false, not, cond, ◌&&◌}
 use mathlib.Core.List.{List, [], ◌∷◌, ◌++◌}
 use mathlib.Core.Logic.{◌⊎◌, inl, inr, ◌↔◌}
 use native.Mathlib.Omega.{arith}
@@ -16,7 +16,7 @@ use Rattle.record_ring.proofs.Laws.{Offered}
 use Rattle.answer.specs.declared.Answer.{Answer}
 use Rattle.answer.specs.declared.Answer.TheVariants as answer
 use Rattle.answer.specs.Check.{Pass}
-use Rattle.answer.specs.Answer.{number, is_accepted, is_broken, is_lost}
+use Rattle.answer.specs.Answer.{number, is_accepted, is_lost}
 use Rattle.command.specs.declared.Sent.TheVariants as sent
 use Rattle.command.specs.Command.{outcome_at}
 use Rattle.command.specs.Course.{Course, words, result, played}
@@ -35,10 +35,11 @@ use Rattle.record_settings.proofs.Laws.{match_facts, match_unheld}
 use Rattle.theorem_routing.specs.Routing.{NamedBy, Rerouted}
 use Rattle.theorem_routing.proofs.Laws.{free_ring, each_dci, words_dci, claim_named, offer_places, offer_routed}
 use Rattle.course_steps.specs.End.{End}
-use Rattle.theorem_controller.specs.Controller.{DISABLE, enabled_after}
+use Rattle.theorem_controller.specs.Controller.{CONFIGURE, DISABLE, enabled_after, sent_word}
 use Rattle.theorem_controller.proofs.Followed.{followed}
 use Rattle.course_claim.specs.Claim.{claim_course}
 use Rattle.course_claim.proofs.Laws.{claim_accepted, claim_words, claim_answers, claim_moved, claim_cuts, Refused}
+use Rattle.course_claim.proofs.Doubted.{claim_doubted}
 use Rattle.course_claim.proofs.Controlled.{claim_sends, claim_operands, claim_accepted_enabled, claim_failed_enabled}
 use Rattle.device.specs.declared.record.Device.{Device}
 use Rattle.device.specs.Device.{list_of, endpoint_map_in, held_of, quarantined_of}
@@ -65,7 +66,7 @@ use Rattle.theorem_slot.proofs.Made.{fit_active, agree_made, made_moved, made_sa
 use Rattle.theorem_slot.proofs.Claimed.{some_place, owned_ring, fits_other, fits_own, pending_free, claimed_some}
 
 -- What was drawn meets what 01 asks of rings offered.
-offer_ok_lem :
+pub offer_ok_lem :
     (count : ℕ) (rings live : List ℕ) (control : ℕ) (quarantined : List ℕ) → Offered count rings live control quarantined →
     offer_ok count rings live control quarantined ≡ true
 unfolding offer_ok
@@ -233,6 +234,28 @@ module _ (slot : ℕ) (before : List ℕ) (s : State) (buffers : Buffers) (i a :
     idle q h z o =
         free_ring new_words i (endpoint_map_in d) q tests.free h (not-false (has_place q new_words) (sym (places q h) ∙ z)) o
 
+    bytes : EachCommand ByteOperands course
+    unfolding course claim_in
+    bytes =
+        claim_operands (claim_in d i a rings) buffers.ctx s.routes byte alternate-byte-new
+        (rw (undone_to i (held_of d), ← l.held) (alternate_byte (endpoint_map_in d) i p.held l.fits))
+        (byte_dcis (owned_rings (Interface i) (endpoint_map_in d)))
+
+    -- The log says whether the new rings are in doubt.
+    in_doubt : Bool
+    in_doubt = is_lost end.answer && sent_word CONFIGURE (words buffers.outcomes 0 course)
+
+    doubted : (end.doubted && is_lost end.answer) ≡ in_doubt
+    unfolding end course in_doubt
+    doubted =
+        rw (claim_doubted (claim_in d i a rings) s.routes buffers.outcomes buffers.ctx 0 bytes)
+        (both (is_lost end.answer) (sent_word CONFIGURE (words buffers.outcomes 0 course)))
+      where
+        both : (x y : Bool) → ((x && y) && x) ≡ (x && y)
+        both true true = refl
+        both true false = refl
+        both false y = refl
+
     -- The groups after each answer.
     accepted_groups : end.answer ≡ answer.Accepted → end.moved ≡ true → AgreeWith now.device now.plain.groups
     unfolding now ran seen groups_after end course pending_of number
@@ -243,20 +266,20 @@ module _ (slot : ℕ) (before : List ℕ) (s : State) (buffers : Buffers) (i a :
         (claim_moves d _ _ _ i a k end moved) (claim_keeps d i a rings end (λ n. not_both end.moved moved n)) idle (queues_of_one i p.held) returned)
 
     stayed_groups : end.moved ≡ false → is_accepted end.answer ≡ false → AgreeWith now.device now.plain.groups
-    unfolding now ran seen groups_after end course pending_of
-    stayed_groups moved n = go (decided (is_broken end.answer))
+    unfolding now ran seen groups_after end course pending_of in_doubt
+    stayed_groups moved n = go (decided in_doubt)
       where
-        go : Decided (is_broken end.answer) → AgreeWith now.device now.plain.groups
+        go : Decided in_doubt → AgreeWith now.device now.plain.groups
         go (inl b) =
             let same : now.plain.groups ≡ broken_groups new_queues p.groups = rw (n, b, asked) refl in
             rw same
             (agree_broke d pass.is_sound p.groups l.groups pass.usable i a tests (claim_record d i a rings end) _ _ new_queues kept
-            _ (claim_stays d _ _ _ i a k end moved) (active_rings (Interface i) (endpoint_map_in d) end.active) (claim_quarantined d _ _ _ i a k end moved b))
+            _ (claim_stays d _ _ _ i a k end moved) (active_rings (Interface i) (endpoint_map_in d) end.active) (claim_quarantined d _ _ _ i a k end moved (doubted ∙ b)))
         go (inr b) =
             let same : now.plain.groups ≡ p.groups = rw (n, b) refl in
             rw same
             (agree_made d (claim_record d i a rings end) _ _ _ p.groups (claim_stays d _ _ _ i a k end moved)
-            (active_rings (Interface i) (endpoint_map_in d) end.active) (claim_keeps d i a rings end (λ m. b)) l.groups)
+            (active_rings (Interface i) (endpoint_map_in d) end.active) (claim_keeps d i a rings end (λ m. doubted ∙ b)) l.groups)
 
     -- Accepted: the interface's setting is the claimed one.
     accepted_good : end.answer ≡ answer.Accepted → Good slot before now
@@ -328,13 +351,6 @@ module _ (slot : ℕ) (before : List ℕ) (s : State) (buffers : Buffers) (i a :
               (queues_fit (owned_rings (Interface i) (endpoint_map_in d))),
           pass.room,
         )
-
-    bytes : EachCommand ByteOperands course
-    unfolding course claim_in
-    bytes =
-        claim_operands (claim_in d i a rings) buffers.ctx s.routes byte alternate-byte-new
-        (rw (undone_to i (held_of d), ← l.held) (alternate_byte (endpoint_map_in d) i p.held l.fits))
-        (byte_dcis (owned_rings (Interface i) (endpoint_map_in d)))
 
     good_end : Good slot before now
     unfolding end course

@@ -42,7 +42,7 @@ use Rattle.theorem_slot.specs.Call.{Buffers, Asked, brings_up, claims, commits, 
 use Rattle.theorem_slot.specs.Answers.{command_context, ContextsAgree}
 
 -- The course of a bring-up, where a command is cut.
-abbrev BroughtCuts : Course Brought → Type 0
+abbrev pub BroughtCuts : Course Brought → Type 0
 BroughtCuts = CutEnds (λ (b : Brought). b.ctx)
 
 step_cuts : (c : Command) (read : Reading) (ctx routes : List ℕ) (next : Course Brought) → BroughtCuts next →
@@ -73,7 +73,7 @@ module _ (a : BringUp) (spacing : ℕ) (routes : List ℕ) where
       (step_cuts _ _ _ routes _
       (step_cuts _ _ _ routes _ (either (eqb (length a.list) 0) _ _ tt (configs_cuts (configurations a.list) 0 _))))
 
-  bring_up_cuts : (ctx : List ℕ) → BroughtCuts (bring_up_address a spacing ctx routes)
+  pub bring_up_cuts : (ctx : List ℕ) → BroughtCuts (bring_up_address a spacing ctx routes)
   unfolding CutsTo bring_up_address bring_up_header
   bring_up_cuts ctx =
       step_cuts _ _ _ routes _ (step_cuts _ _ _ routes _ (either (eqb a.header 8) _ _ (either (exponent_ok a.speed a.packet) _ _ (packet_cuts _) tt) tt))

@@ -52,7 +52,7 @@ no_route p d = go (eqb d 1)
     go false = refl
 
 -- 14 and 15 are no acceptance.
-lost_refused : (a : Answer) → is_lost a ≡ true → is_accepted a ≡ false
+pub lost_refused : (a : Answer) → is_lost a ≡ true → is_accepted a ≡ false
 lost_refused a e =
     ne_eqb (number a) 0
     (λ z. ⊎_elim (λ h. omega (arith, z, eqb-true (number a) 14 h)) (λ h. omega (arith, z, eqb-true (number a) 15 h)) (or_cases (is_broken a) (is_cut a) e))

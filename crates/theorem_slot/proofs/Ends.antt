@@ -114,12 +114,12 @@ module _ (K : ℕ → Type 0) where
   TellsEnd = Told FairEnd CutEnd K
 
   -- routes moved as a last step
-  published_tells : {refused : Answer} → Fair K refused → (slot : ℕ) (old new : List Queue) (ctx routes : List ℕ) →
-      TellsEnd (ends (move_routes refused slot old new ctx routes))
+  published_tells : {refused : Answer} → Fair K refused → (doubted : Bool) (slot : ℕ) (old new : List Queue) (ctx routes : List ℕ) →
+      TellsEnd (ends (move_routes refused doubted slot old new ctx routes))
   unfolding Told published
-  published_tells {refused} f slot old new ctx routes = go (replaced routes slot old new)
+  published_tells {refused} f doubted slot old new ctx routes = go (replaced routes slot old new)
     where
-      go : (r : Result Unit RouteError) → Fair K (published r refused slot old new ctx routes).answer
+      go : (r : Result Unit RouteError) → Fair K (published r refused doubted slot old new ctx routes).answer
       go (Ok _) = fair_accepted
       go (Err _) = f
 
@@ -127,7 +127,7 @@ module _ (K : ℕ → Type 0) where
   module _ (a : Claim) where
     claim_publish_lem : (ctx routes : List ℕ) → TellsEnd (claim_publish a ctx routes)
     unfolding Told claim_publish
-    claim_publish_lem ctx routes = published_tells fair_broken _ _ _ ctx routes
+    claim_publish_lem ctx routes = published_tells fair_broken true _ _ _ ctx routes
 
     module _ (code : ℕ) (k : K code) where
       claim_back : (ctx routes : List ℕ) → TellsEnd (claim_switch_back a code ctx routes)
@@ -173,7 +173,7 @@ module _ (K : ℕ → Type 0) where
   module _ (a : Release) where
     release_publish_lem : (ctx routes : List ℕ) → TellsEnd (release_publish a ctx routes)
     unfolding Told release_publish
-    release_publish_lem ctx routes = published_tells fair_endpoint _ _ _ ctx routes
+    release_publish_lem ctx routes = published_tells fair_endpoint false _ _ _ ctx routes
 
     release_resume_lem : (code : ℕ) → K code → (ctx routes : List ℕ) → TellsEnd (release_resume a code ctx routes)
     unfolding Told EndsWith release_resume configure_failed

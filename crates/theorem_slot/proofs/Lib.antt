@@ -1,29 +1,29 @@
-mod Agree
-mod Bools
-mod BringUp
-mod Claim
-mod Claimed
+pub mod Agree
+pub mod Bools
+pub mod BringUp
+pub mod Claim
+pub mod Claimed
 pub mod Contexts
 pub mod CutShort
 pub mod Demand3
-mod Disconnect
+pub mod Disconnect
 pub mod Ends
 pub mod Few
 pub mod Good
-mod Hub
-mod Kept
+pub mod Hub
+pub mod Kept
 pub mod Made
-mod Matched
-mod Moved
+pub mod Matched
+pub mod Moved
 pub mod Outside
-mod Owned
+pub mod Owned
 pub mod Parted
 pub mod Record
 pub mod Refusing
-mod Release
+pub mod Release
 pub mod Returned
 pub mod Rings
-mod SetConfiguration
+pub mod SetConfiguration
 pub mod Settings
 pub mod Step
 pub mod Surplus

@@ -35,7 +35,7 @@ use Rattle.device.specs.Disconnect.{disconnect_run, disconnect}
 use Rattle.theorem_slot.specs.Call.{Buffers, Asked, brings_up, claims, commits, releases, configures, updates_hub, disconnects, left}
 use Rattle.theorem_slot.specs.Answers.{is_refused, is_bring_up}
 use Rattle.theorem_slot.specs.Theorem.{State}
-use Rattle.theorem_slot.proofs.Good.{Down, Live, Good, live_tells, named_from}
+use Rattle.theorem_slot.proofs.Good.{Down, Live, Good, Stands, live_tells, named_from}
 use Rattle.theorem_slot.proofs.Step.{on_mild, mild_claim, mild_commit, mild_release, mild_set, mild_hub, mild_disconnect}
 use Rattle.theorem_slot.proofs.Refusing.{down_refuses}
 
@@ -152,7 +152,7 @@ unfolding refused number
 down_other asked b d routes n e =
     by_number _ _ (ap (λ (x : Left). x.answer) (down_refuses asked b d routes n e)) (λ z. omega arith)
 
-pub good_other :
+good_other :
     (slot : ℕ) (before : List ℕ) (s : State) → Good slot before s → (asked : Asked) (b : Buffers) → is_bring_up asked ≡ false →
     Other (left asked b s.device s.routes).answer
 good_other slot before s g asked b e = go g.live
@@ -160,3 +160,11 @@ good_other slot before s g asked b e = go g.live
     go : Down s.device ⊎ Live slot s.device s.plain → Other (left asked b s.device s.routes).answer
     go (inl n) = down_other asked b s.device s.routes n e
     go (inr l) = live_other slot before s g l b asked e
+
+-- Wherever the slot stands.
+pub stands_other :
+    (slot : ℕ) (before : List ℕ) (s : State) → Stands slot before s → (asked : Asked) (b : Buffers) → is_bring_up asked ≡ false →
+    Other (left asked b s.device s.routes).answer
+stands_other slot before s (inl g) asked b e = good_other slot before s g asked b e
+stands_other slot before s (inr (inl g)) asked b e = down_other asked b s.device s.routes g.down e
+stands_other slot before s (inr (inr g)) asked b e = down_other asked b s.device s.routes g.down e

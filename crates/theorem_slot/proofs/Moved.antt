@@ -12,7 +12,7 @@ use Rattle.laws.specs.Distinct.{elem}
 use Rattle.laws.proofs.Tests.{not_both}
 use Rattle.laws.proofs.Cases.{false_if, or_left, or_right, or_cases}
 use Rattle.answer.specs.declared.Answer.{Answer}
-use Rattle.answer.specs.Answer.{is_accepted, is_broken, is_lost}
+use Rattle.answer.specs.Answer.{is_accepted, is_lost}
 use Rattle.transfer.specs.Routes.{Queue}
 use Rattle.record_ring.specs.Rings.{entered}
 use Rattle.record_ring.proofs.Entered.{entered_has, entered_new, entered_from}
@@ -25,20 +25,20 @@ use Rattle.record_settings.specs.Held.{Held, setting_words}
 use Rattle.record_checks.proofs.Laws.{Apart, apart_offered, offered_live}
 use Rattle.course_steps.specs.End.{End}
 use Rattle.device.specs.declared.record.Device.{Device}
-use Rattle.device.specs.Device.{list_of, endpoint_map_in, quarantined_of, given_of, with_endpoints, with_held, with_configuration, unusable}
+use Rattle.device.specs.Device.{list_of, endpoint_map_in, quarantined_of, given_of, with_endpoints, with_held, with_configuration, quarantines, unusable}
 use Rattle.device.specs.Sound.{sound}
 use Rattle.device.specs.Left.{marked}
-use Rattle.device.specs.Claim.{drawn, quarantines, claim_record}
+use Rattle.device.specs.Claim.{drawn, claim_record}
 use Rattle.device.specs.Release.{release_record}
-use Rattle.device.specs.SetConfiguration.{bare, set_record}
+use Rattle.device.specs.SetConfiguration.{bare, ended_by, set_record}
 use Rattle.device.specs.Disconnect.{rings_in_doubt}
 use Rattle.device.proofs.Facts.{none_quarantined}
 use Rattle.device.proofs.Made.{Made, sound_clean, sound_apart}
 use Rattle.device.proofs.Kept.{ClaimPassed}
-use Rattle.theorem_slot.specs.Groups.{Groups, keeps, claimed_groups, broken_groups, returned_groups, doubted_groups}
+use Rattle.theorem_slot.specs.Groups.{Groups, keeps, claimed_groups, broken_groups, returned_groups, ended_groups, doubted_groups}
 use Rattle.theorem_slot.proofs.Bools.{implies, implies_if, same_if, law}
 use Rattle.theorem_slot.proofs.Kept.{has, has_place_lem, queue_has, owned_has, claimed_has}
-use Rattle.theorem_slot.proofs.Agree.{Agree, agree_same, agree_claimed, agree_broken, agree_returned, agree_doubted}
+use Rattle.theorem_slot.proofs.Agree.{Agree, agree_same, agree_claimed, agree_broken, agree_returned, agree_lost, agree_doubted}
 use Rattle.theorem_slot.proofs.Record.{used_by, in_doubt, AgreeWith, used_given}
 
 -- No ring.
@@ -64,27 +64,32 @@ marked_quarantined a d = go (is_lost a)
     go false = refl
 
 either_quarantined :
-    (b : Bool) (x y d : Device) → quarantined_of x ≡ quarantined_of d → (b ≡ false → quarantined_of y ≡ quarantined_of d) →
+    (b : Bool) (x y d : Device) → (b ≡ true → quarantined_of x ≡ quarantined_of d) → (b ≡ false → quarantined_of y ≡ quarantined_of d) →
     quarantined_of (cond b x y) ≡ quarantined_of d
-either_quarantined true x y d e f = e
+either_quarantined true x y d e f = e refl
 either_quarantined false x y d e f = f refl
 
 pub claim_keeps :
-    (d : Device) (i a : ℕ) (rings : List ℕ) (e : End) → (e.moved ≡ false → is_broken e.answer ≡ false) →
+    (d : Device) (i a : ℕ) (rings : List ℕ) (e : End) → (e.moved ≡ false → (e.doubted && is_lost e.answer) ≡ false) →
     quarantined_of (claim_record d i a rings e) ≡ quarantined_of d
 unfolding claim_record quarantines with_held with_endpoints quarantined_of
 claim_keeps d i a rings e n =
-    marked_quarantined e.answer _ ∙ either_quarantined e.moved _ _ d refl (λ t. rw (n t) refl)
+    marked_quarantined e.answer _ ∙ either_quarantined e.moved _ _ d (λ t. refl) (λ t. rw (n t) refl)
 
 pub release_keeps : (d : Device) (i : ℕ) (e : End) → quarantined_of (release_record d i e) ≡ quarantined_of d
 unfolding release_record with_held with_endpoints quarantined_of
-release_keeps d i e = marked_quarantined e.answer _ ∙ either_quarantined e.moved _ _ d refl (λ t. refl)
+release_keeps d i e = marked_quarantined e.answer _ ∙ either_quarantined e.moved _ _ d (λ t. refl) (λ t. refl)
 
-pub set_keeps : (d : Device) (value : ℕ) (e : End) → quarantined_of (set_record d value e) ≡ quarantined_of d
-unfolding set_record bare with_held with_endpoints with_configuration quarantined_of
-set_keeps d value e =
+pub set_keeps : (d : Device) (value : ℕ) (e : End) → (e.moved ≡ true → is_lost e.answer ≡ false) →
+    quarantined_of (set_record d value e) ≡ quarantined_of d
+unfolding set_record bare ended_by quarantines with_held with_endpoints with_configuration quarantined_of
+set_keeps d value e n =
     marked_quarantined e.answer _
-    ∙ either_quarantined e.moved _ _ d (either_quarantined (is_accepted e.answer) _ _ d refl (λ t. refl)) (λ t. refl)
+    ∙ either_quarantined e.moved _ _ d
+    (λ t.
+    either_quarantined (is_accepted e.answer) _ _ d (λ a. refl)
+    (λ a. either_quarantined (is_lost e.answer) _ _ d (λ l. not_both (is_lost e.answer) l (n t)) (λ l. refl)))
+    (λ t. refl)
 
 -- A sound record that agrees with some groups.
 module _ (d : Device) (s : sound d ≡ true) (g : Groups) (a : AgreeWith d g) where
@@ -160,6 +165,22 @@ module _ (d : Device) (s : sound d ≡ true) (g : Groups) (a : AgreeWith d g) wh
     unfolding no_endpoints
     agree_bare e hs lost y q old kept =
         agree_ended e hs no_endpoints lost y q old (has c.rings) kept (λ x h. h) (λ x. has_none x ∙ sym (and-not_self (has c.rings x)))
+
+    -- All settings end, in a call that is lost.
+    pub agree_bare_lost :
+        (e : Device) (hs : List Held) (lost : Bool) → Made d e hs no_endpoints lost → quarantined_of e ≡ queue_rings (queues_of c.rings) →
+        (old : List Queue) → ((x : ℕ) → keeps x old ≡ has c.rings x) → AgreeWith e (ended_groups old g)
+    unfolding no_endpoints used_by in_doubt
+    agree_bare_lost e hs lost y q old kept =
+        let o = has c.rings in
+        moved e hs no_endpoints lost y (ended_groups old g) (λ x. used_by d x && not (o x)) (λ x. in_doubt d x || o x)
+        (λ x.
+        rw (has_none x)
+        (law (λ b k o d e. implies b (not k)) (λ b k o d e. k) (λ b k o d e. (b || k) && not b) refl (o x) (eqb x d.control) false false false
+        (implies_if (o x) (not (eqb x d.control)) (λ h. ap not (not_control x h)))))
+        (λ x. rw (q, queue_has c.rings x long, none_doubted x) refl)
+        (agree_lost (given_of d) (used_by d) (in_doubt d) g a (λ x. false) o (λ x n. not_both false n refl) live_ring
+        old (λ x. used_by d x && not (o x)) (λ x. in_doubt d x || o x) kept (λ x. refl) (λ x. refl))
 
     -- One setting ends.
     pub agree_released :

@@ -62,7 +62,7 @@ module _ (d : Device) (s : sound d ≡ true) where
   live = rings_of (take d.ep_count d.eps)
 
   -- The rings by place are the arrays'.
-  has_live : (x : ℕ) → has (endpoint_map_in d).rings x ≡ elem x live
+  pub has_live : (x : ℕ) → has (endpoint_map_in d).rings x ≡ elem x live
   unfolding has endpoint_map_in live_rings
   has_live x = go (decided (eqb x 0))
     where

@@ -30,7 +30,7 @@ use Rattle.theorem_slot.proofs.Parted.{given_least, drawn_free}
 use Rattle.theorem_slot.proofs.Record.{draws_same, of_record}
 use Rattle.theorem_slot.proofs.Good.{Live, Stands, usable_live, up_live}
 use Rattle.theorem_slot.proofs.BringUp.{first_stands, first_groups, first_agrees}
-use Rattle.theorem_slot.proofs.Matched.{Other, good_other, down_other}
+use Rattle.theorem_slot.proofs.Matched.{Other, stands_other}
 use Rattle.theorem_slot.proofs.Demand3.{at_table, Sofar, stands_between, after_so_far, stands_alone}
 
 -- Of any such list the invariant holds.
@@ -88,14 +88,7 @@ none_mismatched =
     (λ slot s.
     (asked : Asked) (l : Buffers) (still : ℕ → Bool) (table : List ℕ) → is_bring_up asked ≡ false → Between slot still s.routes table →
     Other (left asked l s.device table).answer)
-    (λ slot before s g asked l still table e w. go slot _ (at_table s table) (stands_between slot still before s table w g) asked l e)
-  where
-    go :
-        (slot : ℕ) (before : List ℕ) (s : State) → Stands slot before s → (asked : Asked) (l : Buffers) → is_bring_up asked ≡ false →
-        Other (left asked l s.device s.routes).answer
-    go slot before s (inl g) asked l e = good_other slot before s g asked l e
-    go slot before s (inr (inl g)) asked l e = down_other asked l s.device s.routes g.down e
-    go slot before s (inr (inr g)) asked l e = down_other asked l s.device s.routes g.down e
+    (λ slot before s g asked l still table e w. stands_other slot _ (at_table s table) (stands_between slot still before s table w g) asked l e)
 
 -- Of one call.
 given_begun :

@@ -43,9 +43,9 @@ use Rattle.device.specs.Left.{Left, refused, ended}
 use Rattle.device.specs.Check.{record_check}
 use Rattle.device.specs.SetConfiguration.{settings_in, set_record, set_configuration}
 use Rattle.device.proofs.Laws.{Passed, passed}
-use Rattle.device.proofs.Kept.{set_moves, set_stays}
+use Rattle.device.proofs.Kept.{set_moves, set_stays, set_quarantined}
 use Rattle.theorem_slot.specs.Call.{Buffers, configures, left, cut_at, context_cut}
-use Rattle.theorem_slot.specs.Groups.{returned_groups}
+use Rattle.theorem_slot.specs.Groups.{Groups, returned_groups, ended_groups}
 use Rattle.theorem_slot.specs.Plain.{Plain, held_queues, is_held_dci, Effect, ends_all, effect_of, held_after, groups_after, anew, seen}
 use Rattle.theorem_slot.specs.Theorem.{State}
 use Rattle.theorem_slot.proofs.Settings.{AllFit, pairs}
@@ -53,7 +53,8 @@ use Rattle.theorem_slot.proofs.Good.{Live, Unrouted, Good, live_tells, routed_fr
 use Rattle.theorem_slot.proofs.Step.{lost_not, checked, good_checked, mild_set, ran, ran_upheld, checked_ran, called_here}
 use Rattle.theorem_slot.proofs.Kept.{kept_has}
 use Rattle.theorem_slot.proofs.Record.{AgreeWith}
-use Rattle.theorem_slot.proofs.Moved.{set_keeps, agree_bare}
+use Rattle.theorem_slot.proofs.Moved.{set_keeps, agree_bare, agree_bare_lost}
+use Rattle.theorem_slot.proofs.Disconnect.{lost_refused}
 use Rattle.theorem_slot.proofs.Made.{fit_active, agree_made, made_moved, made_same, byte_dcis}
 use Rattle.theorem_slot.proofs.Claimed.{some_place, owned_ring}
 
@@ -64,7 +65,7 @@ place_append q [] y = refl
 place_append q (w ∷ x) y = rw (place_append q x y) (sym (or_assoc (eqb (place_of (endpoint_descriptor w).address) q) (has_place q x) (has_place q y)))
 
 -- A held setting's places are among them.
-held_place :
+pub held_place :
     (list : List ℕ) (hs : List Held) (j q : ℕ) → is_held j hs ≡ true → has_place q (setting_words list j (alternate_of j hs)) ≡ true →
     has_place q (held_words list hs) ≡ true
 unfolding is_held alternate_of held_words
@@ -217,21 +218,38 @@ module _ (slot : ℕ) (before : List ℕ) (s : State) (buffers : Buffers) (value
         go (inl t) = rw t
         go (inr t) = rw (t, ring_word q h t)
 
-    ended_groups : end.moved ≡ true → AgreeWith now.device now.plain.groups
+    -- The groups where all held settings are ended.
+    abbrev without_held : Groups
+    without_held =
+        cond (is_lost end.answer) (ended_groups (held_queues p.held) p.groups) (returned_groups (held_queues p.held) p.groups)
+
+    moved_groups : end.moved ≡ true → AgreeWith now.device now.plain.groups
     unfolding now ran seen groups_after end course
-    ended_groups t =
-        let same : now.plain.groups ≡ returned_groups (held_queues p.held) p.groups = ap (λ x. cond x (returned_groups (held_queues p.held) p.groups) p.groups) (log_tells ∙ t) in
-        rw same
-        (agree_bare d pass.is_sound p.groups l.groups pass.usable (set_record d value end) _ _ (set_moves d _ _ _ value k end t)
-        (set_keeps d value end) (held_queues p.held) (kept_has (held_queues p.held) rings (live_by_place slot d p l)))
+    moved_groups t = go (decided (is_lost end.answer))
+      where
+        either : now.plain.groups ≡ without_held
+        either = ap (λ x. cond x without_held p.groups) (log_tells ∙ t)
+
+        go : Decided (is_lost end.answer) → AgreeWith now.device now.plain.groups
+        go (inl e) =
+            let same : now.plain.groups ≡ ended_groups (held_queues p.held) p.groups = either ∙ rw e refl in
+            rw same
+            (agree_bare_lost d pass.is_sound p.groups l.groups pass.usable (set_record d value end) _ _ (set_moves d _ _ _ value k end t)
+            (set_quarantined d _ _ _ value k end t (lost_refused end.answer e) e) (held_queues p.held)
+            (kept_has (held_queues p.held) rings (live_by_place slot d p l)))
+        go (inr e) =
+            let same : now.plain.groups ≡ returned_groups (held_queues p.held) p.groups = either ∙ rw e refl in
+            rw same
+            (agree_bare d pass.is_sound p.groups l.groups pass.usable (set_record d value end) _ _ (set_moves d _ _ _ value k end t)
+            (set_keeps d value end (λ m. e)) (held_queues p.held) (kept_has (held_queues p.held) rings (live_by_place slot d p l)))
 
     stayed_groups : end.moved ≡ false → AgreeWith now.device now.plain.groups
     unfolding now ran seen groups_after end course
     stayed_groups t =
-        let same : now.plain.groups ≡ p.groups = ap (λ x. cond x (returned_groups (held_queues p.held) p.groups) p.groups) (log_tells ∙ t) in
+        let same : now.plain.groups ≡ p.groups = ap (λ x. cond x without_held p.groups) (log_tells ∙ t) in
         rw same
         (agree_made d (set_record d value end) _ _ _ p.groups (set_stays d _ _ _ value k end t)
-        (active_rings Any (endpoint_map_in d) end.active) (set_keeps d value end) l.groups)
+        (active_rings Any (endpoint_map_in d) end.active) (set_keeps d value end (λ m. not_both end.moved m t)) l.groups)
 
     -- All held settings are ended.
     moved_good :
@@ -241,7 +259,7 @@ module _ (slot : ℕ) (before : List ℕ) (s : State) (buffers : Buffers) (value
         let v = set_moved (settings_in d value) s.routes buffers.outcomes buffers.ctx 0 in
         let m = set_moves d _ _ _ value k end t in
         let held : now.plain.held ≡ [] = ap (λ x. cond x [] p.held) (log_tells ∙ t) in
-        made_moved slot before s now g l [] no_endpoints (is_lost end.answer) m upheld refl (ap pairs held) (rw held tt) (ended_groups t) rings (replicate PLACES 0)
+        made_moved slot before s now g l [] no_endpoints (is_lost end.answer) m upheld refl (ap pairs held) (rw held tt) (moved_groups t) rings (replicate PLACES 0)
         ((v.gone t).2 ∙ ap (λ x. with_replaced s.routes x (queues_of rings) []) l.place
         ∙ ap (with_replaced s.routes slot (queues_of rings)) (sym no_queues))
         (none_named _ slot) routed

@@ -212,7 +212,7 @@ quiet effect outcomes p accepted broken cut =
       held = held_after effect accepted outcomes [] p;
       enabled = p.enabled;
       broken = p.broken || (broken || cut);
-      groups = groups_after effect accepted broken outcomes [] p;
+      groups = groups_after effect accepted broken (broken || cut) outcomes [] p;
     })
 
 quiet_same : (effect : Effect) (outcomes : List ℕ) (p : Plain) → quiet effect outcomes p false false false ≡ p

@@ -44,7 +44,7 @@ claimed_groups new old g =
       quarantined = g.quarantined;
     }
 
--- A claim is answered with 14: the kept rings are quarantined.
+-- A claim is lost after a Configure was sent: the kept rings are quarantined.
 unfoldable pub broken_groups : List Queue → Groups → Groups
 broken_groups new g =
     record {
@@ -62,6 +62,16 @@ returned_groups old g =
       free = λ x. g.free x || keeps x old;
       live = λ x. g.live x && not (keeps x old);
       quarantined = g.quarantined;
+    }
+
+-- Settings end in a set configuration that is lost: their rings are quarantined.
+unfoldable pub ended_groups : List Queue → Groups → Groups
+ended_groups old g =
+    record {
+      given = g.given;
+      free = g.free;
+      live = λ x. g.live x && not (keeps x old);
+      quarantined = λ x. g.quarantined x || keeps x old;
     }
 
 -- An unplugging is accepted: every live ring is free, control's too.

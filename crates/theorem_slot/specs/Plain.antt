@@ -1,15 +1,15 @@
 -- 01's plain slot: what a reader of the calls' arguments, answers and logs knows of a slot. Nothing of our record is in it.
-use Rattle.std.specs.Prelude.{ℕ, Bool, true, false, cond, ◌||◌, List, [], ◌∷◌, ◌++◌, eqb, length}
+use Rattle.std.specs.Prelude.{ℕ, Bool, true, false, cond, ◌||◌, List, [], ◌∷◌, ◌++◌, eqb, length, ◌&&◌}
 use Rattle.descriptor_list.specs.Companions.{joined}
 use Rattle.answer.specs.declared.Answer.{Answer}
 use Rattle.answer.specs.Answer.{is_accepted, is_broken, is_lost}
 use Rattle.context.specs.Steps.{word_dcis}
 use Rattle.transfer.specs.Routes.{Queue, queues, ring_for, names}
 use Rattle.record_settings.specs.Held.{setting_words}
-use Rattle.theorem_controller.specs.Controller.{SET-CONFIGURATION, DISABLE, controlled, enabled_after, done_word}
+use Rattle.theorem_controller.specs.Controller.{CONFIGURE, SET-CONFIGURATION, DISABLE, controlled, enabled_after, done_word, sent_word}
 use Rattle.course_init.specs.Reading.{BringUp, control_ring}
 use Rattle.theorem_slot.specs.Call.{Buffers, Asked, brings_up, claims, commits, releases, configures, updates_hub, disconnects}
-use Rattle.theorem_slot.specs.Groups.{Groups, given_groups, drawn_from, claimed_groups, broken_groups, returned_groups, freed_groups, doubted_groups}
+use Rattle.theorem_slot.specs.Groups.{Groups, given_groups, drawn_from, claimed_groups, broken_groups, returned_groups, ended_groups, freed_groups, doubted_groups}
 
 -- A held setting: an interface, its alternate, and the ring of each of its endpoint words.
 pub record HeldSetting : Type 0 where
@@ -117,20 +117,22 @@ held_after (ends_all operation) accepted outcomes words p = cond (done_word oper
 held_after unplugs accepted outcomes words p = p.held
 held_after nothing accepted outcomes words p = p.held
 
--- What they say of the given rings; `broken`: the answer is 14.
-unfoldable pub groups_after : Effect → Bool → Bool → List ℕ → List ℕ → Plain → Groups
-groups_after (begins a) accepted broken outcomes words p = cond (eqb (length words) 0) p.groups (given_groups a.rings)
-groups_after (holds_interface i a) accepted broken outcomes words p =
+-- What they say of the given rings; `broken`: the answer is 14, `lost`: it is 14 or 15.
+unfoldable pub groups_after : Effect → Bool → Bool → Bool → List ℕ → List ℕ → Plain → Groups
+groups_after (begins a) accepted broken lost outcomes words p = cond (eqb (length words) 0) p.groups (given_groups a.rings)
+groups_after (holds_interface i a) accepted broken lost outcomes words p =
     cond accepted
     (claimed_groups (claimed_setting i a p).queues (queues_of_one i p.held) p.groups)
-    (cond broken (broken_groups (claimed_setting i a p).queues p.groups) p.groups)
-groups_after (ends_one i) accepted broken outcomes words p =
+    (cond (lost && sent_word CONFIGURE words) (broken_groups (claimed_setting i a p).queues p.groups) p.groups)
+groups_after (ends_one i) accepted broken lost outcomes words p =
     cond accepted (returned_groups (queues_of_one i p.held) p.groups) p.groups
-groups_after (ends_all operation) accepted broken outcomes words p =
-    cond (done_word operation outcomes 0 words) (returned_groups (held_queues p.held) p.groups) p.groups
-groups_after unplugs accepted broken outcomes words p =
+groups_after (ends_all operation) accepted broken lost outcomes words p =
+    cond (done_word operation outcomes 0 words)
+    (cond lost (ended_groups (held_queues p.held) p.groups) (returned_groups (held_queues p.held) p.groups))
+    p.groups
+groups_after unplugs accepted broken lost outcomes words p =
     cond accepted (freed_groups p.groups) (cond broken (doubted_groups p.groups) p.groups)
-groups_after nothing accepted broken outcomes words p = p.groups
+groups_after nothing accepted broken lost outcomes words p = p.groups
 
 -- A slot whose bring-up was accepted: no held setting, and nothing but control enabled.
 unfoldable pub begun : BringUp → Plain
@@ -190,7 +192,7 @@ seen effect buffers answer words enabled p =
       held = held_after effect (is_accepted answer) buffers.outcomes words p;
       enabled = enabled;
       broken = p.broken || is_lost answer;
-      groups = groups_after effect (is_accepted answer) (is_broken answer) buffers.outcomes words p;
+      groups = groups_after effect (is_accepted answer) (is_broken answer) (is_lost answer) buffers.outcomes words p;
     }
 
 -- Its controller reads the words, and the contexts of their commands.

@@ -15,15 +15,15 @@ use Rattle.answer.specs.Answer.{is_accepted, is_broken, is_lost}
 use Rattle.course_steps.specs.End.{End}
 use Rattle.device.specs.declared.record.Device.{Device}
 use Rattle.device.specs.declared.record.Called.{Called}
-use Rattle.device.specs.Device.{with_endpoints, with_held, with_configuration, with_quarantined, unusable}
+use Rattle.device.specs.Device.{with_endpoints, with_held, with_configuration, with_quarantined, quarantines, unusable}
 use Rattle.device.specs.Sound.{slot_sound, sound}
 use Rattle.device.specs.Check.{record_check, disconnect_check}
 use Rattle.device.specs.Left.{Left, leaves, refused, marked, ended}
 use Rattle.device.specs.Calls.{on_check, hub_left, hub_update}
-use Rattle.device.specs.Claim.{drawn, quarantines, claim_record, claim}
+use Rattle.device.specs.Claim.{drawn, claim_record, claim}
 use Rattle.device.specs.Ask.{Ask, ask_check, commit}
 use Rattle.device.specs.Release.{release_record, release}
-use Rattle.device.specs.SetConfiguration.{bare, set_record, set_configuration}
+use Rattle.device.specs.SetConfiguration.{bare, ended_by, set_record, set_configuration}
 use Rattle.device.specs.Disconnect.{all_revoked, unplugged, disconnect_record, disconnect}
 use Rattle.device_image.specs.Layout.{WORDS}
 use Rattle.device_image.specs.Image.{encode, FixedIn, stored, is_set, read, is_image, decode}
@@ -109,16 +109,17 @@ cond_fixed false x y d e f = f
 claim_fixed : (d : Device) (i a : ℕ) (rings : List ℕ) (e : End) → fixed (claim_record d i a rings e) ≡ fixed d
 unfolding claim_record quarantines with_held with_endpoints with_quarantined
 claim_fixed d i a rings e =
-    marked_fixed e.answer _ ∙ cond_fixed e.moved _ _ d refl (cond_fixed (is_broken e.answer) _ _ d refl refl)
+    marked_fixed e.answer _ ∙ cond_fixed e.moved _ _ d refl (cond_fixed (e.doubted && is_lost e.answer) _ _ d refl refl)
 
 release_fixed : (d : Device) (i : ℕ) (e : End) → fixed (release_record d i e) ≡ fixed d
 unfolding release_record with_held with_endpoints
 release_fixed d i e = marked_fixed e.answer _ ∙ cond_fixed e.moved _ _ d refl refl
 
 set_fixed : (d : Device) (value : ℕ) (e : End) → fixed (set_record d value e) ≡ fixed d
-unfolding set_record bare with_configuration with_held with_endpoints
+unfolding set_record bare ended_by quarantines with_configuration with_held with_endpoints with_quarantined
 set_fixed d value e =
-    marked_fixed e.answer _ ∙ cond_fixed e.moved _ _ d (cond_fixed (is_accepted e.answer) _ _ d refl refl) refl
+    marked_fixed e.answer _
+    ∙ cond_fixed e.moved _ _ d (cond_fixed (is_accepted e.answer) _ _ d refl (cond_fixed (is_lost e.answer) _ _ d refl refl)) refl
 
 disconnect_fixed : (d : Device) (e : End) → fixed (disconnect_record d e) ≡ fixed d
 unfolding disconnect_record unplugged quarantines with_quarantined all_revoked

@@ -59,15 +59,15 @@ fn done(called: Result<Called, Cannot>, buffers: Buffers) -> Result<Done, Cannot
     called.map(done)
 }
 
-impl Pair {
-    fn ask(layer: &mut dyn Layer, case: &Case) -> Result<Done, Cannot> {
-        let mut buffers = case.buffers.clone();
-        let called = layer.called(&case.record, &case.call, &mut buffers);
-        done(called, buffers)
-    }
+pub fn ask(layer: &mut dyn Layer, case: &Case) -> Result<Done, Cannot> {
+    let mut buffers = case.buffers.clone();
+    let called = layer.called(&case.record, &case.call, &mut buffers);
+    done(called, buffers)
+}
 
+impl Pair {
     pub fn judge(&mut self, case: &Case) -> (Result<Done, Cannot>, Verdict) {
-        let mut subject = Self::ask(&mut *self.subject, case);
+        let mut subject = ask(&mut *self.subject, case);
         let verdict = match &mut subject {
             Err(_) => Verdict::Different("the subject does not answer"),
             Ok(subject) => {
@@ -117,14 +117,14 @@ impl Pair {
 
     /// Whether the subject's ask of a claim is refused as the claim is, or its commit leaves what the claim left.
     fn in_two(&mut self, case: &Case, args: &Claim, claimed: &Done) -> bool {
-        let Ok(ask) = Self::ask(&mut *self.subject, &Case { call: Call::Ask(args.clone()), ..case.clone() }) else {
+        let Ok(shown) = ask(&mut *self.subject, &Case { call: Call::Ask(args.clone()), ..case.clone() }) else {
             return false;
         };
-        if ask.answer.number != 0 {
-            return ask.answer == claimed.answer && ask.asked.is_none();
+        if shown.answer.number != 0 {
+            return shown.answer == claimed.answer && shown.asked.is_none();
         }
-        let commit = Case { call: Call::Commit(ask.asked), ..case.clone() };
-        Self::ask(&mut *self.subject, &commit).is_ok_and(|committed| committed.same(claimed))
+        let commit = Case { call: Call::Commit(shown.asked), ..case.clone() };
+        ask(&mut *self.subject, &commit).is_ok_and(|committed| committed.same(claimed))
     }
 
     /// Counts a case and hands back what the subject left.
@@ -146,7 +146,7 @@ impl Pair {
 
     /// What the reference leaves, with the fields that a public document decides in the original's place.
     pub fn ask_reference(&mut self, case: &Case) -> Result<Done, Cannot> {
-        let mut reference = Self::ask(&mut *self.reference, case);
+        let mut reference = ask(&mut *self.reference, case);
         if self.listed
             && let Ok(done) = &mut reference
         {
@@ -157,7 +157,7 @@ impl Pair {
 
     /// The subject's number.
     pub fn answer(&mut self, case: &Case) -> Option<u8> {
-        Self::ask(&mut *self.subject, case).ok().map(|done| done.answer.number)
+        ask(&mut *self.subject, case).ok().map(|done| done.answer.number)
     }
 
     pub fn differs(&mut self, case: &Case) -> bool {
@@ -261,6 +261,8 @@ fn rule(case: &Case, subject: &Done, reference: &Result<Done, Cannot>) -> Verdic
         (Call::BringUp(_), 19) if reference.is_ok() => Verdict::Listed(rows::PACKET_EXPONENT),
         (Call::Disconnect, 0 | 14) => unplugged(case, subject, reference),
         (Call::Release { interface }, 25) => unclaimed(case, *interface, reference),
+        (Call::Claim(_) | Call::Commit(_), 15) => in_doubt(case, subject, reference, rows::CUT_CLAIM),
+        (Call::SetConfiguration { .. }, 14 | 15) => in_doubt(case, subject, reference, rows::ENDED_RINGS),
         (_, 13) => failed_configure(case, subject, reference),
         _ => Verdict::Different("the layers"),
     }
@@ -320,6 +322,19 @@ fn unclaimed(case: &Case, interface: u8, reference: &Result<Done, Cannot>) -> Ve
     match idle && as_listed && *record == kept && buffers.routes == case.buffers.routes {
         true => Verdict::Listed(rows::UNCLAIMED_RELEASE),
         false => Verdict::Different("the release"),
+    }
+}
+
+/// The rows on rings in doubt, which the original frees: all else is the same.
+fn in_doubt(case: &Case, subject: &Done, reference: &Result<Done, Cannot>, row: &'static str) -> Verdict {
+    let Ok(reference) = reference else {
+        return Verdict::Different("the layers");
+    };
+    let freed = Record { quarantined: case.record.quarantined.clone(), ..subject.record.clone() };
+    let same = reference.answer == subject.answer && reference.buffers == subject.buffers && reference.record == freed;
+    match same && groups::moved_alike(case, subject) {
+        true => Verdict::Listed(row),
+        false => Verdict::Different("the rings in doubt"),
     }
 }
 

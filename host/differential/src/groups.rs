@@ -2,7 +2,7 @@
 
 use std::collections::BTreeSet;
 
-use scenario::{Asked, Call, Claim, Record};
+use scenario::{Call, Claim, Record};
 
 use crate::build::rings_wanted;
 use crate::case::Case;
@@ -12,15 +12,15 @@ type Rings = BTreeSet<u64>;
 
 /// A ring in quarantine counts only there.
 #[derive(Clone, Debug, Default, PartialEq, Eq)]
-struct Groups {
-    free: Rings,
-    live: Rings,
-    quarantined: Rings,
+pub struct Groups {
+    pub free: Rings,
+    pub live: Rings,
+    pub quarantined: Rings,
 }
 
 impl Groups {
     /// Those that a record says.
-    fn of(record: &Record) -> Groups {
+    pub fn of(record: &Record) -> Groups {
         let given: Rings = record.given.iter().copied().collect();
         let quarantined: Rings = record.quarantined.iter().copied().collect();
         let used = record.endpoints.iter().map(|e| e.ring).chain([record.control]).filter(|ring| *ring != 0);
@@ -47,9 +47,53 @@ impl Groups {
         self.free.extend(rings);
     }
 
-    fn take(&mut self, rings: &Rings) {
+    fn quarantine(&mut self, rings: &Rings) {
         self.free.retain(|ring| !rings.contains(ring));
+        self.live.retain(|ring| !rings.contains(ring));
+        self.quarantined.extend(rings);
     }
+
+    fn claim(&mut self, kept: &Rings, old: &Rings) {
+        self.free.retain(|ring| !kept.contains(ring));
+        self.free_live(old);
+        self.live.extend(kept);
+    }
+
+    /// What a call makes of them, of a slot whose record it was given. None: somebody else wrote the routes (18).
+    pub fn after(mut self, case: &Case, done: &Done) -> Option<Groups> {
+        let (record, number) = (&case.record, done.answer.number);
+        match &case.call {
+            _ if number == 18 => return None,
+            Call::BringUp(args) if done.answer.count > 0 => self = Groups::begun(&args.rings),
+            Call::Claim(_) | Call::Commit(_) => {
+                let args = case.call.claimed().unwrap_or_default();
+                let kept = kept(record, &args, &self.free);
+                match number {
+                    0 => self.claim(&kept, &owned(record, Some(args.interface))),
+                    14 | 15 if sent(case, done, CONFIGURE).is_some() => self.quarantine(&kept),
+                    _ => {}
+                }
+            }
+            Call::Release { interface } if number == 0 => self.free_live(&owned(record, Some(*interface))),
+            Call::SetConfiguration { .. } if sent(case, done, SET_CONFIGURATION) == Some(Some(0)) => match number {
+                14 | 15 => self.quarantine(&owned(record, None)),
+                _ => self.free_live(&owned(record, None)),
+            },
+            Call::Disconnect if number == 0 => self.free_live(&self.live.clone()),
+            Call::Disconnect if number == 14 => self.quarantine(&self.live.clone()),
+            _ => {}
+        }
+        Some(self)
+    }
+}
+
+const CONFIGURE: u32 = 3;
+const SET_CONFIGURATION: u32 = 7;
+
+/// The outcome of the first logged command of an operation, if there is one.
+fn sent(case: &Case, done: &Done, operation: u32) -> Option<Option<u8>> {
+    let at = done.buffers.log.iter().take(done.answer.count).position(|word| word >> 28 == operation)?;
+    Some(case.buffers.outcomes.get(at).copied())
 }
 
 /// The drawn rings that a claim's endpoints keep: of an address that is listed twice the last one.
@@ -64,39 +108,6 @@ fn owned(record: &Record, interface: Option<u8>) -> Rings {
     record.endpoints.iter().filter(|e| interface.is_none_or(|i| i == e.owner)).map(|e| e.ring).collect()
 }
 
-/// Whether SetConfiguration was sent and done.
-fn configuration_set(case: &Case, done: &Done) -> bool {
-    const SET_CONFIGURATION: u32 = 7;
-    let sent = done.buffers.log.iter().take(done.answer.count).position(|word| word >> 28 == SET_CONFIGURATION);
-    sent.is_some_and(|at| case.buffers.outcomes.get(at) == Some(&0))
-}
-
-/// What a call on a record makes of the groups. 18 is out of the question: somebody else wrote the routes.
-fn moved(case: &Case, done: &Done, mut groups: Groups) -> Option<Groups> {
-    let record = &case.record;
-    let kept = case.call.claimed().map_or(Rings::new(), |args| kept(record, &args, &groups.free));
-    match (&case.call, done.answer.number) {
-        (_, 18) => return None,
-        (Call::Claim(Claim { interface, .. }) | Call::Commit(Some(Asked { interface, .. })), 0) => {
-            groups.take(&kept);
-            groups.free_live(&owned(record, Some(*interface)));
-            groups.live.extend(kept);
-        }
-        (Call::Claim(_) | Call::Commit(_), 14) => {
-            groups.take(&kept);
-            groups.quarantined.extend(kept);
-        }
-        (Call::Release { interface }, 0) => groups.free_live(&owned(record, Some(*interface))),
-        (Call::SetConfiguration { .. }, _) if configuration_set(case, done) => groups.free_live(&owned(record, None)),
-        (Call::Disconnect, 14) => {
-            let live = std::mem::take(&mut groups.live);
-            groups.quarantined.extend(live);
-        }
-        _ => {}
-    }
-    Some(groups)
-}
-
 /// Whether the record that a call on a genuine record leaves has the groups that the calls so far make. (The record of
 /// an accepted unplugging is used for nothing: it keeps its rings, but for the endpoints'.)
 pub fn agree(case: &Case, done: &Done) -> bool {
@@ -109,10 +120,12 @@ pub fn agree(case: &Case, done: &Done) -> bool {
         Call::Disconnect if answer.number == 0 => {
             record.given == case.record.sorted().given && record.quarantined == case.record.quarantined
         }
-        _ => {
-            let wanted = moved(case, done, Groups::of(&case.record));
-            let now = Groups::of(record);
-            wanted.is_none_or(|wanted| wanted == now) && now.add_up(&case.record.given)
-        }
+        _ => moved_alike(case, done) && Groups::of(record).add_up(&case.record.given),
     }
+}
+
+/// Whether a call on a record, which is no accepted unplugging, makes of its groups those of the record that it leaves.
+pub fn moved_alike(case: &Case, done: &Done) -> bool {
+    let wanted = Groups::of(&case.record).after(case, done);
+    wanted.is_none_or(|wanted| wanted == Groups::of(&done.record))
 }

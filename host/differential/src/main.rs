@@ -6,6 +6,7 @@ mod build;
 mod case;
 mod choice;
 mod compare;
+mod doubt;
 mod exhaustive;
 mod faults;
 mod fields;
@@ -42,11 +43,13 @@ original.
   --reference LAYER   what is right (original)
   --subject LAYER     what is judged (library)
   --seed N            of the random calls (1)
-  --calls N           how many of them (600000)
+  --calls N           how many of them (600000); in lists for rings in doubt a quarter as many, 50000 at
+                      least
   --cases N           how many random cases of raw descriptors, and of settings (2000000); a twentieth of blocks, a
                       quarter of choices
   --part PART         one part instead of all: refusals, records, routes, outcomes, store, asks, intervals,
-                      companions, ports, packets, think, slots, random; raw, settings, block or choices (which the
+                      companions, ports, packets, think, slots, random; doubt, of the subject alone; raw, settings, block or choices
+                      (which the
                       original has not)
   --sample            print a small scenario for each call and answer, or case for each function and answer, instead
                       of the counts
@@ -103,7 +106,7 @@ fn options() -> Result<Options, String> {
         }
     }
     let is_part = |name: &String| {
-        ["random", "raw", "settings", "block", "choices"].contains(&name.as_str())
+        ["random", "doubt", "raw", "settings", "block", "choices"].contains(&name.as_str())
             || exhaustive::PARTS.iter().any(|part| part.0 == name)
     };
     match options.part.as_ref().filter(|name| !is_part(name)) {
@@ -121,12 +124,13 @@ fn main() -> ExitCode {
         Err(message) => return fail(&message),
     };
     let done = match options.part.as_deref() {
+        Some("doubt") => doubt(&options),
         Some("raw") => functions(&options, raw::run),
         Some("settings") => functions(&options, settings::run),
         Some("block") => functions(&options, block::run),
         Some("choices") => functions(&options, choice::run),
         Some(_) => calls(&options),
-        None => calls(&options).and_then(|passed| Ok(functions_if_there(&options)? && passed)),
+        None => calls(&options).and_then(|passed| Ok(beyond_calls(&options)? && passed)),
     };
     match done {
         Ok(true) => ExitCode::SUCCESS,
@@ -179,6 +183,18 @@ fn parts(options: &Options, pair: &mut Pair, tally: &mut Tally) {
     }
 }
 
+/// Calls in lists, at least: with so many each way into quarantine is met.
+const LISTED: u64 = 50_000;
+
+/// Lists of calls through the subject, and the rings that a controller may hold. False: one of them is free.
+fn doubt(options: &Options) -> Result<bool, String> {
+    let name = &options.subject;
+    let mut subject = runner::layer(name).ok_or_else(|| format!("'{name}' is not here"))?;
+    let (text, good) = doubt::run(name, &mut *subject, options.seed, (options.calls / 4).max(LISTED));
+    print(&text);
+    Ok(good)
+}
+
 /// Runs seed and number of random cases.
 type Run<Q> = fn(&outside::Pair, &mut outside::Tally<Q>, u64, u64);
 
@@ -202,15 +218,16 @@ fn functions<Q: Question>(options: &Options, run: Run<Q>) -> Result<bool, String
     Ok(difference.is_none() && tally.missing().is_empty())
 }
 
-/// All of them where both layers have them.
-fn functions_if_there(options: &Options) -> Result<bool, String> {
+/// What is not asked of the original: rings in doubt, and the functions outside a slot.
+fn beyond_calls(options: &Options) -> Result<bool, String> {
     let there = [&options.reference, &options.subject].iter().all(|name| runner::functions(name).is_some());
     if !there {
         return Ok(true);
     }
+    let in_lists = options.sample || options.store.is_some() || doubt(options)?;
     let (raw, settings) = (functions(options, raw::run)?, functions(options, settings::run)?);
     let (block, choices) = (functions(options, block::run)?, functions(options, choice::run)?);
-    Ok(raw && settings && block && choices)
+    Ok(in_lists && raw && settings && block && choices)
 }
 
 fn write(folder: &Path, store: &Store, pair: &mut Pair) -> std::io::Result<()> {

@@ -124,7 +124,7 @@ fn given(rng: &mut Rng, ctx: &[u8], routes: &[u64], all_done: u64) -> Buffers {
     buffers
 }
 
-fn bring_up(rng: &mut Rng) -> BringUp {
+pub fn bring_up(rng: &mut Rng) -> BringUp {
     let n = if rng.percent(97) { 1 + rng.below(6) as u32 } else { rng.of(&[0, 0, 40, 255, 256, 300]) };
     let slot = if rng.percent(97) && n > 0 { 1 + rng.below(u64::from(n.min(255))) as u8 } else { rng.byte() & 15 };
     let speed = if rng.percent(98) { 1 + rng.below(5) as u8 } else { rng.byte() & 15 };
@@ -368,11 +368,11 @@ fn asked(rng: &mut Rng, state: &State) -> Asked {
 }
 
 /// Another bring-up of the slot.
-fn again(rng: &mut Rng, slot: u8, n: u32) -> Call {
+pub fn again(rng: &mut Rng, slot: u8, n: u32) -> Call {
     Call::BringUp(BringUp { slot, n, ..bring_up(rng) })
 }
 
-fn call(rng: &mut Rng, record: &Record) -> Call {
+pub fn call(rng: &mut Rng, record: &Record) -> Call {
     match rng.below(20) {
         0..=8 => Call::Claim(claim(rng, record)),
         9..=11 => Call::Ask(claim(rng, record)),

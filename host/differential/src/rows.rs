@@ -23,7 +23,10 @@ pub const FOREIGN_WORD: &str = "a foreign word in an unplugging";
 pub const QUARANTINED_TWICE: &str = "a ring that is in quarantine already";
 pub const UNCLAIMED_RELEASE: &str = "a release of an interface that holds nothing";
 
-pub const ALL: [&str; 21] = [
+pub const CUT_CLAIM: &str = "the rings of a claim that is cut";
+pub const ENDED_RINGS: &str = "the rings of what a broken or cut set configuration ended";
+
+pub const ALL: [&str; 23] = [
     UNKNOWN_SPEED,
     HUB_MISSING,
     NO_ROOT_HUB,
@@ -45,6 +48,8 @@ pub const ALL: [&str; 21] = [
     FOREIGN_WORD,
     QUARANTINED_TWICE,
     UNCLAIMED_RELEASE,
+    CUT_CLAIM,
+    ENDED_RINGS,
 ];
 
 #[cfg(test)]

@@ -193,18 +193,26 @@ impl<'a> Course<'a> {
         }
     }
 
-    /// `_claim_interface`.
+    /// `_claim_interface`. Lost once a Configure was sent, it leaves its rings in doubt: the controller may hold them.
     pub fn claim(&mut self, args: &Claim) -> Run {
+        let new = self.lookup(args.interface, args.alternate);
+        // One for each word, the first word gets the lowest; of an address that is listed twice the last ring stays.
+        let pending: BTreeMap<u8, u64> = new.iter().map(EndpointWord::address).zip(self.record.free()).collect();
+        let switched = self.switch(args, &new, &pending);
+        if matches!(switched, Err(Ended { number: 14 | 15, .. })) && self.sent(CONFIGURE) {
+            self.quarantine(pending.into_values());
+        }
+        switched
+    }
+
+    fn switch(&mut self, args: &Claim, new: &[EndpointWord], pending: &BTreeMap<u8, u64>) -> Run {
         let Claim { interface, alternate } = args;
-        let new = self.lookup(*interface, *alternate);
         let old_alternate = self.record.held.iter().find(|h| h.0 == *interface).map(|h| h.1);
         let old_words = old_alternate.map(|a| self.lookup(*interface, a)).unwrap_or_default();
         let old = self.addresses(|e| e.owner == *interface);
-        // One for each word, the first word gets the lowest; of an address that is listed twice the last ring stays.
-        let pending: BTreeMap<u8, u64> = new.iter().map(EndpointWord::address).zip(self.record.free()).collect();
 
         self.stop_owned(&old)?;
-        let configured = self.configure((*interface, *alternate), &old_words, &new, &pending);
+        let configured = self.configure((*interface, *alternate), &old_words, new, pending);
         if let Err(Ended { number: 13, .. }) = configured {
             // As the original: the code of a resume that fails.
             self.resume(&old)?;
@@ -212,12 +220,11 @@ impl<'a> Course<'a> {
         configured?;
         let set = self.send(SET_INTERFACE, *interface, *alternate);
         if let Err(Ended { number: 13, .. }) = set {
-            let undone = self.undo_claim(*interface, old_alternate, &new, &old_words, &old);
-            undone.map_err(|end| self.broken_claim(end, &pending))?;
+            self.undo_claim(*interface, old_alternate, new, &old_words, &old).map_err(broken)?;
         }
         set?;
-        if !self.replace_queues(&old, &pending) {
-            return Err(self.broken_claim(BROKEN, &pending));
+        if !self.replace_queues(&old, pending) {
+            return Err(BROKEN);
         }
         self.forget(*interface);
         let claimed =
@@ -246,13 +253,18 @@ impl<'a> Course<'a> {
         Ok(())
     }
 
-    /// 14 quarantines the rings drawn; after a cut they are free.
-    fn broken_claim(&mut self, end: Ended, pending: &BTreeMap<u8, u64>) -> Ended {
-        let end = broken(end);
-        if end.number == 14 {
-            self.record.quarantined.extend(pending.values());
+    /// Whether a command of this operation is logged.
+    fn sent(&self, operation: u32) -> bool {
+        self.buffers.log[..self.count].iter().any(|word| word >> 28 == operation)
+    }
+
+    /// Each ring enters once.
+    fn quarantine(&mut self, rings: impl IntoIterator<Item = u64>) {
+        for ring in rings {
+            if !self.record.quarantined.contains(&ring) {
+                self.record.quarantined.push(ring);
+            }
         }
-        end
     }
 
     fn lookup(&self, interface: u8, alternate: u8) -> Vec<EndpointWord> {
@@ -305,7 +317,7 @@ impl<'a> Course<'a> {
         configured
     }
 
-    /// `_set_configuration`.
+    /// `_set_configuration`. Lost after its SetConfiguration is done, it leaves the rings of what it ended in doubt.
     pub fn set_configuration(&mut self, value: u8) -> Run {
         let mut held = self.record.held.clone();
         held.sort();
@@ -324,12 +336,16 @@ impl<'a> Course<'a> {
         if !self.replace_queues(&old, &BTreeMap::new()) {
             return Err(INVALID_ENDPOINT);
         }
+        let ended = self.rings();
         self.record.endpoints.clear();
         self.record.held.clear();
         self.context().configuration(value);
-        self.send(EVALUATE, 0, 0).map_err(broken)?;
-        self.record.config = Some(value);
-        Ok(())
+        let evaluated = self.send(EVALUATE, 0, 0).map_err(broken);
+        match evaluated {
+            Ok(()) => self.record.config = Some(value),
+            Err(_) => self.quarantine(ended.into_values()),
+        }
+        evaluated
     }
 
     /// `update_hub_inner`.
@@ -351,7 +367,9 @@ impl<'a> Course<'a> {
         }
         let disabled = self.send(DISABLE, 0, 0);
         if let Err(Ended { number: 13, .. }) = disabled {
-            self.quarantine_live(&old);
+            // Control's ring, then the endpoints' by rising address.
+            let live = self.rings();
+            self.quarantine([self.record.control].into_iter().chain(live.into_values()));
         }
         disabled.map_err(broken)?;
         let row = 32 * usize::from(self.record.slot);
@@ -360,16 +378,6 @@ impl<'a> Course<'a> {
         self.record.held.clear();
         (self.record.usable, self.record.up) = (false, false);
         Ok(())
-    }
-
-    /// Control's ring, then the endpoints' by rising address; each enters once.
-    fn quarantine_live(&mut self, addresses: &[u8]) {
-        let rings = self.rings();
-        for ring in [self.record.control].into_iter().chain(addresses.iter().map(|address| rings[address])) {
-            if !self.record.quarantined.contains(&ring) {
-                self.record.quarantined.push(ring);
-            }
-        }
     }
 }
 

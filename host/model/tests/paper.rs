@@ -203,17 +203,58 @@ fn draws() {
     let (none, _) = Model.set_configuration(&one, 1, &mut given).expect("a record");
     assert_eq!(none, record);
 
-    // 13 and a cut leave the drawn rings free, 14 quarantines the kept ones.
+    // 13 leaves the drawn rings free, 14 and 15 quarantine the kept ones.
     for (outcomes, number, free) in [
         (&[0, 7, 0][..], 13, &[0x20, 0x30, 0x40, 0x50][..]),
-        (&[0], 15, &[0x20, 0x30, 0x40, 0x50]),
+        (&[0], 15, &[0x20, 0x50]),
         (&[0, 7, 7], 14, &[0x20, 0x50]),
     ] {
         given.outcomes = outcomes.to_vec();
         let (left, answer) = Model.claim(&record, &claim(0), &mut given).expect("an answer");
         assert_eq!((answer.number, left.free()), (number, free.to_vec()));
-        assert_eq!(left.quarantined, if number == 14 { vec![0x30, 0x40] } else { vec![] });
+        assert_eq!(left.quarantined, if number == 13 { vec![] } else { vec![0x30, 0x40] });
         assert_eq!(left.given, record.given);
+    }
+}
+
+/// 02, item 12: "when a claim is cut, or answers 14, at or after a Configure was sent"; "so do the rings of the settings
+/// that a set configuration ended before it answered 14 or 15".
+#[test]
+fn rings_in_doubt() {
+    let bulk_out = 2 << 30 | 2 << 25 | 2 << 23 | 512 << 12;
+    let list = [configuration(1), alternate(0, 0), interrupt(1), bulk_out, alternate(0, 1), interrupt(3), bulk_out];
+    let mut given = buffers(32, &ALL_DONE);
+    let args = BringUp { rings: (1..=6).map(|at| 16 * at).collect(), ..plain(&list) };
+    let (record, _) = Model.bring_up(&args, &mut given).expect("a record");
+    let (held, _) = Model.claim(&record, &Claim::default(), &mut given).expect("a record");
+    assert_eq!(endpoint_rings(&held), [(0x02, 0x30), (0x81, 0x20)]);
+    let left = |call: &Call, outcomes: &[u8]| {
+        let mut lent = Buffers { outcomes: outcomes.to_vec(), ..given.clone() };
+        let (left, answer) = Model.call(&held, call, &mut lent).expect("an answer");
+        (answer.number, left.quarantined)
+    };
+    let switch = |outcomes: &[u8]| left(&Call::Claim(Claim { interface: 0, alternate: 1 }), outcomes);
+    let new = vec![0x50, 0x40];
+    // In a Stop, and in a Resume after one that failed.
+    for outcomes in [&[][..], &[0], &[0, 7]] {
+        assert_eq!(switch(outcomes), (15, vec![]));
+    }
+    // At the Configure, in a Resume after it failed, at SetInterface, in what undoes it.
+    for outcomes in [&[0, 0][..], &[0, 0, 7], &[0, 0, 7, 0], &[0, 0, 0], &[0, 0, 0, 7], &[0, 0, 0, 7, 0]] {
+        assert_eq!(switch(outcomes), (15, new.clone()));
+    }
+    for outcomes in [&[0, 0, 0, 7, 7][..], &[0, 0, 0, 7, 0, 7]] {
+        assert_eq!(switch(outcomes), (14, new.clone()));
+    }
+    for outcomes in [&[7][..], &[0, 7, 0], &[0, 0, 7, 7], &[0, 0, 7, 0, 0], &[0, 0, 0, 7, 0, 0]] {
+        assert_eq!(switch(outcomes), (13, vec![]));
+    }
+    let set = |outcomes: &[u8]| left(&Call::SetConfiguration { value: 1 }, outcomes);
+    assert_eq!(set(&[0, 0, 0, 0, 0]), (0, vec![]));
+    assert_eq!(set(&[0, 0, 0, 0, 7]), (14, vec![0x30, 0x20]));
+    assert_eq!(set(&[0, 0, 0, 0]), (15, vec![0x30, 0x20]));
+    for (outcomes, number) in [(&[7][..], 14), (&[0, 0], 15), (&[0, 0, 0], 15), (&[0, 0, 0, 7, 7], 14)] {
+        assert_eq!(set(outcomes), (number, vec![]));
     }
 }
 

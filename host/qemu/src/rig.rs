@@ -4,10 +4,10 @@ use std::collections::BTreeSet;
 use std::io;
 use std::time::Duration;
 
-use xhci_device::{Answer, Attached, Call, Command, Dci, Hub, Pending, Record, SlotId, route_index};
+use xhci_device::{Answer, Attached, Bus, Call, Command, Dci, Hub, Next, Pending, Record, SlotId, route_index};
 
 use crate::bus::{Hardware, Wire};
-use crate::controller::{Controller, SUCCESS};
+use crate::controller::{Controller, SUCCESS, TRBS};
 use crate::descriptors;
 use crate::findings::{Findings, Kind, LOOKUP};
 use crate::scenario::{Action, At, Key, Scenario};
@@ -90,6 +90,7 @@ impl Rig {
             Action::Claim(interface, alternate, answer) => {
                 self.claim(device, interface, alternate, answer);
             }
+            Action::GiveUp(interface, alternate, at) => self.give_up(device, Call::Claim { interface, alternate }, at),
             Action::Release(interface, answer) => self.call(device, Call::Release { interface }, answer),
             Action::SetConfiguration(value, answer) => {
                 self.call(device, Call::SetConfiguration { value }, answer);
@@ -272,6 +273,37 @@ impl Rig {
             seen.note(&mut self.controller);
             seen.check(&mut self.findings, place);
         }
+    }
+
+    /// A call is given up at one of its commands, which the controller has carried out all the same. The rings in which it
+    /// then reads are the held endpoints', or in quarantine: none of them is free.
+    fn give_up(&mut self, device: usize, call: Call<'_>, at: usize) {
+        let slot = self.devices[device].hardware.slot;
+        self.at(format!("{}, given up (slot {})", call_text(&call), slot.0));
+        let Device { record, ctx, hardware, .. } = &mut self.devices[device];
+        let mut pending = Pending::new(record, ctx, call);
+        let mut wire = Wire::new(&mut self.controller, hardware);
+        for place in 0..=at {
+            let Next::Send(due) = pending.next(&mut self.routes) else { break };
+            let outcome = wire.send(&due);
+            self.findings.check(Kind::Answer, outcome.is_ok(), || format!("the command at place {place} fails"));
+            if place < at {
+                pending.outcome(outcome);
+            }
+        }
+        self.controller.take_events(&self.routes);
+        self.check_events();
+        let Device { record, hardware, .. } = &self.devices[device];
+        let controller = &mut self.controller;
+        for dci in (2..32).map(Dci) {
+            let found = hardware.endpoint(controller, dci);
+            let reads = |ring: &u64| (*ring..*ring + 16 * TRBS).contains(&(found.dequeue & !15));
+            let route = self.routes[route_index(slot, dci)];
+            let known = route != 0 && reads(&route) || record.quarantined().any(|ring| reads(&ring));
+            let good = found.state == 0 || known && !record.free().any(|ring| reads(&ring));
+            self.findings.check(Kind::Enabled, good, || format!("Dci {} reads at {:x}", dci.0, found.dequeue));
+        }
+        self.findings.check(Kind::Enabled, record.is_up() && record.is_sound(), || "the record is lost".into());
     }
 
     /// A transfer that waited on an endpoint that was stopped came back to its ring, as stopped.

@@ -52,6 +52,9 @@ pub enum Action {
     BringUpWith(At, u8, &'static [u8]),
     /// Interface, alternate.
     Claim(u8, u8, Answer),
+    /// A claim of interface and alternate that is given up at a command, by its place: the controller carries it out, and the
+    /// layer is not told.
+    GiveUp(u8, u8, usize),
     Release(u8, Answer),
     SetConfiguration(u8, Answer),
     /// With so many ports.
@@ -179,6 +182,29 @@ pub const SCENARIOS: &[Scenario] = &[
             (0, Silence(IN1, C)),
             (0, Claim(0, 0, Accepted)),
             (0, Type(IN1, D)),
+        ],
+    },
+    Scenario {
+        name: "silent",
+        what: "a claim is given up at its Stop, at its Configure and at its SetInterface, which were carried out",
+        qemu: &["-device", "usb-kbd,port=1"],
+        steps: &[
+            (0, BringUpWith(Root(5), HIGH, ALTERNATE)),
+            (0, Claim(0, 0, Accepted)),
+            (0, Type(IN1, A)),
+            (0, GiveUp(0, 1, 0)),
+            (0, Disconnect),
+            (1, BringUpWith(Root(5), HIGH, ALTERNATE)),
+            (1, Claim(0, 0, Accepted)),
+            (1, Type(IN1, B)),
+            (1, GiveUp(0, 1, 1)),
+            (1, Disconnect),
+            (2, BringUpWith(Root(5), HIGH, ALTERNATE)),
+            (2, GiveUp(0, 0, 1)),
+            (2, Disconnect),
+            (3, BringUp(Root(5), HIGH, Accepted)),
+            (3, Claim(0, 0, Accepted)),
+            (3, Type(IN1, C)),
         ],
     },
     Scenario {

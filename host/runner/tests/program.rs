@@ -58,6 +58,16 @@ fn the_shipped_unplugging() {
     shipped(include_str!("../scenarios/unplug.txt"), include_str!("../scenarios/unplug.out"), told);
 }
 
+/// After silence the original frees what a Configure may have begun: a row of docs/DIFFERENCES.md.
+#[test]
+fn the_shipped_rings_in_doubt() {
+    let told = include_str!("../scenarios/doubt.explained");
+    shipped(include_str!("../scenarios/doubt.txt"), include_str!("../scenarios/doubt.out"), told);
+    for why in ["a Configure that adds it was sent", "its setting ended"] {
+        assert!(told.contains(&format!(" is quarantined: {why} before the call was lost\n")), "{why}");
+    }
+}
+
 /// The original has no ask.
 #[test]
 fn the_shipped_asks() {

@@ -186,7 +186,6 @@ pub fn explain_text(out: &mut String, layer: &mut dyn Layer, given: &Given, left
     answered(out, layer, given, left);
     asked(out, layer, given, left);
     routes(out, &given.buffers.routes, &left.table);
-    let was = (!matches!(given.call, Call::BringUp(_))).then_some(given.record);
-    explain_record(out, was, &left.record);
+    explain_record(out, given.call, given.record, &left.record);
     out.push('\n');
 }

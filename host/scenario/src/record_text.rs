@@ -2,7 +2,7 @@
 
 use std::fmt::Write;
 
-use crate::call::{Endpoint, Record};
+use crate::call::{Call, Endpoint, Record};
 
 fn usable(record: &Record) -> &'static str {
     match (record.usable, record.up) {
@@ -61,7 +61,16 @@ fn store(lines: &mut Vec<String>, was: &Record, is: &Record) {
     }
 }
 
-fn maps(lines: &mut Vec<String>, was: &Record, is: &Record) {
+/// Why a call puts rings into quarantine.
+fn doubt(call: &Call) -> &'static str {
+    match call {
+        Call::Claim(_) | Call::Commit(_) => "a Configure that adds it was sent before the call was lost",
+        Call::SetConfiguration { .. } => "its setting ended before the call was lost",
+        _ => "Disable failed, and the controller may hold it",
+    }
+}
+
+fn maps(lines: &mut Vec<String>, call: &Call, was: &Record, is: &Record) {
     for (interface, before, after) in beside(&was.held, &is.held, |held| held.0) {
         if before != after {
             lines.push(format!("interface {interface} holds {} -> {}", alternate(before), alternate(after)));
@@ -73,14 +82,14 @@ fn maps(lines: &mut Vec<String>, was: &Record, is: &Record) {
         }
     }
     for ring in is.quarantined.iter().filter(|ring| !was.quarantined.contains(ring)) {
-        lines.push(format!("ring {ring:x} is quarantined"));
+        lines.push(format!("ring {ring:x} is quarantined: {}", doubt(call)));
     }
     for ring in was.quarantined.iter().filter(|ring| !is.quarantined.contains(ring)) {
         lines.push(format!("ring {ring:x} is quarantined no more"));
     }
 }
 
-fn changes(was: &Record, is: &Record) -> Vec<String> {
+fn changes(call: &Call, was: &Record, is: &Record) -> Vec<String> {
     let mut lines = Vec::new();
     let mut number = |name: &str, was: String, is: String| {
         if was != is {
@@ -99,18 +108,18 @@ fn changes(was: &Record, is: &Record) -> Vec<String> {
     if was.list != is.list {
         lines.push(format!("another list: {} words -> {}", was.list.len(), is.list.len()));
     }
-    maps(&mut lines, was, is);
+    maps(&mut lines, call, was, is);
     store(&mut lines, was, is);
     lines
 }
 
 /// The record that a call returns: of a bring-up, which was given none, its numbers, otherwise what has changed.
-pub fn explain_record(out: &mut String, was: Option<&Record>, is: &Record) {
-    let Some(was) = was else {
+pub fn explain_record(out: &mut String, call: &Call, was: &Record, is: &Record) {
+    if matches!(call, Call::BringUp(_)) {
         let _ = writeln!(out, "  record: {}", numbers(is));
         return;
-    };
-    let lines = changes(was, is);
+    }
+    let lines = changes(call, was, is);
     let after = if lines.is_empty() { ", as it came" } else { "; changed:" };
     let _ = writeln!(out, "  record: {}{after}", usable(is));
     for line in lines {

@@ -142,7 +142,7 @@ pub enum Next<'a> {
 }
 
 /// A call that is being driven. After each step record, context and routes are as the call leaves them when it is
-/// cut there, so to drop a pending call is to cut it.
+/// cut there, so to drop a pending call is to cut it: rings that a Configure may have begun are then quarantined.
 ///
 /// [`run`](Pending::run) drives it to its end over a [`Bus`]. Or step by step, where commands end by an event:
 ///

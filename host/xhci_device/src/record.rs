@@ -134,6 +134,7 @@ impl Record {
     }
 
     /// The claim of an interface's alternate setting. Each of its endpoint words draws a ring, the lowest free one first.
+    /// Broken, or cut once a Configure was sent, it leaves the rings of its endpoints quarantined.
     pub fn claim(&mut self, memory: Memory<'_>, interface: u8, alternate: u8) -> (Answer, usize) {
         library::claim(&mut self.words, memory, interface, alternate)
     }
@@ -340,8 +341,8 @@ impl Record {
         })
     }
 
-    /// The rings that broken calls left behind, in the order of arrival. After a broken unplugging these are control's
-    /// and the endpoints' too.
+    /// The rings that lost calls left in doubt, in the order of arrival: the controller may hold them, and no claim draws
+    /// them. After a broken unplugging these are control's and the endpoints' too.
     pub fn quarantined(&self) -> impl ExactSizeIterator<Item = u64> + '_ {
         (0..self.count(QUARANTINED_COUNT, RING_ROOM)).map(|i| self.words[QUARANTINED + i])
     }

@@ -91,6 +91,27 @@ fn a_device_is_brought_up_and_used() {
     assert_eq!(record.disconnect(room.memory(&[0, 0])), (Answer::Unusable, 0));
 }
 
+/// Of a claim that is cut once its Configure was sent, and of a set configuration that breaks after it has ended a setting.
+#[test]
+fn rings_in_doubt_are_quarantined() {
+    let mut room = Room::new();
+    let (up, _, _) = Record::bring_up(room.memory(&[0; 16]), &device());
+    let mut held = up.clone();
+    assert_eq!(held.claim(room.memory(&[0; 16]), 0, 0).0, Answer::Accepted);
+    let row = room.routes;
+    for (outcomes, lost) in [(&[][..], false), (&[0], true), (&[0, 0], true)] {
+        let mut record = held.clone();
+        assert_eq!(record.claim(room.memory(outcomes), 0, 0).0, Answer::Cut);
+        assert!(record.quarantined().eq(lost.then_some(0x3000)) && record.free().eq((!lost).then_some(0x3000)));
+        assert_eq!(record.disconnect(room.memory(&[0; 3])).0, Answer::Accepted);
+        room.routes = row;
+    }
+    let mut record = held;
+    assert_eq!(record.set_configuration(room.memory(&[0, 0, 0, 9]), 1).0, Answer::InterfaceBroken);
+    assert!(record.quarantined().eq([0x2000]) && record.free().eq([0x3000]) && record.is_sound());
+    assert_eq!(record.endpoints().count(), 0);
+}
+
 #[test]
 fn a_refused_bring_up_leaves_an_empty_record() {
     let mut room = Room::new();

@@ -17,11 +17,11 @@ unfolding claim_undo undo_context on_sent Begins continued
 returns-in-Failed c =
     let prepared : c.prepare_configure.new.ctx ≡ undo_context (claim_of c.args.a c.args.old_words.now c.args.new_words.now) c.args.ctx.now = c.prepare_configure.ensures ∙ simp c.unwrap_or-alternate.ensures in
     λ routes. went_on _ _ _ _ _ refl c.send.ensures c.in-Failed.is
-    (rw (← prepared) (ended _ c.settings_kept.ensures))
+    (rw (← prepared) (ended _ c.settings_marked.ensures))
 
 pub returns-in-Cut : goal.returns-in-Cut
 unfolding claim_undo undo_context on_sent Begins continued
 returns-in-Cut c =
     let prepared : c.prepare_configure.new.ctx ≡ undo_context (claim_of c.args.a c.args.old_words.now c.args.new_words.now) c.args.ctx.now = c.prepare_configure.ensures ∙ simp c.unwrap_or-alternate.ensures in
     λ routes. went_on _ _ _ _ _ refl c.send.ensures c.in-Cut.is
-    (rw (← prepared) (ended _ c.settings_kept-in-Cut.ensures))
+    (rw (← prepared) (ended _ c.settings_marked-in-Cut.ensures))

@@ -19,4 +19,4 @@ returns-in-Failed c =
 pub returns-in-Cut : goal.returns-in-Cut
 unfolding claim_switch on_sent Begins continued
 returns-in-Cut c =
-    went_on _ _ _ _ _ refl c.send.ensures c.in-Cut.is (ended _ c.settings_kept.ensures)
+    went_on _ _ _ _ _ refl c.send.ensures c.in-Cut.is (ended _ c.settings_marked.ensures)

@@ -20,10 +20,10 @@ pub returns-in-Failed : goal.returns-in-Failed
 unfolding claim_undone claim_switch_back on_sent Begins continued
 returns-in-Failed c =
     λ old new ctx routes. rw c.in-Some.is
-    (went_on _ _ _ _ _ refl c.send.ensures c.in-Failed.is (ended _ c.settings_kept-in-Failed.ensures))
+    (went_on _ _ _ _ _ refl c.send.ensures c.in-Failed.is (ended _ c.settings_marked.ensures))
 
 pub returns-in-Cut : goal.returns-in-Cut
 unfolding claim_undone claim_switch_back on_sent Begins continued
 returns-in-Cut c =
     λ old new ctx routes. rw c.in-Some.is
-    (went_on _ _ _ _ _ refl c.send.ensures c.in-Cut.is (ended _ c.settings_kept-in-Cut.ensures))
+    (went_on _ _ _ _ _ refl c.send.ensures c.in-Cut.is (ended _ c.settings_marked-in-Cut.ensures))

@@ -14,4 +14,4 @@ pub returns-in-Err : goal.returns-in-Err
 unfolding published
 returns-in-Err c =
     let e = c.publish_endpoint_routes.ensures in
-    λ o ctx log. rw (e.1, error_kept _ _ _ _ _ (sym e.0 ∙ c.in-Err.is), ← e.0, c.in-Err.is) (ended o c.settings_kept.ensures)
+    λ o ctx log. rw (e.1, error_kept _ _ _ _ _ (sym e.0 ∙ c.in-Err.is), ← e.0, c.in-Err.is) (ended o c.settings_marked.ensures)

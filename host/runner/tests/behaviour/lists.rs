@@ -1,4 +1,4 @@
-//! docs/THEOREM.md, "Sixteen lists, worked through": calls through the library, read by a plain slot and by a plain USB device.
+//! docs/THEOREM.md, "Twenty lists, worked through": calls through the library, read by a plain slot and by a plain USB device.
 
 use std::collections::{BTreeMap, BTreeSet};
 
@@ -81,8 +81,12 @@ fn call(text: &str) -> (Step, bool) {
         assert_eq!(text, "bring-up");
         first()
     };
-    let given = outcomes.map(|given| numbers(given).iter().map(|byte| *byte as u8).collect());
-    (Step { outcomes: given.unwrap_or(DONE.to_vec()), ..step(call) }, keeps)
+    let given = match outcomes {
+        None => DONE.to_vec(),
+        Some("none") => Vec::new(),
+        Some(given) => numbers(given).iter().map(|byte| *byte as u8).collect(),
+    };
+    (Step { outcomes: given, ..step(call) }, keeps)
 }
 
 #[derive(Clone, Copy, PartialEq)]
@@ -163,11 +167,12 @@ impl Plain {
         Held { interface, alternate, rings: dcis.zip(self.free.iter().copied()).collect() }
     }
 
-    /// The settings that some interfaces hold end.
-    fn end(&mut self, ends: impl Fn(u8) -> bool) {
+    /// The settings that some interfaces hold end. Their rings are free, or where the call is lost in doubt.
+    fn end(&mut self, ends: impl Fn(u8) -> bool, lost: bool) {
         let (ended, held) = std::mem::take(&mut self.held).into_iter().partition::<Vec<Held>, _>(|h| ends(h.interface));
         self.held = held;
-        moved(ended.into_iter().flat_map(|held| held.rings.into_values()), &mut self.live, &mut self.free);
+        let to = if lost { &mut self.quarantined } else { &mut self.free };
+        moved(ended.into_iter().flat_map(|held| held.rings.into_values()), &mut self.live, to);
     }
 
     /// The ring that the slot's word of a Dci names.
@@ -194,21 +199,25 @@ impl Plain {
             self.configure(&contexts(i));
         }
         let (accepted, broken) = (left.answer.number == 0, left.answer.number == 14);
-        self.broken |= matches!(left.answer.number, 14 | 15);
+        let lost = matches!(left.answer.number, 14 | 15);
+        let configured = words.iter().any(|word| word >> 28 == CONFIGURE);
+        self.broken |= lost;
         match &step.call {
             Call::BringUp(_) if accepted => *self = Plain::begun(Phase::Up),
             Call::BringUp(_) if !words.is_empty() => *self = Plain::begun(Phase::NotUp),
-            Call::Claim(_) | Call::Commit(_) if accepted || broken => {
+            Call::Claim(_) | Call::Commit(_) if accepted || lost && configured => {
                 let new = self.claimed(step.call.claimed().expect("a setting"));
                 let to = if accepted { &mut self.live } else { &mut self.quarantined };
                 moved(new.rings.values().copied(), &mut self.free, to);
                 if accepted {
-                    self.end(|interface| interface == new.interface);
+                    self.end(|interface| interface == new.interface, false);
                     self.held.push(new);
                 }
             }
-            Call::Release { interface } if accepted => self.end(|held| held == *interface),
-            Call::SetConfiguration { .. } if (0..words.len()).any(|i| done(i, SET_CONFIGURATION)) => self.end(|_| true),
+            Call::Release { interface } if accepted => self.end(|held| held == *interface, false),
+            Call::SetConfiguration { .. } if (0..words.len()).any(|i| done(i, SET_CONFIGURATION)) => {
+                self.end(|_| true, lost);
+            }
             Call::Disconnect if accepted => {
                 self.free.append(&mut self.live);
                 (self.phase, self.held, self.enabled) = (Phase::Unplugged, Vec::new(), Vec::new());
@@ -279,8 +288,8 @@ fn said(call: &Call) -> Option<u8> {
 }
 
 #[test]
-fn sixteen_lists() {
-    for row in table("sixteen lists") {
+fn twenty_lists() {
+    for row in table("twenty lists") {
         let (mut session, mut plain) = (Session::new(), Plain::begun(Phase::Up));
         let begin = Step { routes: Some(others()), ..step(first()) };
         let mut left = session.run(&mut Library, &begin).expect("an answer");
@@ -303,5 +312,5 @@ fn sixteen_lists() {
         assert_eq!(row[1].split("; ").count(), row[2].split(", ").count(), "{row:?}");
         assert_eq!(row[3..12], told(&plain, &device), "{row:?}");
     }
-    assert_eq!(table("sixteen lists").len(), 16);
+    assert_eq!(table("twenty lists").len(), 20);
 }

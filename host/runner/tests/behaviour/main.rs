@@ -1,4 +1,4 @@
-//! docs/BEHAVIOUR.md, and the sixteen lists of docs/THEOREM.md, held against the proved library: pictures, examples and
+//! docs/BEHAVIOUR.md, and the twenty lists of docs/THEOREM.md, held against the proved library: pictures, examples and
 //! tables are read out of the pages.
 #![forbid(unsafe_code)]
 
@@ -62,7 +62,7 @@ const CHECKED: [&str; 46] = [
     "course unplugging again",
     "sound",
     "choices",
-    "sixteen lists",
+    "twenty lists",
 ];
 
 #[test]

@@ -16,7 +16,7 @@ use Rattle.device.specs.Claim.{drawn, pending_of}
 use Rattle.device.proofs.Facts.{list_joinable}
 use Rattle.device.proofs.Kept.{claim_passed}
 use Rattle.device.proofs.AskLaws.{asked}
-use Rattle.device.proofs.ClaimLaws.{old_words, new_words, queues_entered, free_placed_in, pending_drawn, drawn_enough, claim_left}
+use Rattle.device.proofs.ClaimLaws.{old_words, new_words, course_doubted, queues_entered, free_placed_in, pending_drawn, drawn_enough, claim_left}
 use Rattle.device.proofs.claim.run_claim.Goals as goal
 
 pub claim_args-args-requires : goal.claim_args-args-requires
@@ -87,6 +87,7 @@ claim_end-requires c =
         queues_entered d i alt _ _ _ (c.requires _ c.in-Ok.is).0 by c.queues_of-2.ensures,
         c.queues_of-2.ensures,
       );
+      doubted = course_doubted _ c.args.outcomes.now c.args.ctx.now c.args.routes.now c.args.log.now _ _ _ c.claim_interface-e.result c.claim_interface-e.ensures;
     }
 
 pub returns-in-Err : goal.returns-in-Err

@@ -3,14 +3,13 @@ use mathlib.Core.Bool.{cond}
 use mathlib.Core.List.{[]}
 use native.Mathlib.Omega.{arith}
 use lib.ListN.{length-take}
+use Rattle.answer.specs.Answer.{is_broken}
 use Rattle.record_endpoint.specs.Endpoint.{padded}
 use Rattle.record_settings.specs.Held.{interfaces_of, alternates_of}
-use Rattle.device.specs.Device.{quarantined_of, rebuilt}
-use Rattle.device.specs.Claim.{quarantines}
+use Rattle.device.specs.Device.{quarantined_of, rebuilt, quarantines}
 use Rattle.device.specs.Disconnect.{rings_in_doubt}
 use Rattle.device.proofs.Facts.{sound_facts}
-use Rattle.device.proofs.ClaimLaws.{is_quarantined, not_quarantined}
-use Rattle.device.proofs.DisconnectLaws.{down_only, rings_room, rings_entered, disconnect_made}
+use Rattle.device.proofs.DisconnectLaws.{is_quarantined, not_quarantined, down_only, rings_room, rings_entered, disconnect_made}
 use Rattle.device.proofs.disconnect.disconnect_end.Goals.{then-e, else-e+then-eq, else-e+else-eq}
 use Rattle.device.proofs.disconnect.disconnect_end.Goals as goal
 
@@ -30,7 +29,7 @@ pub returns : goal.returns
 unfolding padded interfaces_of alternates_of rebuilt quarantined_of
 returns c =
     let a = c.args in
-    let y : c.if-e.d ≡ cond a.e.moved (down_only a.d) (quarantines a.e.answer (rings_in_doubt a.d) a.d) = elim c.if-e.branch [
+    let y : c.if-e.d ≡ cond a.e.moved (down_only a.d) (quarantines (is_broken a.e.answer) (rings_in_doubt a.d) a.d) = elim c.if-e.branch [
       | then-e w ↦ w.d-is ∙ rw w.if-e.true
       | else-e+then-eq w ↦ w.d-is ∙ rw (w.if-e.false, is_quarantined a.e.answer (rings_in_doubt a.d) a.d _ w.eq.ensures w.if-eq.true)
           (rings_entered a.d c.requires.0 a.q a.c c.requires.1 c.requires.2 _ (rw (w.quarantined.ensures, w.rings.ensures) at w.enter_rings-count.ensures))

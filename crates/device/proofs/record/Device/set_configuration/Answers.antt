@@ -9,7 +9,7 @@ use Rattle.device.specs.SetConfiguration.{set_configuration}
 use Rattle.device.proofs.Laws.{record_passed}
 use Rattle.device.proofs.Facts.{list_joinable}
 use Rattle.device.proofs.Exits.{refused_left}
-use Rattle.device.proofs.SetConfigurationLaws.{set_left}
+use Rattle.device.proofs.SetConfigurationLaws.{old_entered, set_left}
 use Rattle.device.proofs.record.Device.set_configuration.Goals as goal
 
 pub returns-in-Err : goal.returns-in-Err
@@ -36,6 +36,11 @@ run_set_configuration-e-requires c =
       joinable = rw c.list.ensures (list_joinable c.args.self p.is_sound);
       count_in_bounds = omega (arith, q.room, p.room);
     }
+
+pub configured-self-requires : goal.configured-self-requires
+configured-self-requires c =
+    let p = record_passed _ _ _ _ _ c.record_check.ensures c.in_default.is in
+    old_entered c.args.self c.endpoint_map_in-c.result c.queues_of.result p.usable p.is_sound c.endpoint_map_in-c.ensures c.queues_of.ensures
 
 pub returns : goal.returns
 unfolding padded interfaces_of alternates_of endpoint_map_in list_of
