@@ -93,7 +93,7 @@ static struct reply remote(const struct request *r, void *const buffers[BUFFERS]
     }
     send_request(r, buffers);
     get(&reply, sizeof reply);
-    for (int i = 0; i < WRITTEN && r->function <= SETTINGS_TO_OLD; i++) {
+    for (int i = 0; i < WRITTEN && r->function <= TURN; i++) {
         get(buffers[i], r->count[i] * size_of[i]);
     }
     return reply;
@@ -192,6 +192,31 @@ struct xhci_device_chosen xhci_device_choose(
     chosen.answer = reply.answer;
     memcpy(chosen.alternates, &reply.value, sizeof chosen.alternates);
     return chosen;
+}
+
+/* The dispatcher is written in place. */
+static struct reply dispatch(enum function function, struct xhci_device_dispatcher *dispatcher, uint8_t slot) {
+    struct request r = {function, {0}, {slot}};
+    void *buffers[BUFFERS] = {0};
+    r.count[CTX] = sizeof *dispatcher;
+    buffers[CTX] = dispatcher;
+    return remote(&r, buffers);
+}
+
+struct xhci_device_dispatcher xhci_device_new_dispatcher(void) {
+    struct xhci_device_dispatcher dispatcher = {{0}, 0, 0};
+    dispatch(NEW_DISPATCHER, &dispatcher, 0);
+    return dispatcher;
+}
+
+struct xhci_device_submitted xhci_device_submit(struct xhci_device_dispatcher dispatcher, uint8_t slot) {
+    uint32_t answer = dispatch(SUBMIT, &dispatcher, slot).answer;
+    return (struct xhci_device_submitted){dispatcher, answer};
+}
+
+struct xhci_device_turned xhci_device_turn(struct xhci_device_dispatcher dispatcher) {
+    struct reply reply = dispatch(TURN, &dispatcher, 0);
+    return (struct xhci_device_turned){dispatcher, reply.code != 0, (uint8_t)reply.count};
 }
 
 struct xhci_device_answered xhci_device_release(LENT, uint8_t interface) {

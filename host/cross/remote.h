@@ -7,15 +7,17 @@
 
 #include "xhci_device.h"
 
-/* Those up to SETTINGS_TO_OLD write. */
+/* Those up to TURN write. */
 enum function {
     BRING_UP, CLAIM, COMMIT, RELEASE, SET_CONFIGURATION, HUB_UPDATE, DISCONNECT, READ_DESCRIPTORS, WRITE_DESCRIPTORS,
-    SETTINGS_TO_NEW, SETTINGS_TO_OLD, ASK, WHY, BLOCK, CHOOSE, IS_USABLE, IS_UP, IS_SOUND, RECORD_WORDS, COMMAND_OF
+    SETTINGS_TO_NEW, SETTINGS_TO_OLD, NEW_DISPATCHER, SUBMIT, TURN, ASK, WHY, BLOCK, CHOOSE, IS_USABLE, IS_UP, IS_SOUND,
+    RECORD_WORDS, COMMAND_OF
 };
 
 /* The buffers of a request, of which the first WRITTEN are written. Raw descriptors are read from the outcomes into the log,
  * and written from the list into the context; settings are converted from the outcomes, by the list, into the context.
- * The names of a choice are the outcomes. */
+ * The names of a choice are the outcomes. A dispatcher is the context, as it is given and as it is returned; whether a turn
+ * serves is the code, and which slot the count. */
 enum { IMAGE, CTX, ROUTES, LOG, OUTCOMES, RINGS, HUBS, LIST, BUFFERS };
 enum { WRITTEN = OUTCOMES, NUMBERS = 10 };
 

@@ -45,6 +45,18 @@ static void get_buffers(const struct request *r, void *buffers[BUFFERS]) {
     b[IMAGE], (size_t)c[IMAGE], b[CTX], (size_t)c[CTX], b[ROUTES], (size_t)c[ROUTES], b[LOG],       \
         (size_t)c[LOG], b[OUTCOMES], (size_t)c[OUTCOMES]
 
+static struct xhci_device_dispatcher dispatcher(void *b[BUFFERS]) {
+    struct xhci_device_dispatcher dispatcher;
+    memcpy(&dispatcher, b[CTX], sizeof dispatcher);
+    return dispatcher;
+}
+
+static struct xhci_device_answered dispatched(
+    struct xhci_device_dispatcher dispatcher, uint32_t answer, uint32_t served, uint8_t slot, void *b[BUFFERS]) {
+    memcpy(b[CTX], &dispatcher, sizeof dispatcher);
+    return (struct xhci_device_answered){answer, served, slot};
+}
+
 static struct xhci_device_answered make_call(const struct request *r, void *b[BUFFERS]) {
     const uint64_t *c = r->count, *n = r->number;
     switch (r->function) {
@@ -75,6 +87,16 @@ static struct xhci_device_answered make_call(const struct request *r, void *b[BU
     case SETTINGS_TO_OLD:
         return xhci_device_settings_to_old(
             b[OUTCOMES], (size_t)c[OUTCOMES], b[LIST], (size_t)c[LIST], (uint8_t)n[0], b[CTX], (size_t)c[CTX]);
+    case NEW_DISPATCHER:
+        return dispatched(xhci_device_new_dispatcher(), 0, 0, 0, b);
+    case SUBMIT: {
+        struct xhci_device_submitted submitted = xhci_device_submit(dispatcher(b), (uint8_t)n[0]);
+        return dispatched(submitted.dispatcher, submitted.answer, 0, 0, b);
+    }
+    case TURN: {
+        struct xhci_device_turned turned = xhci_device_turn(dispatcher(b));
+        return dispatched(turned.dispatcher, 0, turned.served, turned.slot, b);
+    }
     default:
         exit(1);
     }
@@ -87,6 +109,9 @@ static uint64_t command(struct xhci_device_command c) {
 _Static_assert(sizeof(struct xhci_device_asked) == 24, "the size that host/cross/build names");
 _Static_assert(sizeof(struct xhci_device_reason) == 24, "the size that host/cross/build names");
 _Static_assert(sizeof(struct xhci_device_placed) == 24, "the size that host/cross/build names");
+_Static_assert(sizeof(struct xhci_device_dispatcher) == 260, "the size that host/cross/build names");
+_Static_assert(sizeof(struct xhci_device_submitted) == 264, "the size that host/cross/build names");
+_Static_assert(sizeof(struct xhci_device_turned) == 262, "the size that host/cross/build names");
 
 static struct xhci_device_asked show(const struct request *r, void *b[BUFFERS]) {
     const uint64_t *n = r->number;
@@ -137,7 +162,7 @@ int main(void) {
         struct xhci_device_asked asked;
         struct xhci_device_reason reason;
         struct xhci_device_placed placed;
-        bool writes = r.function <= SETTINGS_TO_OLD;
+        bool writes = r.function <= TURN;
         get_buffers(&r, buffers);
         if (writes) {
             struct xhci_device_answered answered = make_call(&r, buffers);

@@ -96,6 +96,8 @@ enum {
     XHCI_DEVICE_NOT_CLAIMED = 25,       /* a release: the interface holds no setting */
     XHCI_DEVICE_COMPANION = 26,         /* at speeds 4 and 5: an endpoint word without its companion, a companion elsewhere, or one
                                            out of range */
+    XHCI_DEVICE_ALREADY_WAITING = 27,   /* a dispatcher: a call of the slot is waiting */
+    XHCI_DEVICE_TOO_MANY_SLOTS = 28,    /* a dispatcher: 32 other slots were taken */
     XHCI_DEVICE_TOO_MANY_NAMES = 29,    /* a choice: more than NAMES interfaces */
     XHCI_DEVICE_NO_CHOICE = 30          /* there is no such choice */
 };
@@ -130,6 +132,8 @@ static inline const char *xhci_device_answer_name(uint32_t answer) {
     case XHCI_DEVICE_OTHER_CONFIGURATION: return "the settings are of another configuration than the first";
     case XHCI_DEVICE_NOT_CLAIMED: return "the interface is not claimed";
     case XHCI_DEVICE_COMPANION: return "a companion is missing, misplaced or out of range";
+    case XHCI_DEVICE_ALREADY_WAITING: return "the slot has a call waiting";
+    case XHCI_DEVICE_TOO_MANY_SLOTS: return "thirty-two other slots were taken";
     case XHCI_DEVICE_TOO_MANY_NAMES: return "there are more than eight names";
     case XHCI_DEVICE_NO_CHOICE: return "there is no such choice";
     default: return "an answer without a name";
@@ -331,6 +335,38 @@ struct xhci_device_chosen {
  * while an interface that is not among the names holds its address. Reads the image and changes nothing. */
 struct xhci_device_chosen xhci_device_choose(
     const uint64_t *image, size_t image_len, const uint8_t *names, size_t names_len, uint32_t longest);
+
+/* A dispatcher: many slots over one command ring. It says whose turn it is; the calls that wait are the caller's, and each is
+ * run whole at its turn, before the next turn is taken. It goes by value, as its functions return it; one that is new is made
+ * by xhci_device_new_dispatcher, and its members are nobody else's to write. */
+#define XHCI_DEVICE_DISPATCHER_SLOTS 256
+
+struct xhci_device_dispatcher {
+    uint8_t marks[XHCI_DEVICE_DISPATCHER_SLOTS];    /* of each slot: 0 never taken, 1 taken, 2 taken with a call waiting */
+    uint16_t taken;     /* how many slots were ever taken */
+    uint16_t from;      /* where the next turn begins to look */
+};
+
+struct xhci_device_dispatcher xhci_device_new_dispatcher(void);
+
+struct xhci_device_submitted {
+    struct xhci_device_dispatcher dispatcher;
+    uint32_t answer;    /* 0: the call waits; or the first of 27 and 28, and the dispatcher is as it was */
+};
+
+/* A call of this slot is to wait: the slot of its record as it is now, a bring-up's the one that it names. Any byte is a slot
+ * here. A slot that has waited once is taken for good, and 32 may be. */
+struct xhci_device_submitted xhci_device_submit(struct xhci_device_dispatcher dispatcher, uint8_t slot);
+
+struct xhci_device_turned {
+    struct xhci_device_dispatcher dispatcher;
+    bool served;        /* false: none waits, and the dispatcher is as it was */
+    uint8_t slot;       /* whose call is to be run now; it waits no longer. 0 where none is */
+};
+
+/* The lowest waiting slot above the one served last, or, where there is none, the lowest. So a call is started after at most 31
+ * others. */
+struct xhci_device_turned xhci_device_turn(struct xhci_device_dispatcher dispatcher);
 
 /* Raw configuration descriptors (USB 2.0 section 9.6) of a device of a speed to descriptor words, into the first of 256 words
  * or more: 0, or the first of 3, 6, 20, 4 and 26. At speeds 4 and 5 an endpoint's companion (USB 3.2 section 9.6) is a word

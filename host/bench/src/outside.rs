@@ -1,5 +1,5 @@
 //! Functions that send no command: raw descriptors at three lengths, what a byte costs, with companions too; settings of old boards; an endpoint's
-//! block; and the reasons of claims.
+//! block; the reasons of claims; and turns of a dispatcher.
 
 use scenario::{
     Answer, BYTES_ROOM, Block, Buffers, Call, Conversion, Form, Made, RawRead, RawWrite, Record, Reply, Session, Side,
@@ -17,6 +17,8 @@ pub enum Question {
     Convert(Conversion),
     Show(Block),
     Why(Box<Claimed>),
+    /// A turn, and the slot that was served submitted again; of so many slots that wait, side by side.
+    Turn(u8),
 }
 
 /// A claim, what it was given, and what it left.
@@ -141,15 +143,20 @@ pub fn inputs() -> Vec<(String, Question)> {
     let sides = [(Side::Input, "input"), (Side::Output, "output")];
     let shown =
         sides.map(|(from, side)| [32, 64].map(|spacing| (format!("block-{side}-{spacing}"), show(from, spacing))));
+    let turns = [1, 32].map(|slots| (format!("turn-and-submission-of-{slots}"), Question::Turn(slots)));
     let outside = interfaces.into_iter().chain(quarter).chain(written).chain(paired.into_iter().flatten());
     let outside = outside.chain(converted.into_iter().flatten());
-    outside.chain(shown.into_iter().flatten()).chain(claimed().expect("claims.txt")).collect()
+    outside.chain(shown.into_iter().flatten()).chain(claimed().expect("claims.txt")).chain(turns).collect()
 }
 
 /// Asks so many times. The reply, and nanoseconds for each.
 pub fn repeat(layer: &str, question: &Question, times: u32) -> Option<(Reply, f64)> {
     let (functions, mut layer) = (runner::functions(layer)?, runner::layer(layer)?);
     let mut reply = Reply::default();
+    let mut dispatcher = functions.dispatcher();
+    if let Question::Turn(slots) = question {
+        (0..*slots).for_each(|slot| _ = dispatcher.submit(slot));
+    }
     start_clock();
     for _ in 0..times {
         reply = match question {
@@ -166,6 +173,10 @@ pub fn repeat(layer: &str, question: &Question, times: u32) -> Option<(Reply, f6
                 layer.why(&made).ok()?;
                 Reply { number: answer.number, count: 4 * answer.count }
             }
+            Question::Turn(_) => {
+                let served = dispatcher.turn()?;
+                Reply { number: dispatcher.submit(served), count: 0 }
+            }
         };
     }
     Some((reply, stop_clock().as_nanos() as f64 / f64::from(times.max(1))))
@@ -181,6 +192,7 @@ pub fn row(name: &str, question: &Question) -> Option<String> {
         Question::Show(_) => (reply.count, false),
         // Of the log; most of its cost is the record's.
         Question::Why(_) => (reply.count, false),
+        Question::Turn(_) => (0, false),
     };
     let each = |cost: f64| if goes_by_bytes { format!("{:.2}", cost / bytes as f64) } else { String::new() };
     let counts = instructions("library", name)

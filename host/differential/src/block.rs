@@ -52,7 +52,7 @@ fn random(pair: &Pair, tally: &mut Tally<Block>, seed: u64, cases: u64) {
 
 #[cfg(test)]
 mod tests {
-    use scenario::{Chosen, Functions, Record, Reply};
+    use scenario::{Chosen, Dispatch, Functions, Record, Reply};
 
     use super::*;
 
@@ -101,6 +101,10 @@ mod tests {
     }
 
     impl Functions for Wrong {
+        fn dispatcher(&self) -> Box<dyn Dispatch> {
+            functions("model").dispatcher()
+        }
+
         fn read_descriptors(&self, bytes: &[u8], speed: u8, words: &mut [u32]) -> Reply {
             functions("model").read_descriptors(bytes, speed, words)
         }

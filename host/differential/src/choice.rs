@@ -33,7 +33,7 @@ fn record(speed: u8, list: Vec<u32>) -> Record {
 
 #[cfg(test)]
 mod tests {
-    use scenario::{Chosen, Functions, Reply, Side};
+    use scenario::{Chosen, Dispatch, Functions, Reply, Side};
 
     use super::*;
 
@@ -106,6 +106,10 @@ mod tests {
     }
 
     impl Functions for Wrong {
+        fn dispatcher(&self) -> Box<dyn Dispatch> {
+            functions("model").dispatcher()
+        }
+
         fn read_descriptors(&self, bytes: &[u8], speed: u8, words: &mut [u32]) -> Reply {
             functions("model").read_descriptors(bytes, speed, words)
         }

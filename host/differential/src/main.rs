@@ -21,6 +21,7 @@ mod settings;
 mod shrink;
 mod store;
 mod tally;
+mod turns;
 
 use std::fs;
 use std::path::{Path, PathBuf};
@@ -45,11 +46,11 @@ original.
   --seed N            of the random calls (1)
   --calls N           how many of them (600000); in lists for rings in doubt a quarter as many, 50000 at
                       least
-  --cases N           how many random cases of raw descriptors, and of settings (2000000); a twentieth of blocks, a
-                      quarter of choices
+  --cases N           how many random cases of raw descriptors, and of settings (2000000); a twentieth of blocks, and
+                      of lists for a dispatcher, a quarter of choices
   --part PART         one part instead of all: refusals, records, routes, outcomes, store, asks, intervals,
-                      companions, ports, packets, think, slots, random; doubt, of the subject alone; raw, settings, block or choices
-                      (which the
+                      companions, ports, packets, think, slots, random; doubt, of the subject alone; raw, settings, block, choices
+                      or turns (which the
                       original has not)
   --sample            print a small scenario for each call and answer, or case for each function and answer, instead
                       of the counts
@@ -106,7 +107,7 @@ fn options() -> Result<Options, String> {
         }
     }
     let is_part = |name: &String| {
-        ["random", "doubt", "raw", "settings", "block", "choices"].contains(&name.as_str())
+        ["random", "doubt", "raw", "settings", "block", "choices", "turns"].contains(&name.as_str())
             || exhaustive::PARTS.iter().any(|part| part.0 == name)
     };
     match options.part.as_ref().filter(|name| !is_part(name)) {
@@ -129,6 +130,7 @@ fn main() -> ExitCode {
         Some("settings") => functions(&options, settings::run),
         Some("block") => functions(&options, block::run),
         Some("choices") => functions(&options, choice::run),
+        Some("turns") => turns(&options),
         Some(_) => calls(&options),
         None => calls(&options).and_then(|passed| Ok(beyond_calls(&options)? && passed)),
     };
@@ -195,6 +197,18 @@ fn doubt(options: &Options) -> Result<bool, String> {
     Ok(good)
 }
 
+/// Calls of many slots through the subject's dispatcher. False: one is not as it should be.
+fn turns(options: &Options) -> Result<bool, String> {
+    let Options { reference, subject, seed, cases, .. } = options;
+    let functions = |name: &str| runner::functions(name).ok_or(format!("'{name}' has no functions outside a slot"));
+    let mut layer = runner::layer(subject).ok_or_else(|| format!("'{subject}' is not here"))?;
+    let (reference, judged) = (functions(reference)?, functions(subject)?);
+    let mut pair = turns::Dispatchers { layer: &mut *layer, subject: &*judged, reference: &*reference };
+    let (text, good) = turns::run(subject, &mut pair, *seed, cases / 20);
+    print(&text);
+    Ok(good)
+}
+
 /// Runs seed and number of random cases.
 type Run<Q> = fn(&outside::Pair, &mut outside::Tally<Q>, u64, u64);
 
@@ -218,13 +232,13 @@ fn functions<Q: Question>(options: &Options, run: Run<Q>) -> Result<bool, String
     Ok(difference.is_none() && tally.missing().is_empty())
 }
 
-/// What is not asked of the original: rings in doubt, and the functions outside a slot.
+/// What is not asked of the original: rings in doubt, turns, and the functions outside a slot.
 fn beyond_calls(options: &Options) -> Result<bool, String> {
     let there = [&options.reference, &options.subject].iter().all(|name| runner::functions(name).is_some());
     if !there {
         return Ok(true);
     }
-    let in_lists = options.sample || options.store.is_some() || doubt(options)?;
+    let in_lists = options.sample || options.store.is_some() || doubt(options)? && turns(options)?;
     let (raw, settings) = (functions(options, raw::run)?, functions(options, settings::run)?);
     let (block, choices) = (functions(options, block::run)?, functions(options, choice::run)?);
     Ok(in_lists && raw && settings && block && choices)

@@ -17,7 +17,7 @@ pub fn run(pair: &Pair, tally: &mut Tally<Raw>, seed: u64, cases: u64) {
 
 #[cfg(test)]
 mod tests {
-    use scenario::{Chosen, Functions, Record, Reply, Side};
+    use scenario::{Chosen, Dispatch, Functions, Record, Reply, Side};
 
     use super::*;
 
@@ -69,6 +69,10 @@ mod tests {
     }
 
     impl Functions for Wrong {
+        fn dispatcher(&self) -> Box<dyn Dispatch> {
+            functions("model").dispatcher()
+        }
+
         fn read_descriptors(&self, bytes: &[u8], speed: u8, words: &mut [u32]) -> Reply {
             let mut memory = vec![0; words.len().max(256)];
             memory[..words.len()].copy_from_slice(words);

@@ -18,7 +18,7 @@ pub fn run(pair: &Pair, tally: &mut Tally<Conversion>, seed: u64, cases: u64) {
 
 #[cfg(test)]
 mod tests {
-    use scenario::{Chosen, Functions, Record, Reply, Side};
+    use scenario::{Chosen, Dispatch, Functions, Record, Reply, Side};
 
     use super::*;
 
@@ -95,6 +95,10 @@ mod tests {
     }
 
     impl Functions for Wrong {
+        fn dispatcher(&self) -> Box<dyn Dispatch> {
+            functions("model").dispatcher()
+        }
+
         fn read_descriptors(&self, bytes: &[u8], speed: u8, words: &mut [u32]) -> Reply {
             functions("model").read_descriptors(bytes, speed, words)
         }

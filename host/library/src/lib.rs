@@ -4,10 +4,12 @@
 pub mod words;
 
 use scenario::{
-    Answer, Asked, BringUp, Buffers, Cannot, Chosen, Claim, Functions, HubUpdate, Layer, Made, Outcome, Reason, Record,
-    Reply, Shown, Side, proper,
+    Answer, Asked, BringUp, Buffers, Cannot, Chosen, Claim, Dispatch, Functions, HubUpdate, Layer, Made, Outcome,
+    Reason, Record, Reply, Shown, Side, proper,
 };
-use xhci_device::{BlockRefusal, ChoiceRefusal, Context, Dci, Memory, RawRefusal, Setting, SettingsRefusal, SlotId};
+use xhci_device::{
+    BlockRefusal, ChoiceRefusal, Context, Dci, Memory, RawRefusal, Setting, SettingsRefusal, SlotId, SubmitRefusal,
+};
 
 pub struct Library;
 
@@ -120,7 +122,23 @@ fn replied<Refusal>(result: Result<usize, Refusal>, number: fn(Refusal) -> u8) -
     }
 }
 
+struct Turns(xhci_device::Order);
+
+impl Dispatch for Turns {
+    fn submit(&mut self, slot: u8) -> u8 {
+        proper(|| self.0.submit(SlotId(slot))).err().map_or(0, SubmitRefusal::number)
+    }
+
+    fn turn(&mut self) -> Option<u8> {
+        proper(|| self.0.turn()).map(|slot| slot.0)
+    }
+}
+
 impl Functions for Library {
+    fn dispatcher(&self) -> Box<dyn Dispatch> {
+        Box::new(Turns(xhci_device::Order::new()))
+    }
+
     fn read_descriptors(&self, bytes: &[u8], speed: u8, words: &mut [u32]) -> Reply {
         replied(proper(|| xhci_device::read_descriptors(bytes, speed, words)), RawRefusal::number)
     }

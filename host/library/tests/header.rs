@@ -2,7 +2,7 @@
 
 use xhci_device::{
     Answer, ChoiceRefusal, Command, Context, Dci, MOST_NAMES, READ_WORDS, RawRefusal, Reason, Record, SETTINGS_BYTES,
-    SettingsRefusal, WRITE_BYTES, endpoint_block,
+    SettingsRefusal, SubmitRefusal, WRITE_BYTES, endpoint_block,
 };
 
 const HEADER: &str = include_str!("../../include/xhci_device.h");
@@ -25,13 +25,16 @@ fn number(name: &str) -> usize {
 }
 
 /// The answers of functions outside a slot that no call gives.
-fn outside() -> [(u8, String); 5] {
+fn outside() -> [(u8, String); 7] {
     use ChoiceRefusal::{NoChoice, TooManyNames};
     use SettingsRefusal::{OtherConfiguration, Settings};
+    use SubmitRefusal::{AlreadyWaiting, TooManySlots};
     [
         (RawRefusal::Malformed.number(), RawRefusal::Malformed.to_string()),
         (Settings.number(), Settings.to_string()),
         (OtherConfiguration.number(), OtherConfiguration.to_string()),
+        (AlreadyWaiting.number(), AlreadyWaiting.to_string()),
+        (TooManySlots.number(), TooManySlots.to_string()),
         (TooManyNames.number(), TooManyNames.to_string()),
         (NoChoice.number(), NoChoice.to_string()),
     ]
@@ -56,7 +59,7 @@ fn answers_have_their_numbers_and_names() {
         assert_eq!(text.trim_end_matches("\";"), words.trim_end_matches(", with code 0"), "{name}");
         count += 1;
     }
-    assert_eq!((count, outside().map(|(number, _)| Answer::of(number, 0))), (29, [None; 5]));
+    assert_eq!((count, outside().map(|(number, _)| Answer::of(number, 0))), (31, [None; 7]));
 }
 
 #[test]

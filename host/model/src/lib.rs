@@ -8,6 +8,7 @@ mod check;
 mod choice;
 mod context;
 mod course;
+mod dispatch;
 mod list;
 mod raw;
 mod settings;
@@ -15,8 +16,8 @@ mod topology;
 mod why;
 
 use scenario::{
-    Answer, Asked, BringUp, Buffers, Cannot, Chosen, Claim, Functions, HubUpdate, Layer, Made, Outcome, Reason, Record,
-    Reply, Shown, Side,
+    Answer, Asked, BringUp, Buffers, Cannot, Chosen, Claim, Dispatch, Functions, HubUpdate, Layer, Made, Outcome,
+    Reason, Record, Reply, Shown, Side,
 };
 
 use course::{Course, Ended};
@@ -152,6 +153,10 @@ impl Functions for Model {
 
     fn endpoint_block<'a>(&self, input: &'a [u8], output: &'a [u8], from: Side, dci: u8) -> (u8, &'a [u8]) {
         block::endpoint_block(input, output, from, dci)
+    }
+
+    fn dispatcher(&self) -> Box<dyn Dispatch> {
+        Box::new(dispatch::Dispatcher::default())
     }
 
     fn choose(&self, record: &Record, names: &[u8], longest: u32) -> Chosen {

@@ -1,16 +1,18 @@
 //! Plays a scenario, and holds the controller against the record after every call.
 
-use std::collections::BTreeSet;
+use std::collections::{BTreeMap, BTreeSet};
 use std::io;
 use std::time::Duration;
 
-use xhci_device::{Answer, Attached, Bus, Call, Command, Dci, Hub, Next, Pending, Record, SlotId, route_index};
+use xhci_device::{
+    Answer, Attached, Bus, Call, Command, Dci, Hub, MOST_SLOTS, Next, Order, Pending, Record, SlotId, route_index,
+};
 
 use crate::bus::{Hardware, Wire};
 use crate::controller::{Controller, SUCCESS, TRBS};
 use crate::descriptors;
 use crate::findings::{Findings, Kind, LOOKUP};
-use crate::scenario::{Action, At, Key, Scenario};
+use crate::scenario::{Action, At, FULL, Key, Scenario};
 use crate::seen::{Place, Seen};
 use crate::text;
 
@@ -31,6 +33,13 @@ struct Device {
     speed: u8,
     /// A transfer that nothing ends: Dci and TRB.
     pending: Option<(Dci, u64)>,
+}
+
+/// The calls that wait: by slot the device, which of its calls it is, and how many were started before it was submitted.
+struct Desk {
+    order: Order,
+    waiting: BTreeMap<u8, (usize, u8, usize)>,
+    started: usize,
 }
 
 pub struct Rig {
@@ -114,6 +123,7 @@ impl Rig {
             Action::Pull(id, code) => self.pull(device, id, code),
             Action::Disable => self.disable(device),
             Action::Disconnect => self.disconnect(device),
+            Action::Crowd { hubs, keyboards } => self.crowd(hubs, keyboards),
         }
     }
 
@@ -130,6 +140,25 @@ impl Rig {
         invented: &'static [u8],
         prepared: impl Fn(&mut Hardware),
     ) {
+        let device = self.enable(at, speed);
+        let hardware = &mut self.devices[device].hardware;
+        hardware.invented = invented;
+        prepared(hardware);
+        self.begin(device, answer);
+    }
+
+    /// A slot for what is on a port.
+    fn enable(&mut self, at: At, speed: u8) -> usize {
+        let hardware = Hardware::new(&mut self.controller, &self.routes);
+        let (record, ctx) = (Record::new(), vec![0; 33 * self.controller.spacing]);
+        self.devices.push(Device { record, ctx, hardware, at, speed, pending: None });
+        self.devices.len() - 1
+    }
+
+    /// Resets the port, and brings up what is there.
+    fn begin(&mut self, device: usize, answer: Answer) {
+        let Device { at, speed, ref hardware, .. } = self.devices[device];
+        let (slot, n) = (hardware.slot, self.controller.slots);
         self.at(match at {
             At::Root(port) | At::EmptyRoot(port) => format!("root port {port}"),
             At::Hub(hub, port) | At::EmptyHub(hub, port) => {
@@ -142,17 +171,56 @@ impl Rig {
             At::Hub(hub, port) => self.reset_hub_port(hub, port),
         };
         self.findings.check(Kind::Device, found == speed, || format!("speed {found} where {speed} was expected"));
-        let mut hardware = Hardware::new(&mut self.controller, &self.routes);
-        hardware.invented = invented;
-        prepared(&mut hardware);
-        let (slot, n) = (hardware.slot, self.controller.slots);
         let rings = [(); GIVEN].map(|()| self.controller.ring());
-        let ctx = vec![0; 33 * self.controller.spacing];
-        let record = Record::new();
-        self.devices.push(Device { record, ctx, hardware, at, speed, pending: None });
         let (hubs, parent, port, root_port) = self.way(at);
         let attached = Attached { slot, n, speed, parent: Some(parent), port, root_port, rings: &rings, hubs: &hubs };
-        self.call(self.devices.len() - 1, Call::BringUp(attached), answer);
+        self.call(device, Call::BringUp(attached), answer);
+    }
+
+    /// Hubs on the root hub, and behind them keyboards: each is brought up and claimed, the hubs updated, the keyboards
+    /// released and claimed again. Every call waits for its turn, and the next one of its slot is submitted when it has run.
+    fn crowd(&mut self, hubs: u8, keyboards: u8) {
+        const FIRST_PORT: u8 = 5;
+        let mut desk = Desk { order: Order::new(), waiting: BTreeMap::new(), started: 0 };
+        for hub in 0..hubs {
+            let device = self.enable(At::Root(FIRST_PORT + hub), FULL);
+            self.submit(&mut desk, device, 0);
+        }
+        while let Some(slot) = desk.order.turn() {
+            let Some((device, step, before)) = desk.waiting.remove(&slot.0) else {
+                self.findings.check(Kind::Answer, false, || format!("slot {} has no call waiting", slot.0));
+                return;
+            };
+            let others = desk.started - before;
+            self.findings.check(Kind::Answer, others < MOST_SLOTS, || format!("{others} others were started before"));
+            desk.started += 1;
+            let is_hub = device < usize::from(hubs);
+            match step {
+                0 => self.begin(device, Answer::Accepted),
+                1 if is_hub => self.act(device, &Action::HubUpdate(8), |_| ()),
+                2 if !is_hub => self.act(device, &Action::Release(0, Answer::Accepted), |_| ()),
+                _ => self.claim(device, 0, 0, Answer::Accepted),
+            }
+            if step < if is_hub { 2 } else { 3 } {
+                self.submit(&mut desk, device, step + 1);
+            } else if is_hub {
+                for port in 1..=keyboards {
+                    let keyboard = self.enable(At::Hub(device, port), FULL);
+                    self.submit(&mut desk, keyboard, 0);
+                }
+            }
+        }
+        let up = self.devices.iter().filter(|device| device.record.held().len() == 1).count();
+        let all = usize::from(hubs) * (1 + usize::from(keyboards));
+        self.findings.check(Kind::Device, up == all, || format!("{up} devices of {all} are claimed"));
+    }
+
+    /// The next call of a device is to wait.
+    fn submit(&mut self, desk: &mut Desk, device: usize, step: u8) {
+        let slot = self.devices[device].hardware.slot;
+        let taken = desk.order.submit(slot);
+        self.findings.check(Kind::Answer, taken.is_ok(), || format!("slot {}: {taken:?}", slot.0));
+        desk.waiting.insert(slot.0, (device, step, desk.started));
     }
 
     /// The way to a device: hub words from the root hub on, the parent's place among them, port and root port.

@@ -84,9 +84,26 @@ pub enum Action {
     Disable,
     /// The unplugging.
     Disconnect,
+    /// So many hubs on the root hub, with so many keyboards on each: their calls go through one dispatcher.
+    Crowd {
+        hubs: u8,
+        keyboards: u8,
+    },
 }
 
-const FULL: u8 = 1;
+/// Four hubs, and keyboards on these ports of them.
+macro_rules! crowd {
+    ($($port:literal)*) => {
+        &[
+            "-device", "usb-hub,port=1", "-device", "usb-hub,port=2", "-device", "usb-hub,port=3", "-device",
+            "usb-hub,port=4", $("-device", concat!("usb-kbd,port=1.", $port), "-device",
+            concat!("usb-kbd,port=2.", $port), "-device", concat!("usb-kbd,port=3.", $port), "-device",
+            concat!("usb-kbd,port=4.", $port),)*
+        ]
+    };
+}
+
+pub const FULL: u8 = 1;
 const HIGH: u8 = 3;
 const SUPER: u8 = 4;
 const TRB_ERROR: u8 = 5;
@@ -327,6 +344,12 @@ pub const SCENARIOS: &[Scenario] = &[
             (3, Release(0, Accepted)),
             (1, Type(IN1, C)),
         ],
+    },
+    Scenario {
+        name: "many",
+        what: "thirty-two devices behind one dispatcher",
+        qemu: crowd!(1 2 3 4 5 6 7),
+        steps: &[(0, Crowd { hubs: 4, keyboards: 7 })],
     },
     Scenario {
         name: "audio",

@@ -6,7 +6,10 @@ use std::io::{self, BufRead, BufReader, Write};
 use std::process::ExitCode;
 
 use runner::program::{asked, fail};
-use scenario::{Case, Event, Functions, Given, Layer, Malformed, Reader, Session, Step, explain_text, left_text};
+use scenario::{
+    Case, Desk, Event, Functions, Given, Layer, Malformed, Reader, Served, Session, Step, Submission, explain_text,
+    left_text, submitted, turn_text,
+};
 
 const HELP: &str = "\
 usage: scenario [--explain] [--layer LAYER] FILE
@@ -58,6 +61,8 @@ fn marked(line: &[u8]) -> Option<String> {
     mark.map(|(_, message)| format!("line 1: {message}"))
 }
 
+const NO_FUNCTIONS: &str = "no answer: this layer has no functions outside a slot\n.\n";
+
 /// Whoever answers, and how it is printed.
 struct Asked {
     layer: Box<dyn Layer>,
@@ -84,10 +89,39 @@ impl Asked {
         }
     }
 
+    /// Submits a call to a dispatcher.
+    fn submit(&self, desk: Option<&mut Desk>, submission: &Submission, text: &mut String) {
+        let Some(desk) = desk else {
+            return text.push_str(NO_FUNCTIONS);
+        };
+        let (slot, number) = desk.submit(submission);
+        text.push_str(&match self.explain {
+            true => format!("a call of slot {slot}: {}\n\n", submitted(number)),
+            false => format!("submit {slot} {number}\n.\n"),
+        });
+    }
+
+    /// Runs the call whose turn it is.
+    fn turn(&mut self, desk: Option<&mut Desk>, text: &mut String) {
+        let Some(desk) = desk else {
+            return text.push_str(NO_FUNCTIONS);
+        };
+        match desk.turn() {
+            None if self.explain => text.push_str("a turn: none waits\n\n"),
+            None => text.push_str(&format!("{}\n.\n", turn_text(None))),
+            Some(Served { slot, home, mut session, step }) => {
+                let served = turn_text(Some(slot));
+                text.push_str(&if self.explain { format!("a turn: slot {slot}\n") } else { served + "\n" });
+                self.call(&mut session, &step, text);
+                desk.ran(home, session);
+            }
+        }
+    }
+
     /// Runs a case and adds what its function left to the text.
     fn case(&self, case: &Case, text: &mut String) {
         match &self.functions {
-            None => text.push_str("no answer: this layer has no functions outside a slot\n.\n"),
+            None => text.push_str(NO_FUNCTIONS),
             Some(functions) if self.explain => case.explain(&**functions, text),
             Some(functions) => case.run(&**functions, text),
         }
@@ -119,6 +153,7 @@ fn run(mut input: impl BufRead, asked: &mut Asked, out: &mut impl Write) -> Resu
     }
     let mut reader = Reader::new();
     let mut session = Session::new();
+    let mut desk = None;
     let mut text = String::new();
     let mut empty = true;
     for line in input.split(b'\n') {
@@ -132,6 +167,11 @@ fn run(mut input: impl BufRead, asked: &mut Asked, out: &mut impl Write) -> Resu
                 }
             }
             Some(Event::Call(step)) => asked.call(&mut session, &step, &mut text),
+            Some(Event::Dispatcher) => {
+                desk = asked.functions.as_ref().map(|functions| Desk::new(functions.dispatcher()));
+            }
+            Some(Event::Submit(submission)) => asked.submit(desk.as_mut(), &submission, &mut text),
+            Some(Event::Turn) => asked.turn(desk.as_mut(), &mut text),
             Some(Event::Case(case)) => asked.case(&case, &mut text),
             Some(Event::End) | None => {}
         }

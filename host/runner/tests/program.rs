@@ -76,6 +76,19 @@ fn the_shipped_asks() {
 }
 
 #[test]
+fn the_shipped_turns() {
+    let told = include_str!("../scenarios/turns.explained");
+    shipped(include_str!("../scenarios/turns.txt"), include_str!("../scenarios/turns.out"), told);
+    if runner::layer("original").is_some() {
+        let asked = run(&["--layer", "original", "-"], "scenario a\ndispatcher\nturn\nend\n");
+        assert_eq!(
+            String::from_utf8_lossy(&asked.stdout),
+            "no answer: this layer has no functions outside a slot\n.\n"
+        );
+    }
+}
+
+#[test]
 fn the_shipped_cases() {
     let told = include_str!("../scenarios/descriptors.explained");
     shipped(include_str!("../scenarios/descriptors.txt"), include_str!("../scenarios/descriptors.out"), told);

@@ -7,6 +7,7 @@ use std::fmt::{Debug, Write};
 use crate::block::{Block, Side};
 use crate::call::Record;
 use crate::choice::{Choice, Chosen};
+use crate::dispatch::{Dispatch, Turns};
 use crate::explain;
 use crate::raw::{RawRead, RawWrite};
 use crate::settings::{Conversion, Form};
@@ -39,11 +40,19 @@ pub trait Functions {
 
     /// One alternate for each interface named, of which no interrupt endpoint has a longer context interval.
     fn choose(&self, record: &Record, names: &[u8], longest: u32) -> Chosen;
+
+    /// A new dispatcher.
+    fn dispatcher(&self) -> Box<dyn Dispatch>;
 }
 
 /// A function with what it is given.
 pub trait Kind: Debug {
     fn name(&self) -> &'static str;
+
+    /// Whether its keys are lines in an order, each as often as wanted.
+    fn repeats(&self) -> bool {
+        false
+    }
 
     /// Takes the values of a key. False: there is no such key.
     fn key(&mut self, key: &str, words: &mut Words) -> Parsed<bool>;
@@ -67,6 +76,7 @@ pub fn kind(name: &str) -> Option<Box<dyn Kind>> {
         Conversion::TO_OLD => Box::new(Conversion::to(Form::Old)),
         Block::NAME => Box::new(Block::default()),
         Choice::NAME => Box::new(Choice::default()),
+        Turns::NAME => Box::new(Turns::default()),
         _ => return None,
     })
 }

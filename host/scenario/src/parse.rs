@@ -4,6 +4,7 @@ use std::{fmt, mem};
 
 use crate::call::*;
 use crate::case::{Case, kind};
+use crate::desk::{Dispatched, Line, Submission};
 use crate::record_key::record_key;
 use crate::value::*;
 
@@ -25,6 +26,10 @@ impl fmt::Display for Malformed {
 pub enum Event {
     Begin(String),
     Call(Box<Step>),
+    /// The scenario's calls go through a new dispatcher.
+    Dispatcher,
+    Submit(Box<Submission>),
+    Turn,
     End,
     Case(Case),
 }
@@ -48,16 +53,19 @@ fn routes(words: &mut Words) -> Parsed<Vec<(usize, u64)>> {
     }
 }
 
-/// A call between its name and `go`.
+/// A call between its name and `go`, or `submit`.
 struct Building {
     step: Step,
     seen: Vec<String>,
     record: Record,
+    /// Where it goes through a dispatcher: the home of a call on a record.
+    home: Option<u8>,
 }
 
 impl Building {
-    fn new(call: Call) -> Building {
-        Building { step: Step::new(call), seen: Vec::new(), record: Record::default() }
+    fn new(call: Call, mode: Mode) -> Building {
+        let home = (mode == Mode::Dispatched).then_some(0);
+        Building { step: Step::new(call), seen: Vec::new(), record: Record::default(), home }
     }
 
     fn line(&mut self, key: &str, words: &mut Words) -> Parsed<()> {
@@ -66,6 +74,14 @@ impl Building {
             return Err(format!("this call has no '{key}'"));
         }
         Ok(())
+    }
+
+    /// A bring-up's home is the slot that it names.
+    fn submitted(self) -> Parsed<Submission> {
+        let on = self.home.unwrap_or(0);
+        let step = self.finish()?;
+        let home = if let Call::BringUp(args) = &step.call { args.slot } else { on };
+        Ok(Submission { home, step })
     }
 
     fn common(&mut self, key: &str, words: &mut Words) -> Parsed<bool> {
@@ -104,6 +120,10 @@ impl Building {
     fn of_record(&mut self, key: &str, words: &mut Words) -> Parsed<bool> {
         if matches!(self.step.call, Call::BringUp(_)) {
             return Ok(false);
+        }
+        if let ("on", Some(home)) = (key, &mut self.home) {
+            *home = number(words)?;
+            return Ok(true);
         }
         record_key(&mut self.record, key, words)
     }
@@ -180,11 +200,28 @@ struct Asking {
 
 impl Asking {
     fn line(&mut self, key: &str, words: &mut Words) -> Parsed<()> {
-        once(&mut self.seen, key)?;
+        if !self.case.kind.repeats() {
+            once(&mut self.seen, key)?;
+        }
         if !self.case.kind.key(key, words)? {
             return Err(format!("'{}' has no '{key}'", self.case.kind.name()));
         }
         Ok(())
+    }
+}
+
+/// How a scenario's calls are run.
+#[derive(Clone, Copy, PartialEq, Eq)]
+enum Mode {
+    /// Its first line decides.
+    Begun,
+    Plain,
+    Dispatched,
+}
+
+impl Mode {
+    fn decided(self) -> Mode {
+        if self == Mode::Begun { Mode::Plain } else { self }
     }
 }
 
@@ -194,8 +231,8 @@ enum Place {
     #[default]
     Outside,
     /// In a scenario, between calls.
-    Between,
-    Call(Box<Building>),
+    Between(Mode),
+    Call(Box<Building>, Mode),
     /// In a case of this name, before its kind.
     Case(String),
     Kind(Asking),
@@ -222,7 +259,7 @@ impl Reader {
     pub fn finish(&self) -> Result<(), Malformed> {
         let message = match self.place {
             Place::Outside => return Ok(()),
-            Place::Between | Place::Call(_) => "the scenario has no 'end'",
+            Place::Between(_) | Place::Call(..) => "the scenario has no 'end'",
             Place::Case(_) | Place::Kind(_) => "the case has no 'go'",
         };
         Err(self.malformed(message.to_string()))
@@ -250,18 +287,25 @@ impl Reader {
 /// Where the line after this one stands, and what this one completes.
 fn next(place: Place, key: &str, words: &mut Words) -> Parsed<(Place, Option<Event>)> {
     Ok(match (place, key) {
-        (Place::Outside, "scenario") => (Place::Between, Some(Event::Begin(name(words)?))),
+        (Place::Outside, "scenario") => (Place::Between(Mode::Begun), Some(Event::Begin(name(words)?))),
         (Place::Outside, "case") => (Place::Case(name(words)?), None),
         (Place::Outside, _) => return Err(format!("'{key}' stands outside a scenario or a case")),
-        (Place::Between, "end") => (Place::Outside, Some(Event::End)),
-        (Place::Between, _) => {
-            let call = named(key).ok_or_else(|| format!("there is no call '{key}'"))?;
-            (Place::Call(Box::new(Building::new(call))), None)
+        (Place::Between(_), "end") => (Place::Outside, Some(Event::End)),
+        (Place::Between(Mode::Begun), "dispatcher") => (Place::Between(Mode::Dispatched), Some(Event::Dispatcher)),
+        (Place::Between(Mode::Dispatched), "turn") => (Place::Between(Mode::Dispatched), Some(Event::Turn)),
+        (Place::Between(mode), _) => {
+            let (call, mode) = (named(key).ok_or_else(|| format!("there is no call '{key}'"))?, mode.decided());
+            (Place::Call(Box::new(Building::new(call, mode)), mode), None)
         }
-        (Place::Call(building), "go") => (Place::Between, Some(Event::Call(Box::new(building.finish()?)))),
-        (Place::Call(mut building), _) => {
+        (Place::Call(building, Mode::Dispatched), "submit") => {
+            (Place::Between(Mode::Dispatched), Some(Event::Submit(Box::new(building.submitted()?))))
+        }
+        (Place::Call(building, mode @ Mode::Plain), "go") => {
+            (Place::Between(mode), Some(Event::Call(Box::new(building.finish()?))))
+        }
+        (Place::Call(mut building, mode), _) => {
             building.line(key, words)?;
-            (Place::Call(building), None)
+            (Place::Call(building, mode), None)
         }
         (Place::Case(name), _) => {
             let kind = kind(key).ok_or_else(|| format!("there is no kind of case '{key}'"))?;
@@ -300,7 +344,24 @@ fn named(key: &str) -> Option<Call> {
 #[derive(Debug, Default)]
 pub struct Contents {
     pub scenarios: Vec<Scenario>,
+    /// Those with a dispatcher.
+    pub dispatched: Vec<Dispatched>,
     pub cases: Vec<Case>,
+}
+
+impl Contents {
+    /// The scenario begun last goes through a dispatcher.
+    fn dispatch(&mut self) {
+        if let Some(Scenario { name, .. }) = self.scenarios.pop() {
+            self.dispatched.push(Dispatched { name, lines: Vec::new() });
+        }
+    }
+
+    fn line(&mut self, line: Line) {
+        if let Some(scenario) = self.dispatched.last_mut() {
+            scenario.lines.push(line);
+        }
+    }
 }
 
 pub fn parse(text: &str) -> Result<Contents, Malformed> {
@@ -314,6 +375,9 @@ pub fn parse(text: &str) -> Result<Contents, Malformed> {
                     scenario.steps.push(*step);
                 }
             }
+            Some(Event::Dispatcher) => contents.dispatch(),
+            Some(Event::Submit(submission)) => contents.line(Line::Submit(*submission)),
+            Some(Event::Turn) => contents.line(Line::Turn),
             Some(Event::Case(case)) => contents.cases.push(case),
             Some(Event::End) | None => {}
         }

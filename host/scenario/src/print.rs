@@ -3,6 +3,7 @@
 use std::fmt::Write;
 
 use crate::call::*;
+use crate::desk::{Dispatched, Line, Submission};
 use crate::session::Left;
 
 const DIGITS: &[u8; 16] = b"0123456789abcdef";
@@ -149,8 +150,8 @@ fn bring_up(out: &mut String, args: &BringUp) {
     out.push('\n');
 }
 
-/// A call as a scenario has it, from its name to `go`.
-pub fn step_text(out: &mut String, step: &Step) {
+/// A call as a scenario has it, without its last line.
+fn call_text(out: &mut String, step: &Step) {
     match &step.call {
         Call::BringUp(args) => bring_up(out, args),
         Call::Claim(args) => {
@@ -192,7 +193,30 @@ pub fn step_text(out: &mut String, step: &Step) {
         let _ = writeln!(out, "loglen {}", step.log_len);
     }
     bytes(out, "outcomes", &step.outcomes);
+}
+
+/// A call as a scenario has it, from its name to `go`.
+pub fn step_text(out: &mut String, step: &Step) {
+    call_text(out, step);
     out.push_str("go\n");
+}
+
+/// A scenario with a dispatcher.
+pub fn dispatched_text(out: &mut String, scenario: &Dispatched) {
+    let _ = writeln!(out, "scenario {}\ndispatcher", scenario.name);
+    for line in &scenario.lines {
+        match line {
+            Line::Turn => out.push_str("turn\n"),
+            Line::Submit(Submission { home, step }) => {
+                call_text(out, step);
+                if !matches!(step.call, Call::BringUp(_)) {
+                    let _ = writeln!(out, "on {home}");
+                }
+                out.push_str("submit\n");
+            }
+        }
+    }
+    out.push_str("end\n");
 }
 
 pub fn scenario_text(out: &mut String, scenario: &Scenario) {

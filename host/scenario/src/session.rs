@@ -90,6 +90,24 @@ impl Session {
         Ok(self.settle(&call, called, buffers))
     }
 
+    pub(crate) fn record(&self) -> &Record {
+        &self.record
+    }
+
+    /// What the last accepted ask that ran here returned, told once.
+    pub(crate) fn last_asked(&mut self) -> Option<Asked> {
+        self.asked.take()
+    }
+
+    /// The table of all slots, for a call.
+    pub(crate) fn lend(&mut self, table: Vec<u64>) {
+        self.table = table;
+    }
+
+    pub(crate) fn take_back(&mut self) -> Vec<u64> {
+        std::mem::take(&mut self.table)
+    }
+
     fn grow(&mut self, len: usize) {
         if self.table.len() < len {
             self.table.resize(len, 0);

@@ -42,10 +42,42 @@ block
 go
 ";
 
+/// Every slot waits, and is served in the order of its submissions.
+#[derive(Default)]
+struct Queue(Vec<u8>);
+
+impl Dispatch for Queue {
+    fn submit(&mut self, slot: u8) -> u8 {
+        self.0.push(slot);
+        0
+    }
+
+    fn turn(&mut self) -> Option<u8> {
+        (!self.0.is_empty()).then(|| self.0.remove(0))
+    }
+}
+
+/// Nobody waits.
+struct Nobody(u8);
+
+impl Dispatch for Nobody {
+    fn submit(&mut self, _: u8) -> u8 {
+        self.0
+    }
+
+    fn turn(&mut self) -> Option<u8> {
+        None
+    }
+}
+
 /// Writes into all it is given: the count is the first byte's, or the words'.
 struct Scribe;
 
 impl Functions for Scribe {
+    fn dispatcher(&self) -> Box<dyn Dispatch> {
+        Box::new(Queue::default())
+    }
+
     fn read_descriptors(&self, bytes: &[u8], _: u8, words: &mut [u32]) -> Reply {
         let count = usize::from(bytes[0]);
         words[..count].fill(0x4000_0000);
@@ -82,6 +114,10 @@ impl Functions for Scribe {
 struct Refuses(u8);
 
 impl Functions for Refuses {
+    fn dispatcher(&self) -> Box<dyn Dispatch> {
+        Box::new(Nobody(self.0))
+    }
+
     fn read_descriptors(&self, _: &[u8], _: u8, _: &mut [u32]) -> Reply {
         Reply { number: self.0, count: 0 }
     }
@@ -574,4 +610,57 @@ fn a_choice_is_told_with_periods() {
 
 ";
     assert!(none.ends_with(expected), "{none}");
+}
+
+const TURNS: &str = "dispatch
+submit 7
+turn
+submit 7
+submit 255
+submit 0
+turn
+turn
+turn
+turn
+";
+
+#[test]
+fn turns_are_read_and_printed_in_their_order() {
+    let text = format!("case turns\n{TURNS}go\n");
+    let case = parse(&text).expect("a case").cases.remove(0);
+    let mut again = String::new();
+    case.text(&mut again);
+    assert_eq!(again, text);
+    let printed = "submit 7 0\nturn 7\nsubmit 7 0\nsubmit 255 0\nsubmit 0 0\nturn 7\nturn 255\nturn 0\nturn none\n.\n";
+    let mut out = String::new();
+    case.run(&Scribe, &mut out);
+    assert_eq!(out, printed);
+    assert_eq!(run(&Refuses(28), "dispatch\nsubmit 1\nturn"), "submit 1 28\nturn none\n.\n");
+    assert_eq!(run(&Scribe, "dispatch"), ".\n");
+    for (line, message) in [
+        ("submit 256", "'256' is not a decimal number, or out of range"),
+        ("submit", "a number is missing"),
+        ("turn 7", "'7' is too much"),
+        ("room 3", "'dispatch' has no 'room'"),
+    ] {
+        assert_eq!(error(&format!("case a\ndispatch\n{line}\n")), (3, message.to_string()));
+    }
+}
+
+#[test]
+fn turns_are_told_with_how_many_came_between() {
+    let told = explained(&Scribe, TURNS);
+    let lines: Vec<&str> = told.lines().collect();
+    assert_eq!(lines[2..4], ["  a call of slot 7: it waits", "  a turn: slot 7, after 0 others"]);
+    assert_eq!(
+        lines[7..11],
+        [
+            "  a turn: slot 7, after 0 others",
+            "  a turn: slot 255, after 1 others",
+            "  a turn: slot 0, after 2 others",
+            "  a turn: none waits"
+        ]
+    );
+    let refused = explained(&Refuses(27), "dispatch\nsubmit 1");
+    assert!(refused.contains("  a call of slot 1: refused, 27: a call of the slot is waiting\n"), "{refused}");
 }

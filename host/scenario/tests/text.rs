@@ -313,3 +313,110 @@ fn a_why_prints_a_reason_and_changes_nothing() {
     assert!(text.starts_with("why\ninterface 3\nalternate 255\n"), "{text}");
     assert_eq!(one(text.trim_end().trim_end_matches("go")), one("why\ninterface 3\nalternate 255"));
 }
+
+const DISPATCHED: &str = "scenario many
+dispatcher
+bringup
+slot 3
+n 8
+speed 0
+parent 0 0
+port 0
+rootport 0
+rings 4096
+header 0 0
+config 0
+list
+hubs
+ctx
+outcomes
+submit
+claim
+interface 1
+alternate 2
+ctx 00
+outcomes
+on 3
+submit
+turn
+turn
+end
+";
+
+#[test]
+fn calls_through_a_dispatcher_are_read_and_printed() {
+    let mut contents = parse(DISPATCHED).expect("a scenario");
+    assert!(contents.scenarios.is_empty());
+    let scenario = contents.dispatched.remove(0);
+    let [Line::Submit(first), Line::Submit(second), Line::Turn, Line::Turn] = &scenario.lines[..] else {
+        panic!("{scenario:?}");
+    };
+    assert!((first.home, second.home) == (3, 3) && matches!(first.step.call, Call::BringUp(_)));
+    assert_eq!(second.step.call, Call::Claim(Claim { interface: 1, alternate: 2 }));
+    let mut text = String::new();
+    dispatched_text(&mut text, &scenario);
+    assert_eq!(parse(&text).expect("the same").dispatched, [scenario]);
+    let without = parse("scenario a\ndispatcher\nrelease\nsubmit\nend\n").expect("a scenario");
+    assert!(matches!(&without.dispatched[0].lines[..], [Line::Submit(Submission { home: 0, .. })]));
+}
+
+#[test]
+fn a_dispatcher_s_lines_stand_in_its_scenarios_only() {
+    for (lines, line, message) in [
+        ("release\non 3", 3, "this call has no 'on'"),
+        ("release\nsubmit", 3, "this call has no 'submit'"),
+        ("turn", 2, "there is no call 'turn'"),
+        ("release\ngo\ndispatcher", 4, "there is no call 'dispatcher'"),
+        ("dispatcher\ndispatcher", 3, "there is no call 'dispatcher'"),
+        ("dispatcher\nrelease\ngo", 4, "this call has no 'go'"),
+        ("dispatcher\nbringup\non 3", 4, "this call has no 'on'"),
+        ("dispatcher\nrelease\non 3\non 3", 5, "'on' is given twice"),
+        ("dispatcher\nrelease\non 256", 4, "'256' is not a decimal number, or out of range"),
+        ("dispatcher\nrelease\nheld 0:0\nsubmit", 5, "'held' is given without 'record'"),
+    ] {
+        assert_eq!(error(&format!("scenario a\n{lines}\n")), (line, message.to_string()), "{lines}");
+    }
+}
+
+/// The slot served is the one whose call waited longest.
+#[derive(Default)]
+struct Queue(Vec<u8>);
+
+impl Dispatch for Queue {
+    fn submit(&mut self, slot: u8) -> u8 {
+        self.0.push(slot);
+        0
+    }
+
+    fn turn(&mut self) -> Option<u8> {
+        (!self.0.is_empty()).then(|| self.0.remove(0))
+    }
+}
+
+/// A home's record is that of its last run call as the next one is submitted; the table is that of the turn.
+#[test]
+fn homes_hand_their_records_on() {
+    let mut desk = Desk::new(Box::new(Queue::default()));
+    let up = |slot| Step::new(Call::BringUp(BringUp { slot, n: 3, ..BringUp::default() }));
+    let on = |home, step| Submission { home, step };
+    let release = Step::new(Call::Release { interface: 0 });
+    assert_eq!(desk.submit(&on(3, up(3))), (3, 0));
+    // Of slot 0: no bring-up has run.
+    assert_eq!(desk.submit(&on(3, release.clone())), (0, 0));
+    let Some(Served { slot: 3, home: 3, mut session, step }) = desk.turn() else { panic!("slot 3") };
+    let (call, _, mut buffers) = session.prepare(&step);
+    assert_eq!(buffers.routes.len(), 128);
+    buffers.routes[97] = 5;
+    let record = Record { slot: 3, ..Record::default() };
+    let called = Called { record: record.clone(), answer: Answer::default(), asked: None, reason: None };
+    session.settle(&call, called, buffers);
+    desk.ran(3, session);
+    assert_eq!((desk.record(3), desk.table()[97]), (record.clone(), 5));
+    assert_eq!(desk.submit(&on(3, release)), (3, 0));
+    let Some(Served { slot: 0, home: 3, mut session, step }) = desk.turn() else { panic!("slot 0") };
+    let (_, given, buffers) = session.prepare(&step);
+    assert_eq!((given, buffers.routes[97]), (Record::default(), 5));
+    desk.ran(3, session);
+    assert_eq!(desk.turn().map(|served| (served.slot, served.step.record)), Some((3, Some(record))));
+    assert!(desk.turn().is_none());
+}

@@ -7,6 +7,7 @@ use core::ops::Range;
 use crate::layout::EP_ROOM;
 use crate::{
     Answer, Asked, BlockRefusal, BringUp, ChoiceRefusal, Chosen, Dci, MOST_NAMES, Memory, RawRefusal, SettingsRefusal,
+    SlotId, SubmitRefusal,
 };
 
 #[repr(C)]
@@ -58,7 +59,35 @@ struct Picked {
     alternates: [u8; MOST_NAMES],
 }
 
+/// How many slots there are: every byte is one.
+const SLOTS: usize = 256;
+
+/// A dispatcher: what is known of each slot, how many were taken, and where the next turn begins to look.
+#[repr(C)]
+#[derive(Clone, Copy, Debug)]
+pub struct Marks {
+    marks: [u8; SLOTS],
+    taken: u16,
+    from: u16,
+}
+
+#[repr(C)]
+struct Submitted {
+    dispatcher: Marks,
+    answer: u32,
+}
+
+#[repr(C)]
+struct Turned {
+    dispatcher: Marks,
+    served: bool,
+    slot: u8,
+}
+
 unsafe extern "C" {
+    fn xhci_device_new_dispatcher() -> Marks;
+    fn xhci_device_submit(dispatcher: Marks, slot: u8) -> Submitted;
+    fn xhci_device_turn(dispatcher: Marks) -> Turned;
     fn xhci_device_command_of(word: u32) -> Logged;
     #[cfg(test)]
     fn xhci_device_record_words() -> usize;
@@ -506,6 +535,28 @@ pub fn choose(image: &[u64], names: &[u8], longest: u32) -> Result<Chosen, Choic
         }
         number => Err(ChoiceRefusal::of(number).expect("an answer of the function")),
     }
+}
+
+pub fn new_dispatcher() -> Marks {
+    // SAFETY: takes nothing.
+    unsafe { xhci_device_new_dispatcher() }
+}
+
+pub fn submit(dispatcher: &mut Marks, slot: SlotId) -> Result<(), SubmitRefusal> {
+    // SAFETY: takes numbers and returns numbers.
+    let submitted = unsafe { xhci_device_submit(*dispatcher, slot.0) };
+    *dispatcher = submitted.dispatcher;
+    match submitted.answer {
+        0 => Ok(()),
+        number => Err(SubmitRefusal::of(number).expect("an answer of the function")),
+    }
+}
+
+pub fn turn(dispatcher: &mut Marks) -> Option<SlotId> {
+    // SAFETY: takes numbers and returns numbers.
+    let turned = unsafe { xhci_device_turn(*dispatcher) };
+    *dispatcher = turned.dispatcher;
+    turned.served.then_some(SlotId(turned.slot))
 }
 
 pub fn read_descriptors(bytes: &[u8], speed: u8, words: &mut [u32]) -> Result<usize, RawRefusal> {

@@ -12,11 +12,12 @@ mod picture;
 mod raw;
 mod records;
 mod settings;
+mod turns;
 mod values;
 mod why;
 
 /// What the modules read, by its mark.
-const CHECKED: [&str; 46] = [
+const CHECKED: [&str; 47] = [
     "picture configuration",
     "picture alternate",
     "picture endpoint",
@@ -62,6 +63,7 @@ const CHECKED: [&str; 46] = [
     "course unplugging again",
     "sound",
     "choices",
+    "turns",
     "twenty lists",
 ];
 

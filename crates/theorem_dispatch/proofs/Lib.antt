@@ -1,0 +1,9 @@
+pub mod Alike
+pub mod Courses
+pub mod Desk
+pub mod Doubt
+pub mod Isolation
+pub mod Local
+pub mod Submitted
+pub mod Tables
+pub mod Turns

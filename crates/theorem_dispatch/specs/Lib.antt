@@ -1,0 +1,4 @@
+pub mod Desk
+pub mod Doubt
+pub mod Isolation
+pub mod Turns
