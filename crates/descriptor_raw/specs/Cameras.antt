@@ -25,8 +25,8 @@ abbrev pub writes : ℕ → List ℕ → ℕ
 writes speed l = number (writing speed l).answer
 
 -- A configuration of a total length, with an interface of one endpoint.
-abbrev pub head : ℕ → List ℕ
-head total = 9 ∷ 2 ∷ total ∷ 0 ∷ 1 ∷ 1 ∷ 0 ∷ 0x80 ∷ 0x32 ∷ 9 ∷ 4 ∷ 0 ∷ 0 ∷ 1 ∷ 3 ∷ 0 ∷ 0 ∷ 0 ∷ []
+abbrev pub configuration : ℕ → List ℕ
+configuration total = 9 ∷ 2 ∷ total ∷ 0 ∷ 1 ∷ 1 ∷ 0 ∷ 0x80 ∷ 0x32 ∷ 9 ∷ 4 ∷ 0 ∷ 0 ∷ 1 ∷ 3 ∷ 0 ∷ 0 ∷ 0 ∷ []
 
 -- An endpoint of a type, and a companion of 8 bytes per interval.
 abbrev pub point : ℕ → List ℕ
@@ -37,7 +37,7 @@ companion burst attributes = 6 ∷ 48 ∷ burst ∷ attributes ∷ 8 ∷ 0 ∷ [
 
 -- All of them.
 abbrev pub camera : ℕ → ℕ → ℕ → List ℕ
-camera type burst attributes = head 31 ++ (point type ++ companion burst attributes)
+camera type burst attributes = configuration 31 ++ (point type ++ companion burst attributes)
 
 abbrev pub ReadExamples : Type 0
 ReadExamples =
@@ -51,8 +51,8 @@ ReadExamples =
     × (reading 4 (camera 2 3 3) ≡ accepts (0x00400000 ∷ 0x40000000 ∷ 0xa3008410 ∷ 0xcc000800 ∷ []) words)
     -- other bits of the attributes, bytes past the sixth, and another descriptor between
     × (reads 4 (camera 1 3 0xfe) ≡ 0)
-    × (reads 4 (head 33 ++ (point 3 ++ (8 ∷ 48 ∷ 3 ∷ 0 ∷ 8 ∷ 0 ∷ 1 ∷ 1 ∷ []))) ≡ 0)
-    × (reads 4 (head 34 ++ (point 3 ++ ((3 ∷ 0x24 ∷ 1 ∷ []) ++ companion 3 0))) ≡ 0)
+    × (reads 4 (configuration 33 ++ (point 3 ++ (8 ∷ 48 ∷ 3 ∷ 0 ∷ 8 ∷ 0 ∷ 1 ∷ 1 ∷ []))) ≡ 0)
+    × (reads 4 (configuration 34 ++ (point 3 ++ ((3 ∷ 0x24 ∷ 1 ∷ []) ++ companion 3 0))) ≡ 0)
     -- burst 15 and 16, mult 3
     × (reads 4 (camera 3 15 0) ≡ 0)
     × (reads 4 (camera 3 16 0) ≡ 26)
@@ -60,19 +60,19 @@ ReadExamples =
     × (reads 3 (camera 3 16 0) ≡ 0)
     × (reads 4 (camera 1 0 3) ≡ 26)
     -- none, before its endpoint, and two
-    × (reads 4 (head 25 ++ point 3) ≡ 26)
-    × (reads 5 (head 25 ++ point 3) ≡ 26)
-    × (reads 3 (head 25 ++ point 3) ≡ 0)
-    × (reads 4 (head 31 ++ (companion 0 0 ++ point 3)) ≡ 26)
-    × (reads 4 (head 37 ++ (point 3 ++ (companion 0 0 ++ companion 0 0))) ≡ 26)
+    × (reads 4 (configuration 25 ++ point 3) ≡ 26)
+    × (reads 5 (configuration 25 ++ point 3) ≡ 26)
+    × (reads 3 (configuration 25 ++ point 3) ≡ 0)
+    × (reads 4 (configuration 31 ++ (companion 0 0 ++ point 3)) ≡ 26)
+    × (reads 4 (configuration 37 ++ (point 3 ++ (companion 0 0 ++ companion 0 0))) ≡ 26)
     -- before everything, and 4 with 26
     × (reads 4 (companion 0 0 ++ camera 3 0 0) ≡ 4)
     × (reads 4 (companion 16 0 ++ camera 3 0 0) ≡ 4)
-    × (reads 4 (head 25 ++ point 0) ≡ 4)
+    × (reads 4 (configuration 25 ++ point 0) ≡ 4)
     -- three bytes, with 4 and 26
-    × (reads 4 (head 28 ++ (point 3 ++ (3 ∷ 48 ∷ 0 ∷ []))) ≡ 20)
-    × (reads 4 (head 28 ++ (point 0 ++ (3 ∷ 48 ∷ 16 ∷ []))) ≡ 20)
-    × (reads 3 (head 28 ++ (point 3 ++ (3 ∷ 48 ∷ 0 ∷ []))) ≡ 0)
+    × (reads 4 (configuration 28 ++ (point 3 ++ (3 ∷ 48 ∷ 0 ∷ []))) ≡ 20)
+    × (reads 4 (configuration 28 ++ (point 0 ++ (3 ∷ 48 ∷ 16 ∷ []))) ≡ 20)
+    × (reads 3 (configuration 28 ++ (point 3 ++ (3 ∷ 48 ∷ 0 ∷ []))) ≡ 0)
     -- speeds 0 and 6, with 20; 3 before it
     × (reads 0 (camera 3 3 0) ≡ 6)
     × (reads 6 (camera 3 3 0) ≡ 6)
