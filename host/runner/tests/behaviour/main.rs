@@ -1,5 +1,5 @@
-//! docs/BEHAVIOUR.md, and the twenty lists of docs/THEOREM.md, held against the proved library: pictures, examples and
-//! tables are read out of the pages.
+//! docs/FORMATS.md, docs/BEHAVIOUR.md, and the twenty lists of docs/THEOREM.md, held against the proved library: pictures,
+//! examples and tables are read out of the pages.
 #![forbid(unsafe_code)]
 
 mod calls;

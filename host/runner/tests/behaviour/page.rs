@@ -4,6 +4,7 @@ use std::sync::LazyLock;
 
 static PAGE: LazyLock<String> = LazyLock::new(|| {
     let paths = [
+        concat!(env!("CARGO_MANIFEST_DIR"), "/../../docs/FORMATS.md"),
         concat!(env!("CARGO_MANIFEST_DIR"), "/../../docs/BEHAVIOUR.md"),
         concat!(env!("CARGO_MANIFEST_DIR"), "/../../docs/THEOREM.md"),
     ];
