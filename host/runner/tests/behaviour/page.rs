@@ -7,6 +7,7 @@ static PAGE: LazyLock<String> = LazyLock::new(|| {
         concat!(env!("CARGO_MANIFEST_DIR"), "/../../docs/FORMATS.md"),
         concat!(env!("CARGO_MANIFEST_DIR"), "/../../docs/BEHAVIOUR.md"),
         concat!(env!("CARGO_MANIFEST_DIR"), "/../../docs/THEOREM.md"),
+        concat!(env!("CARGO_MANIFEST_DIR"), "/../../docs/INTEGRATION.md"),
     ];
     paths.map(|path| std::fs::read_to_string(path).expect("a page")).join("\n")
 });
