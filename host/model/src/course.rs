@@ -28,7 +28,7 @@ fn broken(end: Ended) -> Ended {
 
 type Run = Result<(), Ended>;
 
-/// docs/BEHAVIOUR.md, "Log word".
+/// docs/FORMATS.md, "Log word".
 const ADDRESS: u32 = 1;
 const EVALUATE: u32 = 2;
 const CONFIGURE: u32 = 3;

@@ -1,5 +1,5 @@
 //! The calls once more, in plain Rust, read from 01 and from docs/DECISIONS.md, not from the Rattle sources: a
-//! second reading to hold the library against. docs/BEHAVIOUR.md tells what they do.
+//! second reading to hold the library against. docs/BEHAVIOUR.md and docs/FORMATS.md tell what they do.
 //! The functions outside a slot's calls are read from 02.
 #![forbid(unsafe_code)]
 

@@ -1,4 +1,4 @@
-//! Descriptor words and their lists (docs/BEHAVIOUR.md, "Descriptor word").
+//! Descriptor words and their lists (docs/FORMATS.md, "Descriptor word").
 
 use std::collections::BTreeSet;
 
@@ -101,7 +101,7 @@ pub fn word(word: u32) -> Option<Word> {
     (bits(word, used, 32 - used) == 0).then_some(read)
 }
 
-/// 01's rules over the whole list, docs/BEHAVIOUR.md, "Descriptor list". Words of kind 3 are passed over at speeds 4 and 5,
+/// 01's rules over the whole list, docs/FORMATS.md, "Descriptor list". Words of kind 3 are passed over at speeds 4 and 5,
 /// but count among the 256; at the other speeds no list has one.
 fn rules_hold(list: &[u32], speed: u8) -> bool {
     let mut configurations = 0;

@@ -1,4 +1,4 @@
-//! Hub words and the chain of hubs (docs/BEHAVIOUR.md, "Hub word").
+//! Hub words and the chain of hubs (docs/FORMATS.md, "Hub word").
 
 use scenario::BringUp;
 

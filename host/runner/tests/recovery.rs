@@ -1,5 +1,5 @@
-//! docs/INTEGRATION.md, "After a failed bring-up": no call recovers the slot, clearing its words does. "After a lost
-//! record": the unplugging recovers it.
+//! docs/INTEGRATION.md, "The life of a record": no call recovers a slot whose bring-up failed, clearing its words does; a lost
+//! record is recovered by the unplugging.
 #![forbid(unsafe_code)]
 
 use library::Library;
@@ -56,11 +56,13 @@ fn clear(routes: &mut [u64]) {
 #[test]
 fn a_failed_bring_up_is_cleared_by_the_firmware() {
     let short = BringUp { header: 7, ..bring_up() };
-    let failed: [(&BringUp, &[u8], u8); 4] = [
+    let no_exponent = BringUp { speed: 4, packet: 8, list: Vec::new(), ..bring_up() };
+    let failed: [(&BringUp, &[u8], u8); 5] = [
         (&bring_up(), &[0, 0, 0, 7], 13),
         (&bring_up(), &[0, 0, 0, 0, 0, 0, 0, 7, 5], 14),
         (&bring_up(), &[0, 0], 15),
         (&short, &[0; 64], 16),
+        (&no_exponent, &[0; 64], 19),
     ];
     for (args, outcomes, number) in failed {
         let (record, answer, mut routes) = bring_up_over(&[0; 96], args, outcomes);
@@ -72,7 +74,7 @@ fn a_failed_bring_up_is_cleared_by_the_firmware() {
     }
 }
 
-/// "A bring-up leaves an empty record in the image, whatever stood there, if it is refused": also on a slot that is in use.
+/// A refused bring-up returns an empty record, also on a slot that is in use.
 #[test]
 fn a_refused_bring_up_returns_an_empty_record() {
     let (record, _, routes) = bring_up_over(&[0; 96], &bring_up(), &[0; 64]);

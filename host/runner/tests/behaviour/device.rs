@@ -1,4 +1,4 @@
-//! The page's device, and calls on it through the library.
+//! The pages' device, and calls on it through the library.
 
 use library::Library;
 use scenario::*;
@@ -14,7 +14,7 @@ pub const RINGS: [u64; 5] = [0x1000, 0x3000, 0x4000, 0x5000, 0x6000];
 /// Outcomes for any call.
 pub const DONE: [u8; 64] = [0; 64];
 
-/// "The device of this page's examples."
+/// "The device of the examples."
 pub fn list() -> Vec<u32> {
     page::table("words").iter().flat_map(|row| page::words(&row[0])).map(|word| word as u32).collect()
 }

@@ -103,7 +103,7 @@ struct Held {
     rings: BTreeMap<u64, u64>,
 }
 
-/// docs/BEHAVIOUR.md, "What is held": from arguments, answers and logs alone.
+/// The plain slot of docs/THEOREM.md: from arguments, answers and logs alone.
 struct Plain {
     phase: Phase,
     held: Vec<Held>,

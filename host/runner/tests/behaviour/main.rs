@@ -1,5 +1,5 @@
-//! docs/BEHAVIOUR.md, and the twenty lists of docs/THEOREM.md, held against the proved library: pictures, examples and
-//! tables are read out of the pages.
+//! docs/FORMATS.md, docs/BEHAVIOUR.md, the twenty lists of docs/THEOREM.md and the answers of docs/INTEGRATION.md, held against
+//! the proved library: pictures, examples and tables are read out of the pages.
 #![forbid(unsafe_code)]
 
 mod calls;
@@ -12,12 +12,13 @@ mod picture;
 mod raw;
 mod records;
 mod settings;
+mod trouble;
 mod turns;
 mod values;
 mod why;
 
 /// What the modules read, by its mark.
-const CHECKED: [&str; 47] = [
+const CHECKED: [&str; 48] = [
     "picture configuration",
     "picture alternate",
     "picture endpoint",
@@ -65,6 +66,7 @@ const CHECKED: [&str; 47] = [
     "choices",
     "turns",
     "twenty lists",
+    "trouble",
 ];
 
 #[test]

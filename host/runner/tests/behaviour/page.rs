@@ -4,8 +4,10 @@ use std::sync::LazyLock;
 
 static PAGE: LazyLock<String> = LazyLock::new(|| {
     let paths = [
+        concat!(env!("CARGO_MANIFEST_DIR"), "/../../docs/FORMATS.md"),
         concat!(env!("CARGO_MANIFEST_DIR"), "/../../docs/BEHAVIOUR.md"),
         concat!(env!("CARGO_MANIFEST_DIR"), "/../../docs/THEOREM.md"),
+        concat!(env!("CARGO_MANIFEST_DIR"), "/../../docs/INTEGRATION.md"),
     ];
     paths.map(|path| std::fs::read_to_string(path).expect("a page")).join("\n")
 });
