@@ -247,6 +247,19 @@ fn notice_names_each_derived_crate_once() {
     }
 }
 
+/// What docs/THEOREM.md shows of the theorem's file stands there, line by line.
+#[test]
+fn the_theorem_is_the_one_that_is_proved() {
+    let page = read("docs/THEOREM.md");
+    let file = read("crates/theorem_slot/specs/Theorem.antt");
+    let shown = page.split("```\n").nth(1).expect("the statement");
+    let there: BTreeSet<&str> = file.lines().map(str::trim).collect();
+    for line in shown.lines().map(str::trim) {
+        assert!(there.contains(line), "docs/THEOREM.md: {line}");
+    }
+    assert!(shown.contains("Demand3 = AfterBringUp Kept"));
+}
+
 /// A decision is a line: a point, what was decided, and why.
 #[test]
 fn a_decision_has_its_reason() {
