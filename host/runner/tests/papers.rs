@@ -76,12 +76,16 @@ fn cited(text: &str) -> Vec<String> {
 #[test]
 fn cited_files_exist() {
     let mut count = 0;
+    let mut missing = BTreeSet::new();
     for (page, text) in papers() {
         for path in cited(&text).iter().flat_map(|path| expanded(path)) {
-            assert!(root().join(&path).exists(), "{} cites {path}", page.display());
+            if !root().join(&path).exists() {
+                missing.insert(format!("{} cites {path}", page.display()));
+            }
             count += 1;
         }
     }
+    assert!(missing.is_empty(), "{missing:#?}");
     assert!(count > 100, "{count} citations");
 }
 
@@ -127,49 +131,55 @@ fn named_pages_exist() {
     assert!(count > 50, "{count} names");
 }
 
-/// The edits that a part of a cell names, as in "`edit`, `edit` of crate, at `function`, `law` (what is wrong)": they are there, and each
-/// function and law refuses one of them.
-fn edits_named(page: &str, cell: &str) -> usize {
-    let (edits, of) = cell.split_once(" of ").unwrap_or_else(|| panic!("{page}: '{cell}' names no crate"));
+/// The text of an edit of a crate, if there is one.
+fn edit(name: &str, edit: &str) -> Option<String> {
+    let there = |folder: &str| root().join(format!("crates/{name}/{folder}/{edit}.edit"));
+    ["must-fail", "wrong"].map(there).into_iter().find_map(|path| fs::read_to_string(path).ok())
+}
+
+/// What is not so of the edits that a part of a cell names, as in "`edit`, `edit` of crate, at `function`, `law` (what is wrong)": they are
+/// there, and each function and law refuses one of them.
+fn edits_missing(cell: &str) -> Vec<String> {
+    let Some((edits, of)) = cell.split_once(" of ") else {
+        return vec![format!("'{cell}' names no crate")];
+    };
     let name = of.split([',', ' ', ':']).next().expect("a crate");
-    let mut refusing = BTreeSet::new();
-    let mut count = 0;
-    for edit in quoted(edits) {
-        let there = |folder: &str| root().join(format!("crates/{name}/{folder}/{edit}.edit"));
-        let path = ["must-fail", "wrong"].map(there).into_iter().find(|path| path.exists());
-        let path = path.unwrap_or_else(|| panic!("{page}: no edit {edit} of {name}"));
-        let text = fs::read_to_string(&path).expect("the edit");
-        let lines = text.lines().filter_map(|line| line.strip_prefix("refused: "));
-        refusing.extend(lines.flat_map(str::split_whitespace).map(str::to_string));
-        count += 1;
-    }
+    let texts: Vec<Option<String>> = quoted(edits).map(|named| edit(name, named)).collect();
+    let gone = quoted(edits).zip(&texts).filter(|(_, text)| text.is_none());
+    let mut missing: Vec<String> = gone.map(|(named, _)| format!("no edit {named} of {name}")).collect();
+    let lines = texts.iter().flatten().flat_map(|text| text.lines());
+    let refusing: Vec<&str> =
+        lines.filter_map(|line| line.strip_prefix("refused: ")).flat_map(str::split_whitespace).collect();
     let at = of.split_once(", at ").map_or("", |(_, at)| at.split(" (").next().unwrap_or(at));
-    for function in quoted(at.split(": ").next().unwrap_or(at)) {
-        let refuses = refusing.iter().any(|name| name == function || name.ends_with(&format!(":{function}")));
-        assert!(refuses, "{page}: {function} of '{cell}'");
-    }
-    count
+    let refuses = |at: &str| refusing.iter().any(|name| *name == at || name.ends_with(&format!(":{at}")));
+    let unrefused = quoted(at.split(": ").next().unwrap_or(at)).filter(|at| !refuses(at));
+    missing.extend(unrefused.map(|at| format!("{at} refuses nothing of '{cell}'")));
+    missing
 }
 
 #[test]
 fn edits_that_papers_name_exist() {
-    let acceptance = read("docs/ACCEPTANCE.md");
-    let mut tables = vec![("docs/ACCEPTANCE.md".to_string(), part(&acceptance, "## What must not pass").to_string())];
-    tables.extend(notes().into_iter().map(|note| (note.clone(), part(&read(&note), "## Asked, and what meets it").to_string())));
+    let mut pages = vec![("docs/ACCEPTANCE.md".to_string(), "## What must not pass")];
+    pages.extend(notes().into_iter().map(|note| (note, "## Asked, and what meets it")));
+    let mut missing = Vec::new();
     let mut count = 0;
-    for (page, table) in &tables {
-        for cells in rows(table).skip(1) {
-            let edits = cells.get(2).unwrap_or_else(|| panic!("{page}: {cells:?}"));
-            let named = edits.split("; ").filter(|cell| !cell.is_empty());
-            count += named.map(|cell| edits_named(page, cell)).sum::<usize>();
+    for (page, heading) in &pages {
+        let text = read(page);
+        for cells in rows(part(&text, heading)).skip(1) {
+            assert_eq!(cells.len(), 3, "{page}: {cells:?}");
+            for cell in cells[2].split("; ").filter(|cell| !cell.is_empty()) {
+                missing.extend(edits_missing(cell).iter().map(|what| format!("{page}: {what}")));
+                count += 1;
+            }
         }
     }
+    assert!(missing.is_empty(), "{missing:#?}");
     assert!(count > 200, "{count} edits");
 }
 
-/// The words of the sources, and the names of files.
+/// The words of the sources, and the names of files and crates.
 fn words_of_the_sources() -> BTreeSet<String> {
-    let mut found = Vec::new();
+    let mut found = vec![root().join("crates.txt")];
     ["crates", "host", ".ci"].iter().for_each(|folder| files(&root().join(folder), &mut found));
     let mut words = BTreeSet::new();
     for path in found {
@@ -184,18 +194,22 @@ fn words_of_the_sources() -> BTreeSet<String> {
 #[test]
 fn names_exist() {
     let words = words_of_the_sources();
-    let mut pages: Vec<String> = ["ACCEPTANCE", "REVIEW", "THEOREM", "DECISIONS"].iter().map(|p| format!("docs/{p}.md")).collect();
+    let mut pages: Vec<String> =
+        ["ACCEPTANCE", "REVIEW", "THEOREM", "DECISIONS"].iter().map(|p| format!("docs/{p}.md")).collect();
     pages.extend(notes());
+    let mut missing = Vec::new();
     let mut count = 0;
     for page in &pages {
         let text = read(page);
         let text = if page.contains("requests") { part(&text, "## Asked, and what meets it") } else { &text };
         let is_name = |name: &&str| name.chars().all(|c| c.is_ascii_alphanumeric() || c == '_') && name.len() > 1;
-        for name in text.lines().filter(|line| !line.starts_with("    ")).flat_map(quoted).filter(is_name) {
-            assert!(words.contains(name), "{page}: {name}");
-            count += 1;
-        }
+        let named = text.lines().filter(|line| !line.starts_with("    ")).flat_map(quoted).filter(is_name);
+        let named: Vec<&str> = named.collect();
+        count += named.len();
+        let gone = named.into_iter().filter(|name| !words.contains(*name));
+        missing.extend(gone.map(|name| format!("{page}: {name}")));
     }
+    assert!(missing.is_empty(), "{missing:#?}");
     assert!(count > 500, "{count} names");
 }
 
@@ -278,7 +292,8 @@ fn a_decision_has_its_reason() {
 #[test]
 fn pages_tell_no_history() {
     for (page, text) in papers() {
-        for told in ["this landing", "the landing", "other checks", "beside other work", "this session", "on this tree"] {
+        for told in ["this landing", "the landing", "other checks", "beside other work", "this session", "on this tree"]
+        {
             assert!(!text.contains(told), "{}: '{told}'", page.display());
         }
     }
