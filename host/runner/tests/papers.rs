@@ -133,8 +133,10 @@ fn named_pages_exist() {
 
 /// The text of an edit of a crate, if there is one.
 fn edit(name: &str, edit: &str) -> Option<String> {
-    let there = |folder: &str| root().join(format!("crates/{name}/{folder}/{edit}.edit"));
-    ["must-fail", "wrong"].map(there).into_iter().find_map(|path| fs::read_to_string(path).ok())
+    let mut found = Vec::new();
+    files(&root().join("crates").join(name), &mut found);
+    let path = found.into_iter().find(|path| path.ends_with(format!("{edit}.edit")))?;
+    fs::read_to_string(path).ok()
 }
 
 /// What is not so of the edits that a part of a cell names, as in "`edit`, `edit` of crate, at `function`, `law` (what is wrong)": they are
