@@ -294,7 +294,8 @@ fn a_decision_has_its_reason() {
 #[test]
 fn pages_tell_no_history() {
     for (page, text) in papers() {
-        for told in ["this landing", "the landing", "other checks", "beside other work", "this session", "on this tree"]
+        for told in
+            ["this landing", "the landing", "checks beside", "with other checks", "beside other work", "on this tree"]
         {
             assert!(!text.contains(told), "{}: '{told}'", page.display());
         }
