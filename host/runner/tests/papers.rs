@@ -215,6 +215,24 @@ fn names_exist() {
     assert!(count > 500, "{count} names");
 }
 
+/// The functions on the way of a claim that docs/REVIEW.md shows stand in the files that it names.
+#[test]
+fn the_way_of_a_claim_is_there() {
+    let text = read("docs/REVIEW.md");
+    let way = part(&text, "The way of a claim");
+    let mut count = 0;
+    for (names, rest) in way.lines().filter_map(|line| line.strip_prefix("    ")?.split_once(" crates/")) {
+        let path = format!("crates/{}", rest.split(' ').next().unwrap_or(rest));
+        let file = read(&path);
+        for name in names.trim().split(", ") {
+            let name = name.rsplit("::").next().unwrap_or(name);
+            assert!(file.contains(&format!("fn {name}(")), "{path}: {name}");
+            count += 1;
+        }
+    }
+    assert!(count > 10, "{count} functions");
+}
+
 /// Every file of definitions stands in the table of docs/REVIEW.md, as `crate/File, File`.
 #[test]
 fn the_reviewer_s_table_has_every_definition() {
