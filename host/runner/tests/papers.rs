@@ -192,12 +192,24 @@ fn words_of_the_sources() -> BTreeSet<String> {
     words
 }
 
-/// A name in backticks, in the pages that say what is proved, is a name of the sources.
+/// Pages in which a name in backticks is one of the sources. (In the others it may be crab-usb's, a machine's, or a number.)
+const NAMING: [&str; 10] = [
+    "ACCEPTANCE",
+    "BEHAVIOUR",
+    "CHECK-TIMES",
+    "DECISIONS",
+    "OTHER-MACHINES",
+    "PROOF-NOTES",
+    "QEMU",
+    "RECORDING",
+    "REVIEW",
+    "THEOREM",
+];
+
 #[test]
 fn names_exist() {
     let words = words_of_the_sources();
-    let mut pages: Vec<String> =
-        ["ACCEPTANCE", "REVIEW", "THEOREM", "DECISIONS"].iter().map(|p| format!("docs/{p}.md")).collect();
+    let mut pages: Vec<String> = NAMING.iter().map(|page| format!("docs/{page}.md")).collect();
     pages.extend(notes());
     let mut missing = Vec::new();
     let mut count = 0;
