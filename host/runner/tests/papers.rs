@@ -111,6 +111,31 @@ fn every_page_is_linked() {
     }
 }
 
+/// A part of a page that is named behind the page, in quotation marks, is there.
+#[test]
+fn named_parts_exist() {
+    let mut found = Vec::new();
+    ["docs", "crates", "host", ".ci"].iter().for_each(|folder| files(&root().join(folder), &mut found));
+    found.push(root().join("README.md"));
+    let mut missing = Vec::new();
+    let mut count = 0;
+    for (path, text) in found.iter().filter_map(|path| Some((path, fs::read_to_string(path).ok()?))) {
+        for named in text.split("docs/").skip(1) {
+            let Some((page, rest)) = named.split_once(".md, \"").filter(|(page, _)| page.len() < 20) else {
+                continue;
+            };
+            let heading = rest.split('"').next().unwrap_or(rest);
+            let there = fs::read_to_string(root().join(format!("docs/{page}.md"))).unwrap_or_default();
+            if !there.contains(heading) {
+                missing.push(format!("{}: docs/{page}.md, {heading}", path.display()));
+            }
+            count += 1;
+        }
+    }
+    assert!(missing.is_empty(), "{missing:#?}");
+    assert!(count > 10, "{count} parts");
+}
+
 /// A page is named in capitals: it is in docs, at the root, or in the package.
 #[test]
 fn named_pages_exist() {
