@@ -41,42 +41,44 @@ fn raw_descriptors_are_the_words_that_they_are_read_to() {
     }
 }
 
+/// Speed, bytes and the number that they are refused with; what is told of the bytes, and why.
+const REFUSED: [(u8, &str, u8, &str, &str); 5] = [
+    (3, "0902", 20, "        0  type 2, length 9: past the end\n", "the bytes are malformed\n"),
+    (
+        3,
+        "090209000001008000 090400000000000000",
+        20,
+        "        0  configuration 1, total length 9 (should be 18), interfaces 0 (should be 1)
+        9    interface 0, alternate 0, endpoints 0\n",
+        "the bytes are malformed\n",
+    ),
+    (
+        3,
+        "090219000101008000 090400000100000000 07050003080004",
+        4,
+        "        0  configuration 1, total length 25, interfaces 1
+        9    interface 0, alternate 0, endpoints 1
+       18      endpoint 00, OUT, interrupt, size 8, packets 1, interval 4\n",
+        "the descriptor list is not valid
+    the descriptor at byte 18, word 3 of 3, 81808410: its endpoint number is 0\n",
+    ),
+    (
+        4,
+        HIGH,
+        26,
+        "        0  configuration 1, total length 25, interfaces 1
+        9    interface 0, alternate 0, endpoints 1
+       18      endpoint 81, IN, interrupt, size 8, packets 1, interval 4\n",
+        "a companion is missing, misplaced or out of range
+    the descriptor at byte 18: no companion stands directly behind this endpoint\n",
+    ),
+    (6, "0201", 6, "        0  type 1, 2 bytes\n", "the speed is unknown\n"),
+];
+
 /// What is told of descriptors that are refused.
 #[test]
 fn no_call_is_made_with_descriptors_that_are_refused() {
-    let cases = [
-        (3, "0902", 20, "        0  type 2, length 9: past the end\n", "the bytes are malformed\n"),
-        (
-            3,
-            "090209000001008000 090400000000000000",
-            20,
-            "        0  configuration 1, total length 9 (should be 18), interfaces 0 (should be 1)
-        9    interface 0, alternate 0, endpoints 0\n",
-            "the bytes are malformed\n",
-        ),
-        (
-            3,
-            "090219000101008000 090400000100000000 07050003080004",
-            4,
-            "        0  configuration 1, total length 25, interfaces 1
-        9    interface 0, alternate 0, endpoints 1
-       18      endpoint 00, OUT, interrupt, size 8, packets 1, interval 4\n",
-            "the descriptor list is not valid
-    the descriptor at byte 18, word 3 of 3, 81808410: its endpoint number is 0\n",
-        ),
-        (
-            4,
-            HIGH,
-            26,
-            "        0  configuration 1, total length 25, interfaces 1
-        9    interface 0, alternate 0, endpoints 1
-       18      endpoint 81, IN, interrupt, size 8, packets 1, interval 4\n",
-            "a companion is missing, misplaced or out of range
-    the descriptor at byte 18: no companion stands directly behind this endpoint\n",
-        ),
-        (6, "0201", 6, "        0  type 1, 2 bytes\n", "the speed is unknown\n"),
-    ];
-    for (speed, raw, number, bytes, why) in cases {
+    for (speed, raw, number, bytes, why) in REFUSED {
         let text = scenario(&format!("raw {raw}\nspeed {speed}"));
         let plain = run(&["-"], &text);
         assert_eq!(
