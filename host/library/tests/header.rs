@@ -89,7 +89,7 @@ fn the_version_and_the_sizes_are_the_binding_s() {
     assert_eq!(constant("XHCI_DEVICE_VERSION"), Some(format!("\"{version}\"").as_str()));
     assert_eq!(number("XHCI_DEVICE_RECORD_WORDS"), Record::WORDS);
     let rooms =
-        ["READ_WORDS", "WRITE_BYTES", "SETTINGS_BYTES", "NAMES"].map(|name| number(&format!("XHCI_DEVICE_{name}")));
+        ["LIST_ROOM", "WRITE_BYTES", "SETTINGS_BYTES", "NAMES"].map(|name| number(&format!("XHCI_DEVICE_{name}")));
     assert_eq!(rooms, [READ_WORDS, WRITE_BYTES, SETTINGS_BYTES, MOST_NAMES]);
 }
 
