@@ -13,6 +13,7 @@ static const struct {
     {4, {0x00400000, 0x40000000, 0xA3840410, 0x40004000}},
     {7, {0x00800000, 0x40000000, 0xA3840410, 0x85200000, 0x40004000, 0xA5000410, 0xA3900804}},
     {8, {0x00400000, 0x40000000, 0xA3840410, 0x40004000, 0x87840410, 0x40400000, 0xA5840410, 0x40404000}},
+    {6, {0x00400000, 0x40000000, 0xA3840410, 0x40400000, 0x85200000, 0xA3840410}},
     {0, {0}},
     {3, {0x00400000, 0x40000000, 0xC0000000}},
     {4, {0x00400000, 0x40000000, 0xA3840410, 0xC1000800}},
@@ -56,11 +57,11 @@ static void bring_up_script(struct script *s) {
     at->slot = below(30) == 0 ? any_byte() : 1;
     at->n = below(30) == 0 ? below(300) : (size_t)N;
     at->speed = (uint8_t)(below(30) == 0 ? any_byte() : 1 + below(5));
-    at->has_parent = below(2) == 0;
+    at->has_parent = below(6) == 0;
     at->parent = below(3);
     at->port = (uint8_t)below(20);
     at->root_port = any_byte();
-    at->rings_len = below(9);
+    at->rings_len = below(8) == 0 ? below(9) : 8;
     for (i = 0; i < at->rings_len; i++) {
         s->rings[i] = 0x1000 + 16 * below(4096) + (below(90) == 0);
     }
@@ -73,6 +74,9 @@ static void bring_up_script(struct script *s) {
     for (i = 0; i < s->header_len; i++) {
         s->header[i] = any_byte();
     }
+    if (at->speed > 3 && below(10) != 0) {
+        s->header[7] = 9;
+    }
     s->value = (uint8_t)below(3);
     s->count = below(20) == 0 ? below(MOST_CONFIGURATIONS) : below(4);
     for (i = 0; i < s->count; i++) {
@@ -81,7 +85,7 @@ static void bring_up_script(struct script *s) {
 }
 
 void any_script(struct script *s, bool usable, bool up) {
-    size_t i, failures = below(3);
+    size_t i, failures = below(2) == 0 ? below(3) : 0;
     memset(s, 0, sizeof *s);
     bring_up_script(s);
     s->kind = usable == (below(20) != 0) ? (int)(A_CLAIM + below(4)) : A_BRING_UP;
@@ -92,7 +96,7 @@ void any_script(struct script *s, bool usable, bool up) {
     s->alternate = (uint8_t)below(2);
     s->multi = below(2) == 0;
     s->ns = (uint32_t)below(4000);
-    s->outcomes_len = below(4) == 0 ? below(16) : (size_t)OUTCOMES;
+    s->outcomes_len = below(8) == 0 ? below(16) : (size_t)OUTCOMES;
     for (i = 0; i < failures; i++) {
         size_t at = below(12);
         s->outcomes[at] = (uint8_t)below(XHCI_DEVICE_UNREADABLE);

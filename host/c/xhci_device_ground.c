@@ -62,9 +62,6 @@ static size_t count_interfaces(const uint8_t *bytes, size_t at, size_t end) {
             seen[bytes[at + INTERFACE_NUMBER]] = true;
             count++;
         }
-    }| bit);
-            count++;
-        }
     }
     return count;
 }
