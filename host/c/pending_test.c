@@ -187,6 +187,49 @@ static void asks(void) {
     }
 }
 
+static char printed[4096];
+
+static void put(char c, void *to) {
+    size_t *len = (size_t *)to;
+    expect(*len < sizeof printed - 1, "a printed call is too long");
+    printed[(*len)++] = c;
+    printed[*len] = '\0';
+}
+
+/* The form of a printed call: docs/SCENARIOS.md. */
+static void prints(void) {
+    static const char wanted[] =
+        "scenario pending\n"
+        "claim\n"
+        "interface 0\n"
+        "alternate 1\n"
+        "record usable=1 up=1 slot=1 n=1 spacing=32 speed=3 config=1 control=1000/active\n"
+        "reclist 00400000 40000000 a3840410 40004000 a3840410 85200000\n"
+        "eps 81:2000:0:active\n"
+        "held 0:0\n"
+        "quarantined\n"
+        "given 4000 1000 2000 3000\n"
+        "ctxlen 1056\n"
+        "routes 33=1000 35=2000\n"
+        "routeslen 64\n"
+        "loglen 64\n"
+        "outcomes 0007\n"
+        "go\n"
+        "end\n";
+    size_t len = 0;
+    bring_up_and_claim();
+    memset(ctx, 0, sizeof ctx);
+    device.failing = 0x30000000;
+    device.code = 7;
+    xhci_device_pending_claim(&call, image, ctx, sizeof ctx, 0, 1);
+    while (call.told < 2 && xhci_device_pending_next(&call, routes, ROUTES)) {
+        test_send(&call, routes, &device);
+    }
+    expect(xhci_device_pending_next(&call, routes, ROUTES), "a Resume is due");
+    xhci_device_pending_print(&call, put, &len);
+    expect(strcmp(printed, wanted) == 0, "a printed call");
+}
+
 int main(void) {
     again();
     again_at_once();
@@ -195,5 +238,6 @@ int main(void) {
     run_untold();
     codes();
     asks();
+    prints();
     return 0;
 }

@@ -148,8 +148,10 @@ static void over_all(void) {
 }
 
 static void companions(void) {
-    static const uint32_t missing[] = {0x00800000, 0x40000000, 0xa3840410}, elsewhere[] = {0x00800000, 0x40000000, 0xc0000000},
+    static const uint32_t missing[] = {0x00800000, 0x40000000, 0xa3840410, 0x40004000},
+                          elsewhere[] = {0x00800000, 0x40000000, 0xc0000000},
                           mult[] = {0x00800000, 0x40000000, 0xa3840410, 0xc1000000};
+    static const uint8_t before_another[] = {CONFIGURATION(34), INTERFACE(1), ENDPOINT, 9, 4, 0, 1, 0, 255, 0, 0, 0};
     uint8_t bytes[sizeof SUPER];
     memcpy(bytes, SUPER, sizeof SUPER);
     second_bytes(bytes, sizeof bytes);
@@ -160,9 +162,15 @@ static void companions(void) {
     second_bytes(PLAIN, sizeof PLAIN);
     speed = 5;
     stands("no companion", XHCI_DEVICE_UNREADABLE_COMPANION, 18, 0);
+    second_bytes(before_another, sizeof before_another);
+    speed = 4;
+    stands("none before an interface", XHCI_DEVICE_UNREADABLE_COMPANION, 18, 0);
     second_words(missing, 3);
     speed = 4;
     stands("a missing one", XHCI_DEVICE_UNREADABLE_COMPANION, 2 + 2, 0xa3840410);
+    second_words(missing, 4);
+    speed = 4;
+    stands("one before an alternate", XHCI_DEVICE_UNREADABLE_COMPANION, 2 + 2, 0xa3840410);
     second_words(elsewhere, 3);
     speed = 4;
     stands("one elsewhere", XHCI_DEVICE_UNREADABLE_COMPANION, 2 + 2, 0xc0000000);
