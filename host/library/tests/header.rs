@@ -107,6 +107,16 @@ fn reasons_have_their_kinds() {
     }
 }
 
+/// A compiler warns where an answer is not looked at.
+#[test]
+fn answers_must_be_used() {
+    let returned = ["answered", "asked", "chosen", "submitted", "placed"];
+    let returned = returned.map(|name| format!("struct xhci_device_{name} xhci_device_"));
+    let functions = HEADER.lines().filter(|line| returned.iter().any(|start| line.contains(start.as_str())));
+    let (must, others): (Vec<&str>, Vec<&str>) = functions.partition(|line| line.starts_with("XHCI_DEVICE_MUST_USE "));
+    assert_eq!((must.len(), others), (15, Vec::new()));
+}
+
 /// An output context has no control block.
 #[test]
 fn contexts_have_their_lengths() {
