@@ -16,8 +16,8 @@ static const uint32_t LIST[] = {0x00400000, 0x40008000, 0xa3840418, 0x40004000, 
 static uint64_t image[XHCI_DEVICE_RECORD_WORDS];
 static uint8_t ctx[XHCI_DEVICE_CONTEXT_BYTES_32];
 static uint64_t routes[XHCI_DEVICE_ROUTES_OF_SLOT * (N + 1)];
-static uint32_t words[XHCI_DEVICE_LOG_WORDS];
-static const uint8_t done[XHCI_DEVICE_LOG_WORDS] = {0};
+static uint32_t words[XHCI_DEVICE_LOG_ROOM];
+static const uint8_t done[XHCI_DEVICE_LOG_ROOM] = {0};
 
 static void fail(const char *what, uint32_t answer) {
     fprintf(stderr, "%s: %s\n", what, xhci_device_answer_name(answer));
@@ -27,9 +27,9 @@ static void fail(const char *what, uint32_t answer) {
 static void bring_up(void) {
     static const uint64_t rings[] = {0x1000, 0x2000, 0x3000, 0x4000}, hubs[1] = {0};
     struct xhci_device_answered answered = xhci_device_bring_up(image, XHCI_DEVICE_RECORD_WORDS, ctx, sizeof ctx, routes,
-        sizeof routes / sizeof routes[0], words, XHCI_DEVICE_LOG_WORDS, done, sizeof done, rings, 4, hubs, 0, LIST,
+        sizeof routes / sizeof routes[0], words, XHCI_DEVICE_LOG_ROOM, done, sizeof done, rings, 4, hubs, 0, LIST,
         sizeof LIST / sizeof LIST[0], SLOT, N, HIGH, 0, 0, 1, 1, 8, 64, 0);
-    if (answered.answer != XHCI_DEVICE_ACCEPTED) {
+    if (answered.answer != XHCI_DEVICE_ANSWER_ACCEPTED) {
         fail("bring-up", answered.answer);
     }
 }
@@ -52,8 +52,8 @@ static void claim_all(const uint8_t *names, size_t names_len, const uint8_t *alt
     size_t i;
     for (i = 0; i < names_len; i++) {
         struct xhci_device_answered answered = xhci_device_claim(image, XHCI_DEVICE_RECORD_WORDS, ctx, sizeof ctx, routes,
-            sizeof routes / sizeof routes[0], words, XHCI_DEVICE_LOG_WORDS, done, sizeof done, names[i], alternates[i]);
-        if (answered.answer != XHCI_DEVICE_ACCEPTED) {
+            sizeof routes / sizeof routes[0], words, XHCI_DEVICE_LOG_ROOM, done, sizeof done, names[i], alternates[i]);
+        if (answered.answer != XHCI_DEVICE_ANSWER_ACCEPTED) {
             fail("claim", answered.answer);
         }
     }
@@ -63,20 +63,20 @@ int main(void) {
     static const uint8_t both[] = {0, 1}, thrice[] = {0, 1, 0}, nine[9] = {0}, later[] = {5}, unknown[] = {0, 7};
     static const uint8_t none[XHCI_DEVICE_NAMES] = {0}, two[XHCI_DEVICE_NAMES] = {2}, again[XHCI_DEVICE_NAMES] = {2, 0, 2},
                          one[XHCI_DEVICE_NAMES] = {1};
-    expect("no record", both, 2, 15, XHCI_DEVICE_UNUSABLE, none);
+    expect("no record", both, 2, 15, XHCI_DEVICE_ANSWER_UNUSABLE, none);
     bring_up();
-    expect("the first that is short enough", both, 1, 5, XHCI_DEVICE_ACCEPTED, two);
-    expect("a shorter one", both, 1, 4, XHCI_DEVICE_ACCEPTED, one);
-    expect("an address of both", both, 2, 4, XHCI_DEVICE_ACCEPTED, none);
-    expect("a name twice", thrice, 3, 5, XHCI_DEVICE_ACCEPTED, again);
-    expect("no names", both, 0, 0, XHCI_DEVICE_ACCEPTED, none);
-    expect("bulk endpoints alone", both + 1, 1, 0, XHCI_DEVICE_ACCEPTED, none);
-    expect("nine names", nine, 9, 15, XHCI_DEVICE_TOO_MANY_NAMES, none);
-    expect("a later configuration", later, 1, 15, XHCI_DEVICE_NO_CHOICE, none);
-    expect("an unknown interface", unknown, 2, 15, XHCI_DEVICE_NO_CHOICE, none);
+    expect("the first that is short enough", both, 1, 5, XHCI_DEVICE_ANSWER_ACCEPTED, two);
+    expect("a shorter one", both, 1, 4, XHCI_DEVICE_ANSWER_ACCEPTED, one);
+    expect("an address of both", both, 2, 4, XHCI_DEVICE_ANSWER_ACCEPTED, none);
+    expect("a name twice", thrice, 3, 5, XHCI_DEVICE_ANSWER_ACCEPTED, again);
+    expect("no names", both, 0, 0, XHCI_DEVICE_ANSWER_ACCEPTED, none);
+    expect("bulk endpoints alone", both + 1, 1, 0, XHCI_DEVICE_ANSWER_ACCEPTED, none);
+    expect("nine names", nine, 9, 15, XHCI_DEVICE_ANSWER_TOO_MANY_NAMES, none);
+    expect("a later configuration", later, 1, 15, XHCI_DEVICE_ANSWER_NO_CHOICE, none);
+    expect("an unknown interface", unknown, 2, 15, XHCI_DEVICE_ANSWER_NO_CHOICE, none);
     claim_all(thrice, 3, again);
-    expect("what is held", both, 2, 5, XHCI_DEVICE_ACCEPTED, two);
-    image[XHCI_DEVICE_USABLE] = 0;
-    expect("unusable, and nine names", nine, 9, 15, XHCI_DEVICE_UNUSABLE, none);
+    expect("what is held", both, 2, 5, XHCI_DEVICE_ANSWER_ACCEPTED, two);
+    image[XHCI_DEVICE_AT_USABLE] = 0;
+    expect("unusable, and nine names", nine, 9, 15, XHCI_DEVICE_ANSWER_UNUSABLE, none);
     return 0;
 }

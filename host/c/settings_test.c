@@ -42,20 +42,20 @@ static void expect(const char *what, conversion *convert, const uint8_t *setting
 int main(void) {
     conversion *to_new = xhci_device_settings_to_new, *to_old = xhci_device_settings_to_old;
     enum { ROOM = XHCI_DEVICE_SETTINGS_BYTES };
-    expect("to new", to_new, OLD, sizeof OLD, LIST_WORDS, ROOM, XHCI_DEVICE_ACCEPTED, NEW, sizeof NEW);
-    expect("to old", to_old, NEW, sizeof NEW, LIST_WORDS, ROOM + 1, XHCI_DEVICE_ACCEPTED, OLD, sizeof OLD);
-    expect("no pairs", to_old, NONE, sizeof NONE, LIST_WORDS, ROOM, XHCI_DEVICE_ACCEPTED, NULL, 0);
-    expect("little room", to_new, OLD, sizeof OLD, LIST_WORDS, ROOM - 1, XHCI_DEVICE_LOG_TOO_SHORT, NULL, 0);
-    expect("an odd length", to_new, OLD, 3, LIST_WORDS, ROOM, XHCI_DEVICE_SETTINGS, NULL, 0);
-    expect("an empty list", to_new, OLD, 0, 0, ROOM, XHCI_DEVICE_SETTINGS, NULL, 0);
-    expect("padding", to_old, PADDED, sizeof PADDED, LIST_WORDS, ROOM, XHCI_DEVICE_SETTINGS, NULL, 0);
-    expect("another", to_old, OTHER, sizeof OTHER, LIST_WORDS, ROOM, XHCI_DEVICE_OTHER_CONFIGURATION, NULL, 0);
+    expect("to new", to_new, OLD, sizeof OLD, LIST_WORDS, ROOM, XHCI_DEVICE_ANSWER_ACCEPTED, NEW, sizeof NEW);
+    expect("to old", to_old, NEW, sizeof NEW, LIST_WORDS, ROOM + 1, XHCI_DEVICE_ANSWER_ACCEPTED, OLD, sizeof OLD);
+    expect("no pairs", to_old, NONE, sizeof NONE, LIST_WORDS, ROOM, XHCI_DEVICE_ANSWER_ACCEPTED, NULL, 0);
+    expect("little room", to_new, OLD, sizeof OLD, LIST_WORDS, ROOM - 1, XHCI_DEVICE_ANSWER_LOG_TOO_SHORT, NULL, 0);
+    expect("an odd length", to_new, OLD, 3, LIST_WORDS, ROOM, XHCI_DEVICE_ANSWER_SETTINGS, NULL, 0);
+    expect("an empty list", to_new, OLD, 0, 0, ROOM, XHCI_DEVICE_ANSWER_SETTINGS, NULL, 0);
+    expect("padding", to_old, PADDED, sizeof PADDED, LIST_WORDS, ROOM, XHCI_DEVICE_ANSWER_SETTINGS, NULL, 0);
+    expect("another", to_old, OTHER, sizeof OTHER, LIST_WORDS, ROOM, XHCI_DEVICE_ANSWER_OTHER_CONFIGURATION, NULL, 0);
     speed = 4; /* no endpoint is there that would want a companion */
-    expect("at SuperSpeed", to_old, NEW, sizeof NEW, LIST_WORDS, ROOM, XHCI_DEVICE_ACCEPTED, OLD, sizeof OLD);
+    expect("at SuperSpeed", to_old, NEW, sizeof NEW, LIST_WORDS, ROOM, XHCI_DEVICE_ANSWER_ACCEPTED, OLD, sizeof OLD);
     speed = 6;
-    expect("no speed", to_new, OLD, 3, LIST_WORDS, ROOM, XHCI_DEVICE_SPEED, NULL, 0);
-    expect("no speed and little room", to_old, OLD, 3, LIST_WORDS, ROOM - 1, XHCI_DEVICE_LOG_TOO_SHORT, NULL, 0);
+    expect("no speed", to_new, OLD, 3, LIST_WORDS, ROOM, XHCI_DEVICE_ANSWER_SPEED, NULL, 0);
+    expect("no speed and little room", to_old, OLD, 3, LIST_WORDS, ROOM - 1, XHCI_DEVICE_ANSWER_LOG_TOO_SHORT, NULL, 0);
     speed = 3;
-    expect("unfound", to_old, OTHER, sizeof OTHER, LIST_WORDS - 1, ROOM, XHCI_DEVICE_SETTINGS, NULL, 0);
+    expect("unfound", to_old, OTHER, sizeof OTHER, LIST_WORDS - 1, ROOM, XHCI_DEVICE_ANSWER_SETTINGS, NULL, 0);
     return 0;
 }

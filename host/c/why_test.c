@@ -14,11 +14,11 @@ static const uint32_t LIST[] = {0x00400000, 0x40000000, 0xa3840410, 0x40004000, 
 
 static const uint64_t RINGS[] = {0x1000, 0x2000, 0x3000, 0x4000};
 
-static const uint8_t DONE[XHCI_DEVICE_LOG_WORDS] = {0};
+static const uint8_t DONE[XHCI_DEVICE_LOG_ROOM] = {0};
 
 static uint64_t image[WORDS], routes[ROUTES];
 static uint8_t ctx[XHCI_DEVICE_CONTEXT_BYTES_32];
-static uint32_t lines[XHCI_DEVICE_LOG_WORDS];
+static uint32_t lines[XHCI_DEVICE_LOG_ROOM];
 
 static void fail(const char *what) {
     fprintf(stderr, "%s\n", what);
@@ -31,11 +31,11 @@ static void begin(void) {
     struct xhci_device_answered up, claimed;
     memset(routes, 0, sizeof routes);
     memset(ctx, 0, sizeof ctx);
-    up = xhci_device_bring_up(image, WORDS, ctx, sizeof ctx, routes, ROUTES, lines, XHCI_DEVICE_LOG_WORDS, DONE, sizeof DONE,
+    up = xhci_device_bring_up(image, WORDS, ctx, sizeof ctx, routes, ROUTES, lines, XHCI_DEVICE_LOG_ROOM, DONE, sizeof DONE,
         RINGS, sizeof RINGS / sizeof RINGS[0], none, 0, LIST, sizeof LIST / sizeof LIST[0], 1, N, 3, 0, 0, 1, 1, 8, 64, 1);
-    claimed = xhci_device_claim(image, WORDS, ctx, sizeof ctx, routes, ROUTES, lines, XHCI_DEVICE_LOG_WORDS, DONE,
+    claimed = xhci_device_claim(image, WORDS, ctx, sizeof ctx, routes, ROUTES, lines, XHCI_DEVICE_LOG_ROOM, DONE,
         sizeof DONE, 0, 0);
-    if (up.answer != XHCI_DEVICE_ACCEPTED || claimed.answer != XHCI_DEVICE_ACCEPTED) {
+    if (up.answer != XHCI_DEVICE_ANSWER_ACCEPTED || claimed.answer != XHCI_DEVICE_ANSWER_ACCEPTED) {
         fail("the device");
     }
 }
@@ -65,7 +65,7 @@ static void claim(const char *what, uint8_t interface, uint8_t alternate, const 
     uint32_t answer, struct xhci_device_reason expected) {
     static uint64_t before[WORDS];
     struct xhci_device_answered left = xhci_device_claim(image, WORDS, ctx, sizeof ctx, routes, ROUTES, lines,
-        XHCI_DEVICE_LOG_WORDS, outcomes, len, interface, alternate);
+        XHCI_DEVICE_LOG_ROOM, outcomes, len, interface, alternate);
     struct xhci_device_reason reason;
     memcpy(before, image, sizeof image);
     reason = xhci_device_why(image, WORDS, interface, alternate, left.answer, lines, left.count, outcomes, len);
@@ -79,15 +79,15 @@ static void claim(const char *what, uint8_t interface, uint8_t alternate, const 
 static void send(struct xhci_device_pending *call, const uint64_t *all_routes, void *failing) {
     (void)all_routes;
     if (call->log[call->told] == *(const uint32_t *)failing) {
-        xhci_device_failed(call, 7);
+        xhci_device_pending_failed(call, 7);
     } else {
-        xhci_device_done(call);
+        xhci_device_pending_done(call);
     }
 }
 
 static void driven(const char *what, struct xhci_device_pending *call, uint32_t failing, uint32_t answer,
     struct xhci_device_reason expected) {
-    if (xhci_device_run(call, routes, ROUTES, send, &failing).answer != answer) {
+    if (xhci_device_pending_run(call, routes, ROUTES, send, &failing).answer != answer) {
         fail(what);
     }
     same(what, call->reason, expected);
@@ -97,42 +97,42 @@ static void driven(const char *what, struct xhci_device_pending *call, uint32_t 
 static void claims(void) {
     const uint8_t set_interface[] = {0, 0, 7, 0, 0}, resume_too[] = {0, 7, 9}, cut[] = {0, 7};
     struct xhci_device_reason nothing = reason_of(XHCI_DEVICE_REASON_NOTHING, 0, 0, 0, 0, 0);
-    claim("accepted", 0, 1, DONE, sizeof DONE, XHCI_DEVICE_ACCEPTED, nothing);
-    claim("alternate", 2, 5, DONE, 0, XHCI_DEVICE_NOT_FOUND, reason_of(XHCI_DEVICE_REASON_ALTERNATE, 2, 5, 0, 0, 0));
-    claim("endpoint", 1, 0, DONE, 0, XHCI_DEVICE_INVALID_PARAMETER,
+    claim("accepted", 0, 1, DONE, sizeof DONE, XHCI_DEVICE_ANSWER_ACCEPTED, nothing);
+    claim("alternate", 2, 5, DONE, 0, XHCI_DEVICE_ANSWER_NOT_FOUND, reason_of(XHCI_DEVICE_REASON_ALTERNATE, 2, 5, 0, 0, 0));
+    claim("endpoint", 1, 0, DONE, 0, XHCI_DEVICE_ANSWER_INVALID_PARAMETER,
         reason_of(XHCI_DEVICE_REASON_ENDPOINT, 0, 0, 0xa3840410, 0, 0));
-    claim("rings", 1, 1, DONE, 0, XHCI_DEVICE_TOO_FEW_RINGS, reason_of(XHCI_DEVICE_REASON_RINGS, 0, 0, 0, 0, 0));
-    claim("command", 0, 1, set_interface, sizeof set_interface, XHCI_DEVICE_FAILED,
+    claim("rings", 1, 1, DONE, 0, XHCI_DEVICE_ANSWER_TOO_FEW_RINGS, reason_of(XHCI_DEVICE_REASON_RINGS, 0, 0, 0, 0, 0));
+    claim("command", 0, 1, set_interface, sizeof set_interface, XHCI_DEVICE_ANSWER_FAILED,
         reason_of(XHCI_DEVICE_REASON_COMMAND, 0, 0, 0x60001000, 0, 2));
-    claim("the first", 0, 1, resume_too, sizeof resume_too, XHCI_DEVICE_FAILED,
+    claim("the first", 0, 1, resume_too, sizeof resume_too, XHCI_DEVICE_ANSWER_FAILED,
         reason_of(XHCI_DEVICE_REASON_COMMAND, 0, 0, 0x30000000, 0, 1));
-    claim("cut", 0, 1, cut, sizeof cut, XHCI_DEVICE_CUT, reason_of(XHCI_DEVICE_REASON_NUMBER, 0, 0, 0, 15, 0));
+    claim("cut", 0, 1, cut, sizeof cut, XHCI_DEVICE_ANSWER_CUT, reason_of(XHCI_DEVICE_REASON_NUMBER, 0, 0, 0, 15, 0));
     routes[XHCI_DEVICE_ROUTES_OF_SLOT + 3] = 0x7000;
-    claim("routes", 0, 1, DONE, sizeof DONE, XHCI_DEVICE_INTERFACE_BROKEN,
+    claim("routes", 0, 1, DONE, sizeof DONE, XHCI_DEVICE_ANSWER_INTERFACE_BROKEN,
         reason_of(XHCI_DEVICE_REASON_NUMBER, 0, 0, 0, 14, 0));
 }
 
 static void driven_calls(void) {
     static struct xhci_device_pending call;
     struct xhci_device_asked asked;
-    uint64_t drawn[XHCI_DEVICE_ASK_RINGS];
-    xhci_device_begin_claim(&call, image, ctx, sizeof ctx, 0, 1);
-    driven("a driven claim", &call, 0x60001000, XHCI_DEVICE_FAILED,
+    uint64_t drawn[XHCI_DEVICE_EP_ROOM];
+    xhci_device_pending_claim(&call, image, ctx, sizeof ctx, 0, 1);
+    driven("a driven claim", &call, 0x60001000, XHCI_DEVICE_ANSWER_FAILED,
         reason_of(XHCI_DEVICE_REASON_COMMAND, 0, 0, 0x60001000, 0, 2));
-    xhci_device_begin_claim(&call, image, ctx, sizeof ctx, 1, 0);
-    driven("a refused claim", &call, 0, XHCI_DEVICE_INVALID_PARAMETER,
+    xhci_device_pending_claim(&call, image, ctx, sizeof ctx, 1, 0);
+    driven("a refused claim", &call, 0, XHCI_DEVICE_ANSWER_INVALID_PARAMETER,
         reason_of(XHCI_DEVICE_REASON_ENDPOINT, 0, 0, 0xa3840410, 0, 0));
-    asked = xhci_device_ask(image, WORDS, sizeof ctx, ROUTES, XHCI_DEVICE_LOG_WORDS, 0, 1, drawn, XHCI_DEVICE_ASK_RINGS);
-    xhci_device_begin_commit(&call, image, ctx, sizeof ctx, &asked, drawn);
-    driven("a driven commit", &call, 0x40300000, XHCI_DEVICE_FAILED,
+    asked = xhci_device_ask(image, WORDS, sizeof ctx, ROUTES, XHCI_DEVICE_LOG_ROOM, 0, 1, drawn, XHCI_DEVICE_EP_ROOM);
+    xhci_device_pending_commit(&call, image, ctx, sizeof ctx, &asked, drawn);
+    driven("a driven commit", &call, 0x40300000, XHCI_DEVICE_ANSWER_FAILED,
         reason_of(XHCI_DEVICE_REASON_COMMAND, 0, 0, 0x40300000, 0, 0));
     asked.interface = 2;
-    xhci_device_begin_commit(&call, image, ctx, sizeof ctx, &asked, drawn);
-    driven("a refused commit", &call, 0, XHCI_DEVICE_NOT_FOUND, reason_of(XHCI_DEVICE_REASON_ALTERNATE, 2, 1, 0, 0, 0));
-    xhci_device_begin_release(&call, image, ctx, sizeof ctx, 0);
-    driven("a release", &call, 0x40300000, XHCI_DEVICE_FAILED, reason_of(XHCI_DEVICE_REASON_NUMBER, 0, 0, 0, 13, 0));
-    xhci_device_begin_release(&call, image, ctx, sizeof ctx, 0);
-    driven("a done release", &call, 0, XHCI_DEVICE_ACCEPTED, reason_of(XHCI_DEVICE_REASON_NOTHING, 0, 0, 0, 0, 0));
+    xhci_device_pending_commit(&call, image, ctx, sizeof ctx, &asked, drawn);
+    driven("a refused commit", &call, 0, XHCI_DEVICE_ANSWER_NOT_FOUND, reason_of(XHCI_DEVICE_REASON_ALTERNATE, 2, 1, 0, 0, 0));
+    xhci_device_pending_release(&call, image, ctx, sizeof ctx, 0);
+    driven("a release", &call, 0x40300000, XHCI_DEVICE_ANSWER_FAILED, reason_of(XHCI_DEVICE_REASON_NUMBER, 0, 0, 0, 13, 0));
+    xhci_device_pending_release(&call, image, ctx, sizeof ctx, 0);
+    driven("a done release", &call, 0, XHCI_DEVICE_ANSWER_ACCEPTED, reason_of(XHCI_DEVICE_REASON_NOTHING, 0, 0, 0, 0, 0));
 }
 
 static void block(size_t input, size_t output, uint8_t from_output, uint8_t dci, uint32_t answer, size_t offset,
@@ -151,10 +151,10 @@ static void blocks(void) {
         block(XHCI_DEVICE_CONTEXT_BYTES_64, XHCI_DEVICE_OUTPUT_BYTES_64, 0, dci, 0, 64 * (size_t)dci + 64, 64);
         block(XHCI_DEVICE_CONTEXT_BYTES_64, XHCI_DEVICE_OUTPUT_BYTES_64, 255, dci, 0, 64 * (size_t)dci, 64);
     }
-    block(XHCI_DEVICE_CONTEXT_BYTES_32, XHCI_DEVICE_OUTPUT_BYTES_32, 0, 0, XHCI_DEVICE_DESCRIPTOR_LIST, 0, 0);
-    block(XHCI_DEVICE_CONTEXT_BYTES_32, XHCI_DEVICE_OUTPUT_BYTES_32, 1, 32, XHCI_DEVICE_DESCRIPTOR_LIST, 0, 0);
-    block(XHCI_DEVICE_CONTEXT_BYTES_32, XHCI_DEVICE_OUTPUT_BYTES_64, 0, 3, XHCI_DEVICE_CONTEXT_LENGTH, 0, 0);
-    block(XHCI_DEVICE_CONTEXT_BYTES_64, XHCI_DEVICE_CONTEXT_BYTES_64, 1, 32, XHCI_DEVICE_CONTEXT_LENGTH, 0, 0);
+    block(XHCI_DEVICE_CONTEXT_BYTES_32, XHCI_DEVICE_OUTPUT_BYTES_32, 0, 0, XHCI_DEVICE_ANSWER_DESCRIPTOR_LIST, 0, 0);
+    block(XHCI_DEVICE_CONTEXT_BYTES_32, XHCI_DEVICE_OUTPUT_BYTES_32, 1, 32, XHCI_DEVICE_ANSWER_DESCRIPTOR_LIST, 0, 0);
+    block(XHCI_DEVICE_CONTEXT_BYTES_32, XHCI_DEVICE_OUTPUT_BYTES_64, 0, 3, XHCI_DEVICE_ANSWER_CONTEXT_LENGTH, 0, 0);
+    block(XHCI_DEVICE_CONTEXT_BYTES_64, XHCI_DEVICE_CONTEXT_BYTES_64, 1, 32, XHCI_DEVICE_ANSWER_CONTEXT_LENGTH, 0, 0);
 }
 
 int main(void) {

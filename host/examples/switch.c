@@ -54,37 +54,37 @@ static void bus_send(struct xhci_device_pending *call, const uint64_t *all_route
     printf("  ");
     print_command(call->command);
     for (dci = 1; dci < 32; dci++) {
-        if (xhci_device_dropped(call) >> dci & 1) {
+        if (xhci_device_pending_dropped(call) >> dci & 1) {
             printf(", gives up Dci %u", dci);
         }
     }
     for (dci = 1; dci < 32; dci++) {
-        if (xhci_device_added(call) >> dci & 1) {
+        if (xhci_device_pending_added(call) >> dci & 1) {
             /* Here the ring is cleared: the controller begins at its base, with cycle state 1. */
-            printf(", begins Dci %u on ring %" PRIx64, dci, xhci_device_ring(call, dci));
+            printf(", begins Dci %u on ring %" PRIx64, dci, xhci_device_pending_ring(call, dci));
         }
     }
     if (call->log[call->told] == failing) {
         printf(": failed, code 7\n");
-        xhci_device_failed(call, 7);
+        xhci_device_pending_failed(call, 7);
         return;
     }
     printf(": done\n");
     switch (call->command.operation) {
     case XHCI_DEVICE_OP_READ_HEADER:
-        xhci_device_read_bytes(call, descriptor, 8);
+        xhci_device_pending_read_bytes(call, descriptor, 8);
         break;
     case XHCI_DEVICE_OP_READ_DEVICE:
-        xhci_device_read_bytes(call, descriptor, sizeof descriptor);
+        xhci_device_pending_read_bytes(call, descriptor, sizeof descriptor);
         break;
     case XHCI_DEVICE_OP_READ_CONFIGURATION:
-        xhci_device_read_bytes(call, value_now, sizeof value_now);
+        xhci_device_pending_read_bytes(call, value_now, sizeof value_now);
         break;
     case XHCI_DEVICE_OP_READ_CONFIG:
-        xhci_device_read_bytes(call, configuration, sizeof configuration);
+        xhci_device_pending_read_bytes(call, configuration, sizeof configuration);
         break;
     default:
-        xhci_device_done(call);
+        xhci_device_pending_done(call);
     }
 }
 
@@ -102,20 +102,20 @@ static void print_reason(const struct xhci_device_reason *reason) {
 static void run(const char *what, struct xhci_device_pending *call, uint32_t failing) {
     struct xhci_device_answered answered;
     uint8_t dci;
-    uint64_t i;
+    size_t i;
     printf("%s\n", what);
-    answered = xhci_device_run(call, routes, ROUTES, bus_send, &failing);
+    answered = xhci_device_pending_run(call, routes, ROUTES, bus_send, &failing);
     printf("  answer %" PRIu32 ": %s", answered.answer, xhci_device_answer_name(answered.answer));
-    if (answered.answer == XHCI_DEVICE_FAILED) {
+    if (answered.answer == XHCI_DEVICE_ANSWER_FAILED) {
         printf(", with code %" PRIu32, answered.code);
     }
     printf("\n");
     if (call->reason.kind != XHCI_DEVICE_REASON_NOTHING && call->reason.kind != XHCI_DEVICE_REASON_NUMBER) {
         print_reason(&call->reason);
     }
-    for (i = 0; i < image[XHCI_DEVICE_HELD_COUNT]; i++) {
-        printf("  interface %" PRIu64 " holds alternate %" PRIu64 "\n", image[XHCI_DEVICE_INTERFACES + i],
-            image[XHCI_DEVICE_ALTERNATES + i]);
+    for (i = 0; i < xhci_device_held_count(image); i++) {
+        struct xhci_device_setting held = xhci_device_held(image, i);
+        printf("  interface %u holds alternate %u\n", held.interface, held.alternate);
     }
     for (dci = 0; dci < 32; dci++) {
         uint64_t ring = routes[xhci_device_route_index(SLOT, dci)];
@@ -153,23 +153,22 @@ int main(void) {
     const uint64_t rings[4] = {0x1000, 0x2000, 0x3000, 0x3400};
     struct xhci_device_attached attached = {SLOT, N, 3, false, 0, 1, 1, rings, 4, NULL, 0};
     struct xhci_device_asked asked;
-    uint64_t drawn[XHCI_DEVICE_ASK_RINGS];
+    uint64_t drawn[XHCI_DEVICE_EP_ROOM];
 
-    xhci_device_begin_bring_up(&call, image, ctx, sizeof ctx, &attached);
+    xhci_device_pending_bring_up(&call, image, ctx, sizeof ctx, &attached);
     run("bring-up of slot 1", &call, 0);
-    xhci_device_begin_claim(&call, image, ctx, sizeof ctx, 0, 0);
+    xhci_device_pending_claim(&call, image, ctx, sizeof ctx, 0, 0);
     run("claim of interface 0, alternate 0", &call, 0);
-    asked = xhci_device_ask(image, XHCI_DEVICE_RECORD_WORDS, sizeof ctx, ROUTES, XHCI_DEVICE_LOG_WORDS, 0, 1, drawn,
-        XHCI_DEVICE_ASK_RINGS);
-    if (asked.answer != XHCI_DEVICE_ACCEPTED) {
+    asked = xhci_device_pending_ask(image, sizeof ctx, ROUTES, 0, 1, drawn);
+    if (asked.answer != XHCI_DEVICE_ANSWER_ACCEPTED) {
         return 1;
     }
     show(&asked, drawn);
-    xhci_device_begin_commit(&call, image, ctx, sizeof ctx, &asked, drawn);
+    xhci_device_pending_commit(&call, image, ctx, sizeof ctx, &asked, drawn);
     run("commit of interface 0, alternate 1", &call, 0x60001000);
-    xhci_device_begin_release(&call, image, ctx, sizeof ctx, 0);
+    xhci_device_pending_release(&call, image, ctx, sizeof ctx, 0);
     run("release of interface 0", &call, 0);
-    xhci_device_begin_disconnect(&call, image, ctx, sizeof ctx);
+    xhci_device_pending_disconnect(&call, image, ctx, sizeof ctx);
     run("unplugging of slot 1", &call, 0);
     return 0;
 }

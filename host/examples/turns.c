@@ -58,19 +58,19 @@ static void bus_send(struct xhci_device_pending *call, const uint64_t *all_route
     print_command(call->command);
     switch (call->command.operation) {
     case XHCI_DEVICE_OP_READ_HEADER:
-        xhci_device_read_bytes(call, descriptor, 8);
+        xhci_device_pending_read_bytes(call, descriptor, 8);
         break;
     case XHCI_DEVICE_OP_READ_DEVICE:
-        xhci_device_read_bytes(call, descriptor, sizeof descriptor);
+        xhci_device_pending_read_bytes(call, descriptor, sizeof descriptor);
         break;
     case XHCI_DEVICE_OP_READ_CONFIGURATION:
-        xhci_device_read_bytes(call, value_now, sizeof value_now);
+        xhci_device_pending_read_bytes(call, value_now, sizeof value_now);
         break;
     case XHCI_DEVICE_OP_READ_CONFIG:
-        xhci_device_read_bytes(call, configuration, sizeof configuration);
+        xhci_device_pending_read_bytes(call, configuration, sizeof configuration);
         break;
     default:
-        xhci_device_done(call);
+        xhci_device_pending_done(call);
     }
 }
 
@@ -78,7 +78,7 @@ static void submit(struct device *device, bool is_claim) {
     struct xhci_device_submitted submitted = xhci_device_submit(dispatcher, device->slot);
     dispatcher = submitted.dispatcher;
     printf("%s of slot %u: ", is_claim ? "claim" : "bring-up", device->slot);
-    if (submitted.answer != XHCI_DEVICE_ACCEPTED) {
+    if (submitted.answer != XHCI_DEVICE_ANSWER_ACCEPTED) {
         printf("%" PRIu32 ", %s\n", submitted.answer, xhci_device_answer_name(submitted.answer));
         return;
     }
@@ -102,12 +102,12 @@ static struct device *turn(void) {
         device++;
     }
     if (device->is_claim) {
-        xhci_device_begin_claim(&call, device->image, device->ctx, sizeof device->ctx, 0, 0);
+        xhci_device_pending_claim(&call, device->image, device->ctx, sizeof device->ctx, 0, 0);
     } else {
         struct xhci_device_attached attached = {device->slot, N, 3, false, 0, 1, device->slot, device->rings, 3, NULL, 0};
-        xhci_device_begin_bring_up(&call, device->image, device->ctx, sizeof device->ctx, &attached);
+        xhci_device_pending_bring_up(&call, device->image, device->ctx, sizeof device->ctx, &attached);
     }
-    answered = xhci_device_run(&call, routes, ROUTES, bus_send, &device->slot);
+    answered = xhci_device_pending_run(&call, routes, ROUTES, bus_send, &device->slot);
     printf("  slot %u: answer %" PRIu32 ": %s\n", device->slot, answered.answer, xhci_device_answer_name(answered.answer));
     return device;
 }

@@ -89,7 +89,7 @@ fn the_version_and_the_sizes_are_the_binding_s() {
     assert_eq!(constant("XHCI_DEVICE_VERSION"), Some(format!("\"{version}\"").as_str()));
     assert_eq!(number("XHCI_DEVICE_RECORD_WORDS"), Record::WORDS);
     let rooms =
-        ["READ_WORDS", "WRITE_BYTES", "SETTINGS_BYTES", "NAMES"].map(|name| number(&format!("XHCI_DEVICE_{name}")));
+        ["LIST_ROOM", "WRITE_BYTES", "SETTINGS_BYTES", "NAMES"].map(|name| number(&format!("XHCI_DEVICE_{name}")));
     assert_eq!(rooms, [READ_WORDS, WRITE_BYTES, SETTINGS_BYTES, MOST_NAMES]);
 }
 
@@ -105,6 +105,16 @@ fn reasons_have_their_kinds() {
     for (reason, name) in [(Reason::Nothing, "NOTHING"), (Reason::Rings, "RINGS")] {
         assert!(HEADER.contains(&format!("case XHCI_DEVICE_REASON_{name}: return \"{reason}\";")), "{name}");
     }
+}
+
+/// A compiler warns where an answer is not looked at.
+#[test]
+fn answers_must_be_used() {
+    let returned = ["answered", "asked", "chosen", "submitted", "placed"];
+    let returned = returned.map(|name| format!("struct xhci_device_{name} xhci_device_"));
+    let functions = HEADER.lines().filter(|line| returned.iter().any(|start| line.contains(start.as_str())));
+    let (must, others): (Vec<&str>, Vec<&str>) = functions.partition(|line| line.starts_with("XHCI_DEVICE_MUST_USE "));
+    assert_eq!((must.len(), others), (15, Vec::new()));
 }
 
 /// An output context has no control block.

@@ -20,13 +20,13 @@ fn constants(file: &str) -> Names {
     names(&text(file), |line| line.strip_prefix("pub const ")?.strip_suffix(';')?.split_once(": usize = "))
 }
 
-/// The enum of the header that stands under a comment.
-fn header(comment: &str) -> Names {
+/// The enum of the header that stands under a comment, without the prefix of its names.
+fn header(comment: &str, prefix: &str) -> Names {
     let header = text("host/include/xhci_device.h");
     let (_, below) = header.split_once(comment).expect(comment);
     let (members, _) = below.split_once("};").expect("an enum");
     names(members, |line| {
-        let (name, number) = line.trim().strip_prefix("XHCI_DEVICE_")?.split_once(" = ")?;
+        let (name, number) = line.trim().strip_prefix(prefix)?.split_once(" = ")?;
         Some((name, number.split([',', ' ']).next()?))
     })
 }
@@ -40,10 +40,10 @@ fn words_and_rooms_have_one_number_each() {
     let (rooms, words): (Names, Names) =
         constants("host/xhci_device/src/layout.rs").into_iter().partition(|(name, _)| name.ends_with("_ROOM"));
     assert_eq!(words, code);
-    let mut listed = header("/* Where the words stand.");
+    let mut listed = header("/* Where the words stand.", "XHCI_DEVICE_AT_");
     listed.extend(names(&text("host/include/xhci_device.h"), |line| {
         line.strip_prefix("#define XHCI_DEVICE_RECORD_")?.split_once(' ')
     }));
     assert_eq!(listed, code);
-    assert_eq!(header("/* Room in a record's arrays."), rooms);
+    assert_eq!(header("/* Room in a record's arrays.", "XHCI_DEVICE_"), rooms);
 }

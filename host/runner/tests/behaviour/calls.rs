@@ -8,11 +8,11 @@ use crate::page::{hex, number, quoted, table};
 
 const HEADER: &str = include_str!("../../../include/xhci_device.h");
 
-/// The header's constants with a number, by their names without XHCI_DEVICE_.
-pub fn constants(from: &str, to: &str) -> Vec<(String, u64)> {
-    let part = HEADER.split(from).nth(1).and_then(|rest| rest.split(to).next()).expect("the part of the header");
+/// The constants of the header's enum under a comment, by their names without a prefix.
+pub fn constants(comment: &str, prefix: &str) -> Vec<(String, u64)> {
+    let part = HEADER.split(comment).nth(1).and_then(|rest| rest.split("};").next()).expect("the part of the header");
     let constant = |line: &str| {
-        let (name, value) = line.trim().strip_prefix("XHCI_DEVICE_")?.split_once(" = ")?;
+        let (name, value) = line.trim().strip_prefix(prefix)?.split_once(" = ")?;
         let digits: String = value.chars().take_while(char::is_ascii_digit).collect();
         Some((name.to_string(), number(&digits)))
     };
@@ -22,7 +22,7 @@ pub fn constants(from: &str, to: &str) -> Vec<(String, u64)> {
 #[test]
 fn answers_are_the_header_s() {
     let rows: Vec<(String, u64)> = table("answers").iter().map(|row| (row[1].clone(), number(&row[0]))).collect();
-    assert_eq!(rows, constants("/* Answers. */", "};"));
+    assert_eq!(rows, constants("/* Answers. */", "XHCI_DEVICE_ANSWER_"));
 }
 
 /// A call on the page's record, or its bring-up.

@@ -21,7 +21,7 @@ fn image() -> Image {
 fn the_image_s_words_are_the_header_s() {
     let rows = table("image");
     let starts: Vec<(String, u64)> = rows.iter().map(|row| (row[1].clone(), span(&row[0]).0 as u64)).collect();
-    assert_eq!(starts, constants("/* Where the words stand.", "};"));
+    assert_eq!(starts, constants("/* Where the words stand.", "XHCI_DEVICE_AT_"));
     let next: Vec<usize> = rows.iter().map(|row| span(&row[0]).1 + 1).collect();
     assert!(rows.iter().skip(1).zip(&next).all(|(row, next)| span(&row[0]).0 == *next), "no word is left out");
     assert_eq!((span(&rows[0][0]).0, next.last()), (0, Some(&Image::WORDS)));
