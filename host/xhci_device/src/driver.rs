@@ -9,7 +9,7 @@ mod scenario;
 use core::fmt;
 
 use crate::debug::Listed;
-use crate::learned::Learned;
+use crate::learned::{Learned, Numbers};
 use crate::{
     Answer, Answered, Attached, BringUp, Bus, Call, Cause, Command, Due, Memory, Outcome, Reason, Record, SlotId,
     UNREADABLE, Unreadable, library,
@@ -291,6 +291,7 @@ impl<'a> Pending<'a> {
             self.play(routes);
         }
         self.played = self.told;
+        self.learned.stepped();
         if self.answered.count == 0 && matches!(self.call, Call::BringUp(_)) {
             // Nothing was sent: the record that the library has emptied is as it was.
             self.record.clone_from(&self.begun.record);
@@ -361,7 +362,7 @@ impl fmt::Debug for Pending<'_> {
 /// A bring-up with what is known of the device so far.
 fn known<'b>(attached: &Attached<'b>, learned: &'b Learned) -> BringUp<'b> {
     let Attached { slot, n, speed, parent, port, root_port, rings, hubs } = *attached;
-    let Learned { header, packet, value, .. } = *learned;
+    let Numbers { header, packet, value, .. } = learned.numbers();
     BringUp { slot, n, speed, parent, port, root_port, rings, header, packet, value, hubs, list: learned.list() }
 }
 

@@ -14,53 +14,68 @@ const CONFIGURATION_DESCRIPTOR: usize = 9;
 const MAX_PACKET_SIZE: usize = 7;
 const NUM_CONFIGURATIONS: usize = 17;
 
+/// What was read, but for the words of the list.
+#[derive(Clone, Copy)]
+pub struct Numbers {
+    pub header: usize,
+    pub packet: u8,
+    pub value: u8,
+    /// Words of the configurations read, and how many were not.
+    read: usize,
+    unread: usize,
+}
+
 /// Each configuration that the device has and that was not read yet stands in the list as one word, 0, so that
 /// the call sends a ReadConfig for it.
 pub struct Learned {
     /// The device's, at which its descriptors are read.
     speed: u8,
-    pub header: usize,
-    pub packet: u8,
-    pub value: u8,
     words: [u32; LIST],
-    /// Words of the configurations read, and how many were not.
-    read: usize,
-    unread: usize,
-    /// The same before the last command.
-    before: (usize, usize),
+    now: Numbers,
+    /// At the last step.
+    before: Numbers,
 }
 
 impl Learned {
     pub fn nothing(speed: u8) -> Learned {
-        Learned { speed, header: 0, packet: 0, value: 0, words: [0; LIST], read: 0, unread: 0, before: (0, 0) }
+        let now = Numbers { header: 0, packet: 0, value: 0, read: 0, unread: 0 };
+        Learned { speed, words: [0; LIST], now, before: now }
+    }
+
+    pub fn numbers(&self) -> Numbers {
+        self.now
     }
 
     pub fn list(&self) -> &[u32] {
-        &self.words[..self.read + self.unread]
+        &self.words[..self.now.read + self.now.unread]
     }
 
-    /// The list as it was before the last command.
-    pub fn list_before(&self) -> impl Iterator<Item = u32> {
-        let (read, unread) = self.before;
-        self.words[..read].iter().copied().chain(core::iter::repeat_n(0, unread))
+    /// What was known at the last step.
+    pub fn before(&self) -> (Numbers, impl Iterator<Item = u32>) {
+        let Numbers { read, unread, .. } = self.before;
+        (self.before, self.words[..read].iter().copied().chain(core::iter::repeat_n(0, unread)))
+    }
+
+    /// A step has been made.
+    pub fn stepped(&mut self) {
+        self.before = self.now;
     }
 
     /// Takes what a command read, or says why it cannot be used.
     pub fn take(&mut self, command: Command, read: Read<'_>) -> Result<(), Cause> {
-        self.before = (self.read, self.unread);
         let bytes = if let Read::Bytes(bytes) = read { bytes } else { &[] };
         match command {
             Command::ReadHeader => {
-                self.header = bytes.len();
-                self.packet = bytes.get(MAX_PACKET_SIZE).copied().unwrap_or(0);
+                self.now.header = bytes.len();
+                self.now.packet = bytes.get(MAX_PACKET_SIZE).copied().unwrap_or(0);
             }
             Command::ReadConfiguration => {
                 let [value]: [u8; CONFIGURATION_VALUE] = first(bytes)?;
-                self.value = value;
+                self.now.value = value;
             }
             Command::ReadDevice => {
                 let descriptor: [u8; DEVICE_DESCRIPTOR] = first(bytes)?;
-                self.unread = descriptor[NUM_CONFIGURATIONS].into();
+                self.now.unread = descriptor[NUM_CONFIGURATIONS].into();
             }
             Command::ReadConfig(_) => match read {
                 Read::Words(words) if !words.is_empty() => self.append(words)?,
@@ -73,15 +88,16 @@ impl Learned {
 
     /// One configuration takes the place of its word.
     fn append(&mut self, words: &[u32]) -> Result<(), Cause> {
+        let Numbers { read, unread, .. } = self.now;
         if let Some((at, word)) = other_than_one(words) {
-            return Err(Cause::NotOne { place: self.read + at, word });
+            return Err(Cause::NotOne { place: read + at, word });
         }
-        let (end, unread) = (self.read + words.len(), self.unread.saturating_sub(1));
+        let (end, unread) = (read + words.len(), unread.saturating_sub(1));
         if end + unread > LIST {
             return Err(Cause::NoRoom { had: end + unread });
         }
-        self.words[self.read..end].copy_from_slice(words);
-        (self.read, self.unread) = (end, unread);
+        self.words[read..end].copy_from_slice(words);
+        (self.now.read, self.now.unread) = (end, unread);
         Ok(())
     }
 
@@ -99,14 +115,15 @@ impl Learned {
 
     /// Why the reader refuses bytes.
     fn bytes_refused(&self, refusal: RawRefusal, bytes: &[u8]) -> Cause {
+        let Numbers { read, unread, .. } = self.now;
         match refusal {
             RawRefusal::DescriptorList => {
                 let mut list = [0; LIST];
                 let words = words_of(bytes, self.speed).map(|(_, word)| word);
                 let count = list.iter_mut().zip(words).map(|(place, word)| *place = word).count();
                 match invalid_at(&list[..count], self.speed) {
-                    Some(at) => Cause::List { place: self.read + at, word: list[at] },
-                    None => Cause::NoRoom { had: self.read + words_of(bytes, self.speed).count() + self.unread - 1 },
+                    Some(at) => Cause::List { place: read + at, word: list[at] },
+                    None => Cause::NoRoom { had: read + words_of(bytes, self.speed).count() + unread - 1 },
                 }
             }
             RawRefusal::Companion => {
@@ -120,7 +137,7 @@ impl Learned {
     pub fn list_refused(&self, command: Command, answer: Answer) -> Cause {
         let list = self.list();
         match (command, answer) {
-            (Command::ReadDevice, _) => Cause::Configurations { had: self.unread },
+            (Command::ReadDevice, _) => Cause::Configurations { had: self.now.unread },
             (_, Answer::Companion) => {
                 let (place, word) = misfit(list.iter().copied().enumerate()).unwrap_or_default();
                 Cause::Companion { place, word: Some(word) }
@@ -132,10 +149,10 @@ impl Learned {
         }
     }
 
-    /// Puts the list back as it was before the last command.
+    /// Puts the list back as it was at the last step.
     pub fn forget(&mut self) {
-        (self.read, self.unread) = self.before;
-        self.words[self.read..].fill(0);
+        self.now = self.before;
+        self.words[self.now.read..].fill(0);
     }
 }
 

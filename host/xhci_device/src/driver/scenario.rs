@@ -7,6 +7,7 @@ use crate::layout::{
     EP_COUNT, EP_ROOM, GIVEN_COUNT, GIVEN_ROOM, HELD_COUNT, HELD_ROOM, LIST_LEN, LIST_ROOM, QUARANTINED_COUNT,
     RING_ROOM,
 };
+use crate::learned::Numbers;
 use crate::{Asked, Attached, Call, Record};
 
 impl Pending<'_> {
@@ -121,17 +122,13 @@ fn arguments(f: &mut Formatter<'_>, pending: &Pending<'_>) -> Result {
 
 fn bring_up(f: &mut Formatter<'_>, attached: &Attached<'_>, pending: &Pending<'_>) -> Result {
     let Attached { slot, n, speed, parent, port, root_port, rings, hubs } = *attached;
-    let learned = &pending.learned;
+    let (Numbers { header, packet, value, .. }, list) = pending.learned.before();
     write!(f, "bringup\nslot {}\nn {}\nspeed {speed}\n", slot.0, n.min(MOST_SLOTS))?;
-    write!(f, "parent {} {}\n", u8::from(parent.is_some()), parent.unwrap_or(0).min(MOST))?;
-    write!(f, "port {port}\nrootport {root_port}\nheader {} {}\n", learned.header.min(MOST), learned.packet)?;
-    writeln!(f, "config {}", learned.value)?;
+    writeln!(f, "parent {} {}", u8::from(parent.is_some()), parent.unwrap_or(0).min(MOST))?;
+    write!(f, "port {port}\nrootport {root_port}\nheader {} {packet}\n", header.min(MOST))?;
+    writeln!(f, "config {value}")?;
     line(f, "rings", rings, |f, ring| write!(f, "{ring}"))?;
-    if pending.told == pending.played {
-        line(f, "list", learned.list().iter().copied(), word)?;
-    } else {
-        line(f, "list", learned.list_before(), word)?;
-    }
+    line(f, "list", list, word)?;
     line(f, "hubs", hubs, |f, hub| write!(f, "{hub:016x}"))
 }
 
