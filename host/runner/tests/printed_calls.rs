@@ -9,7 +9,7 @@ use std::ops::Range;
 
 use library::{Library, words};
 use random::{Device, Rng, World};
-use scenario::{Left, Session, parse};
+use scenario::{Scenario, Session, Step, parse};
 use xhci_device::layout::{
     EP_COUNT, EP_ROOM, GIVEN_COUNT, GIVEN_ROOM, HELD_COUNT, HELD_ROOM, LIST_LEN, LIST_ROOM, QUARANTINED_COUNT,
     RING_ROOM, UP, WORDS,
@@ -29,16 +29,17 @@ struct Printed<'a> {
     own: Range<usize>,
     brings_up: bool,
     before: Record,
+    lent: Vec<u8>,
 }
 
-/// The only call of the printed text, run on a desk.
-fn replayed(pending: &Pending<'_>) -> Left {
+/// The only call of the printed text.
+fn read(pending: &Pending<'_>) -> Step {
     let text = pending.scenario().to_string();
-    let contents = parse(&text).unwrap_or_else(|malformed| panic!("{malformed:?}\n{text}"));
+    let mut contents = parse(&text).unwrap_or_else(|malformed| panic!("{malformed:?}\n{text}"));
     assert_eq!((contents.scenarios.len(), contents.dispatched.len(), contents.cases.len()), (1, 0, 0));
-    let scenario = &contents.scenarios[0];
-    assert_eq!((scenario.name.as_str(), scenario.steps.len()), ("pending", 1));
-    Session::new().run(&mut Library, &scenario.steps[0]).expect("an answer")
+    let Scenario { name, mut steps } = contents.scenarios.remove(0);
+    assert_eq!((name.as_str(), steps.len()), ("pending", 1));
+    steps.remove(0)
 }
 
 /// Whether the counts of a record fit its arrays: one whose counts do not is printed as unusable.
@@ -60,14 +61,16 @@ impl<'a> Printed<'a> {
             _ => (record.slot(), false),
         };
         let first = 32 * usize::from(slot.0);
-        let before = record.clone();
-        Printed { pending: Pending::new(record, ctx, call), own: first..first + 32, brings_up, before }
+        let (before, lent) = (record.clone(), ctx.to_vec());
+        Printed { pending: Pending::new(record, ctx, call), own: first..first + 32, brings_up, before, lent }
     }
 
     /// The call has answered so, with these routes.
     fn check(&self, answer: Answer, routes: &[u64]) {
-        let Printed { pending, own, brings_up, before } = self;
-        let left = replayed(pending);
+        let Printed { pending, own, brings_up, before, lent } = self;
+        let step = read(pending);
+        assert!(step.ctx == *lent && (*brings_up || !fits(before) || step.record == Some(words::record(before))));
+        let left = Session::new().run(&mut Library, &step).expect("an answer");
         let count = pending.log().len();
         let told = scenario::Answer { number: answer.number(), code: answer.code(), count };
         assert_eq!(left.answer, told, "{pending:?}\n{}", pending.scenario());

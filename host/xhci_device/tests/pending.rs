@@ -133,10 +133,7 @@ fn an_outcome_that_is_not_told_is_asked_for() {
 fn a_loop_that_tells_nothing_ends() {
     let mut slot = Slot::up();
     let (mut pending, routes) = slot.pending(Call::SetConfiguration { value: 1 });
-    let mut sent = 0;
-    while let Next::Send(_) = pending.next(routes) {
-        sent += 1;
-    }
+    let sent = (0..100).take_while(|_| matches!(pending.next(routes), Next::Send(_))).count();
     assert_eq!(sent, 1);
     assert!(!slot.record.is_usable() && slot.record.is_up());
     assert_eq!(slot.run(Call::Disconnect, &mut Device::default()), Answer::Accepted);
