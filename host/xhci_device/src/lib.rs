@@ -6,6 +6,7 @@ use core::fmt;
 
 mod answer;
 mod asked;
+mod asynchronous;
 mod block;
 mod bus;
 mod call;
@@ -18,6 +19,7 @@ mod driven;
 mod driver;
 mod error;
 mod hub;
+mod job;
 pub mod layout;
 mod learned;
 mod library;
@@ -30,6 +32,7 @@ mod unreadable;
 
 pub use answer::{Answer, Answered};
 pub use asked::Asked;
+pub use asynchronous::{AsyncBus, Routes};
 pub use block::{BlockRefusal, Context, endpoint_block};
 pub use bus::{Bus, Due, Outcome, Read, UNREADABLE};
 pub use call::{BringUp, Memory};
@@ -40,6 +43,7 @@ pub use dispatcher::{Dispatcher, MOST_SLOTS, Order, Ran, SubmitRefusal, Waiting}
 pub use driven::{Attached, Call};
 pub use driver::{Next, Pending};
 pub use hub::Hub;
+pub use job::Job;
 pub use raw::{READ_WORDS, RawRefusal, WRITE_BYTES, read_descriptors, write_descriptors};
 pub use reason::Reason;
 pub use record::{Configuration, Endpoint, Record, Setting};
