@@ -1,6 +1,6 @@
 //! Links the archives. The folder XHCI_DEVICE_LIB_DIR has ready ones, which must have been made from the sources that are
-//! here; XHCI_DEVICE_LIB_UNCHECKED takes those of unknown origin. Otherwise host/archives proves and builds each, unless the
-//! last one was made from these sources.
+//! here; XHCI_DEVICE_LIB_UNCHECKED takes those of unknown origin. Without it, or where it names the repository's own folder,
+//! host/archives proves and builds each, unless the last one was made from these sources.
 
 #[path = "build/prove.rs"]
 mod prove;
@@ -13,12 +13,16 @@ use std::env;
 use std::path::{Path, PathBuf};
 use std::process::exit;
 
-use sources::{ARCHIVES, archive, crates, digest, fault, kit, kit_file, origin, parts, write_origin};
+use sources::{ARCHIVES, OWN, archive, crates, digest, fault, is_own, kit, kit_file, origin, parts};
 
 /// Cargo prints what is wrong.
 fn fail(message: &str) -> ! {
     eprintln!("{message}");
     exit(1)
+}
+
+fn is_unchecked() -> bool {
+    env::var_os("XHCI_DEVICE_LIB_UNCHECKED").is_some()
 }
 
 /// The repository that the package stands in, if it does.
@@ -28,14 +32,18 @@ fn repository() -> Option<PathBuf> {
     root.join("crates.txt").is_file().then_some(root)
 }
 
-fn ready(folder: PathBuf, root: Option<&Path>) -> PathBuf {
+/// The archives of a folder that are not taken, each with why.
+fn faults(folder: &Path, root: Option<&Path>) -> Vec<(&'static str, String)> {
     let kit = kit().filter(|_| root.is_some());
-    let fault = |name: &&str| {
+    let fault = |name| {
         let digest = root.map(|root| digest(root, name).expect("the sources"));
-        fault(&folder, name, digest.as_deref(), kit.as_deref())
+        Some((name, fault(folder, name, digest.as_deref(), kit.as_deref())?))
     };
-    let unchecked = env::var_os("XHCI_DEVICE_LIB_UNCHECKED").is_some();
-    if let Some(fault) = ARCHIVES.iter().find_map(fault).filter(|_| !unchecked) {
+    ARCHIVES.into_iter().filter_map(fault).collect()
+}
+
+fn ready(folder: PathBuf, root: Option<&Path>) -> PathBuf {
+    if let Some((_, fault)) = faults(&folder, root).first().filter(|_| !is_unchecked()) {
         fail(&format!(
             "what XHCI_DEVICE_LIB_DIR names, {}, is not taken: {fault}\n\
              (without the variable the archives are proved and built here; XHCI_DEVICE_LIB_UNCHECKED=1 takes any)",
@@ -50,16 +58,13 @@ fn built(root: &Path) -> PathBuf {
     if machine != "x86_64" {
         fail(&format!("rt builds for x86_64: XHCI_DEVICE_LIB_DIR must name a folder with archives for {machine}"));
     }
-    let folder = root.join("target/staticlib");
-    let kit = kit();
-    let digests = ARCHIVES.map(|name| (name, digest(root, name).expect("the sources")));
-    let is_old = |known: &&(&str, String)| fault(&folder, known.0, Some(&known.1), kit.as_deref()).is_some();
-    let old: Vec<_> = digests.iter().filter(is_old).collect();
+    let folder = root.join(OWN);
+    let old: Vec<_> = faults(&folder, Some(root)).into_iter().map(|fault| fault.0).collect();
     if !old.is_empty() {
-        prove::build(root, &old.iter().map(|known| known.0).collect::<Vec<_>>());
+        prove::build(root, &old);
     }
-    for (name, digest) in old {
-        write_origin(&folder, name, digest).expect("a file beside the archive");
+    if let Some((_, fault)) = faults(&folder, Some(root)).first() {
+        fail(&format!("what host/archives has made is not taken: {fault}"));
     }
     folder
 }
@@ -70,14 +75,15 @@ fn sources(root: &Path) -> Vec<PathBuf> {
     crates
         .iter()
         .flat_map(|(name, _)| parts(root, name))
-        .chain(["crates.txt", "host/archives"].map(|file| root.join(file)))
+        .chain(["crates.txt", "host/archives", "host/origin"].map(|file| root.join(file)))
         .collect()
 }
 
 fn main() {
     let root = repository();
-    let folder = match (env::var_os("XHCI_DEVICE_LIB_DIR"), &root) {
-        (Some(folder), _) => ready(folder.into(), root.as_deref()),
+    let folder = match (env::var_os("XHCI_DEVICE_LIB_DIR").map(PathBuf::from), &root) {
+        (Some(folder), Some(root)) if is_own(&folder, root) && !is_unchecked() => built(root),
+        (Some(folder), _) => ready(folder, root.as_deref()),
         (None, Some(root)) => built(root),
         (None, None) => fail("there are no sources here: XHCI_DEVICE_LIB_DIR must name a folder with the archives"),
     };

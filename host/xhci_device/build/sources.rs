@@ -10,6 +10,15 @@ use crate::sha256::sha256;
 /// The archives: the calls on a slot, and the functions outside a slot.
 pub const ARCHIVES: [&str; 2] = ["xhci_device", "xhci_functions"];
 
+/// Where host/archives leaves them in the repository.
+pub const OWN: &str = "target/staticlib";
+
+/// Whether a folder is that one.
+pub fn is_own(folder: &Path, root: &Path) -> bool {
+    let top = folder.ancestors().nth(2).and_then(|top| top.canonicalize().ok());
+    folder.ends_with(OWN) && top.is_some_and(|top| top == root)
+}
+
 /// The crate of the repository that is built as an archive: it exports the calls of the library of the archive's name.
 pub fn exporting(name: &str) -> String {
     format!("{name}_c")
@@ -19,7 +28,7 @@ pub fn archive(folder: &Path, name: &str) -> PathBuf {
     folder.join(format!("lib{name}.a"))
 }
 
-/// Stands beside an archive: the kit that made it, and the digests of its sources and of the archive itself.
+/// Stands beside an archive, from host/archives: the kit that made it, and the digests of its sources and of the archive itself.
 pub fn origin(folder: &Path, name: &str) -> PathBuf {
     folder.join(format!("lib{name}.origin"))
 }
@@ -60,7 +69,7 @@ fn files(folder: &Path, found: &mut Vec<PathBuf>) -> io::Result<()> {
 }
 
 /// The digest of a text with a line for each crate that an archive is made from, and under it one for each file of its
-/// src, specs and proofs.
+/// src, specs and proofs. host/origin has the same.
 pub fn digest(root: &Path, name: &str) -> io::Result<String> {
     let mut text = String::new();
     for (name, uses) in crates(root, &[name])? {
@@ -89,12 +98,6 @@ pub fn kit_file() -> Option<PathBuf> {
 pub fn kit() -> Option<String> {
     let run = Command::new("rt").arg("version").output().ok().filter(|run| run.status.success())?;
     Some(String::from_utf8_lossy(&run.stdout).trim().to_string())
-}
-
-pub fn write_origin(folder: &Path, name: &str, digest: &str) -> io::Result<()> {
-    let archive = sha256(&fs::read(archive(folder, name))?);
-    let kit = kit().unwrap_or_default();
-    fs::write(origin(folder, name), format!("kit {kit}\nsources {digest}\narchive {archive}\n"))
 }
 
 /// Why an archive cannot be taken for one of these sources (of any, where there are none) and of this kit.

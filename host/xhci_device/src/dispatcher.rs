@@ -3,7 +3,7 @@
 use core::fmt;
 
 use crate::library::{self, Marks};
-use crate::{Answer, Bus, Call, Pending, Reason, Record, SlotId};
+use crate::{Answer, AsyncBus, Bus, Call, Pending, Reason, Record, Routes, SlotId};
 
 /// How many slots one dispatcher takes.
 pub const MOST_SLOTS: usize = 32;
@@ -180,6 +180,22 @@ pub struct Ran<'a> {
 pub struct Dispatcher<'a> {
     order: Order,
     waiting: [Option<Waiting<'a>>; MOST_SLOTS],
+    running: Option<Running<'a>>,
+}
+
+/// What the call of a turn that is awaited was lent. It is still here if the turn was dropped.
+#[derive(Debug)]
+struct Running<'a> {
+    slot: SlotId,
+    record: &'a mut Record,
+    ctx: &'a mut [u8],
+}
+
+impl<'a> Running<'a> {
+    fn ended(self, answer: Answer, reason: Option<Reason>) -> Ran<'a> {
+        let Running { slot, record, ctx } = self;
+        Ran { slot, record, ctx, answer, reason }
+    }
 }
 
 impl Default for Dispatcher<'_> {
@@ -191,7 +207,7 @@ impl Default for Dispatcher<'_> {
 impl<'a> Dispatcher<'a> {
     /// Nothing waits, and no slot was taken.
     pub fn new() -> Dispatcher<'a> {
-        Dispatcher { order: Order::new(), waiting: [const { None }; MOST_SLOTS] }
+        Dispatcher { order: Order::new(), waiting: [const { None }; MOST_SLOTS], running: None }
     }
 
     /// Lets a call wait for its turn. Refused, it is given back, and nothing is changed.
@@ -214,6 +230,9 @@ impl<'a> Dispatcher<'a> {
 
     /// Runs the call whose turn it is, over the routes of all slots. None where none waits.
     pub fn turn<B: Bus + ?Sized>(&mut self, routes: &mut [u64], bus: &mut B) -> Option<Ran<'a>> {
+        if let Some(cut) = self.take_cut() {
+            return Some(cut);
+        }
         let waiting = self.next()?;
         let slot = waiting.slot();
         let mut pending = waiting.pending();
@@ -221,5 +240,102 @@ impl<'a> Dispatcher<'a> {
         let reason = pending.why();
         let (record, ctx) = pending.into_parts();
         Some(Ran { slot, record, ctx, answer, reason })
+    }
+
+    /// Runs the call whose turn it is over an [`AsyncBus`] ([`Pending::run_async`]).
+    ///
+    /// To drop the future before its end is to cut the call. The next turn gives it back, with answer 15, and starts none;
+    /// the one after that goes on with the slot that is next.
+    ///
+    /// ```
+    /// use std::cell::RefCell;
+    /// use std::pin::pin;
+    /// use std::task::{Context, Poll, Waker};
+    /// use xhci_device::{Answer, AsyncBus, Call, Dispatcher, Job, Outcome, Read, SlotId, Waiting};
+    ///
+    /// /// A controller that has no end for slot 1.
+    /// struct Hangs;
+    ///
+    /// impl AsyncBus for Hangs {
+    ///     async fn send(&mut self, job: Job, _: &[u8]) -> Outcome<'_> {
+    ///         if job.slot == SlotId(1) {
+    ///             std::future::pending::<()>().await;
+    ///         }
+    ///         Ok(Read::Nothing)
+    ///     }
+    /// }
+    ///
+    /// # let (mut contexts, mut routes, mut log) = ([[0; 1056]; 2], [0; 96], [0; 64]);
+    /// # let mut up = |slot: u8, rings: &[u64], ctx: &mut [u8]| {
+    /// #     let memory = xhci_device::Memory { ctx, routes: &mut routes, log: &mut log, outcomes: &[0; 64] };
+    /// #     let args = xhci_device::BringUp { slot: SlotId(slot), n: 2, speed: 3, parent: None, port: 1, root_port: slot, rings,
+    /// #         header: 8, packet: 64, value: 0, hubs: &[], list: &[0x0040_0000, 0x4000_0000, 0xA384_0410] };
+    /// #     xhci_device::Record::bring_up(memory, &args).0
+    /// # };
+    /// # let [one, two] = &mut contexts;
+    /// # let mut records = [up(1, &[0x1000, 0x2000], one), up(2, &[0x3000, 0x4000], two)];
+    /// let routes = RefCell::new(routes);
+    /// let mut dispatcher = Dispatcher::new();
+    /// for (record, ctx) in records.iter_mut().zip(&mut contexts) {
+    ///     dispatcher.submit(Waiting { record, ctx, call: Call::Claim { interface: 0, alternate: 0 } }).unwrap();
+    /// }
+    /// let mut context = Context::from_waker(Waker::noop());
+    /// let mut turn = || match pin!(dispatcher.turn_async(&routes, &mut Hangs)).poll(&mut context) {
+    ///     Poll::Ready(ran) => ran.map(|ran| (ran.slot.0, ran.answer)),
+    ///     Poll::Pending => Some((0, Answer::Cut)), // dropped here
+    /// };
+    /// assert_eq!(turn(), Some((0, Answer::Cut)));
+    /// assert_eq!(turn(), Some((1, Answer::Cut)));
+    /// assert_eq!(turn(), Some((2, Answer::Accepted)));
+    /// assert_eq!(turn(), None);
+    /// ```
+    pub async fn turn_async<R: Routes + ?Sized, B: AsyncBus>(&mut self, routes: &R, bus: &mut B) -> Option<Ran<'a>> {
+        if let Some(cut) = self.take_cut() {
+            return Some(cut);
+        }
+        let waiting = self.next()?;
+        let slot = waiting.slot();
+        let Waiting { record, ctx, call } = waiting;
+        let lent = self.running.insert(Running { slot, record, ctx });
+        let mut pending = Pending::new(lent.record, lent.ctx, call);
+        let answer = pending.run_async(routes, bus).await;
+        let reason = pending.why();
+        self.running.take().map(|lent| lent.ended(answer, reason))
+    }
+
+    /// The call of a [`turn_async`](Dispatcher::turn_async) that was dropped before its end, which cut it; where it is not taken, the
+    /// next turn gives it back.
+    ///
+    /// ```
+    /// # use std::pin::pin;
+    /// # use std::task::{Context, Waker};
+    /// use xhci_device::{Answer, Call, Dispatcher, SlotId, Waiting};
+    ///
+    /// # use xhci_device::{AsyncBus, Job, Outcome};
+    /// # struct Hangs;
+    /// # impl AsyncBus for Hangs {
+    /// #     async fn send(&mut self, _: Job, _: &[u8]) -> Outcome<'_> { std::future::pending().await }
+    /// # }
+    /// # let (mut ctx, mut routes, mut log) = ([0; 1056], [0; 64], [0; 64]);
+    /// # let memory = xhci_device::Memory { ctx: &mut ctx, routes: &mut routes, log: &mut log, outcomes: &[0; 64] };
+    /// # let args = xhci_device::BringUp { slot: SlotId(1), n: 1, speed: 3, parent: None, port: 1,
+    /// #     root_port: 1, rings: &[0x1000], header: 8, packet: 64, value: 0, hubs: &[], list: &[0x0040_0000, 0x4000_0000] };
+    /// # let (mut record, ..) = xhci_device::Record::bring_up(memory, &args);
+    /// # let routes = std::cell::RefCell::new(routes);
+    /// # let mut context = Context::from_waker(Waker::noop());
+    /// let mut dispatcher = Dispatcher::new();
+    /// let call = Call::SetConfiguration { value: 1 };
+    /// dispatcher.submit(Waiting { record: &mut record, ctx: &mut ctx, call }).unwrap();
+    /// {
+    ///     let turn = pin!(dispatcher.turn_async(&routes, &mut Hangs));
+    ///     assert!(turn.poll(&mut context).is_pending());
+    /// }
+    /// let cut = dispatcher.take_cut().unwrap();
+    /// assert_eq!((cut.slot, cut.answer), (SlotId(1), Answer::Cut));
+    /// let unplug = Waiting { record: cut.record, ctx: cut.ctx, call: Call::Disconnect };
+    /// assert!(dispatcher.submit(unplug).is_ok());
+    /// ```
+    pub fn take_cut(&mut self) -> Option<Ran<'a>> {
+        self.running.take().map(|lent| lent.ended(Answer::Cut, None))
     }
 }

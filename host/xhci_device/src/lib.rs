@@ -4,6 +4,7 @@
 
 mod answer;
 mod asked;
+mod asynchronous;
 mod block;
 mod bus;
 mod call;
@@ -12,6 +13,7 @@ mod command;
 mod dispatcher;
 mod driver;
 mod hub;
+mod job;
 pub mod layout;
 mod learned;
 mod library;
@@ -22,6 +24,7 @@ mod settings;
 
 pub use answer::Answer;
 pub use asked::Asked;
+pub use asynchronous::{AsyncBus, Routes};
 pub use block::{BlockRefusal, Context, endpoint_block};
 pub use bus::{Bus, Due, Outcome, Read, UNREADABLE};
 pub use call::{BringUp, Memory};
@@ -30,6 +33,7 @@ pub use command::Command;
 pub use dispatcher::{Dispatcher, MOST_SLOTS, Order, Ran, SubmitRefusal, Waiting};
 pub use driver::{Attached, Call, Next, Pending};
 pub use hub::Hub;
+pub use job::Job;
 pub use raw::{READ_WORDS, RawRefusal, WRITE_BYTES, read_descriptors, write_descriptors};
 pub use reason::Reason;
 pub use record::{Configuration, Endpoint, Record, Setting};

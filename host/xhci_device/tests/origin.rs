@@ -11,7 +11,7 @@ use std::ops::Deref;
 use std::path::{Path, PathBuf};
 
 use sha256::sha256;
-use sources::{crates, digest, fault, write_origin};
+use sources::{OWN, crates, digest, fault, is_own};
 
 const NAME: &str = "xhci_device";
 
@@ -69,6 +69,15 @@ fn put(root: &Path, path: &str, text: &str) {
 }
 
 #[test]
+fn the_repository_has_one_folder_of_its_own() {
+    let root = repository("own");
+    let top = root.canonicalize().expect("the folder");
+    let at = |path: &str| is_own(&root.join(path), &top);
+    assert!(at(OWN) && at("crates/../target/staticlib") && at("target/staticlib/"));
+    assert!(!at("target") && !at("crates/target/staticlib") && !is_own(Path::new(OWN), &top));
+}
+
+#[test]
 fn the_digest_is_of_what_the_archive_is_made_from() {
     let root = repository("digest");
     let names: Vec<String> = crates(&root, &[NAME]).expect("crates.txt").into_iter().map(|known| known.0).collect();
@@ -99,11 +108,13 @@ fn an_archive_of_another_origin_is_not_taken() {
     let folder = root.join("target/staticlib");
     let here = digest(&root, NAME).expect("a digest");
     assert!(fault(&folder, NAME, Some(&here), None).expect("no origin").starts_with("libxhci_device.origin, which"));
-    write_origin(&folder, NAME, &here).expect("a file");
+    let archive = sha256(b"archive");
+    put(&folder, "libxhci_device.origin", &format!("kit kit 1\nsources {here}\narchive {archive}\n"));
     assert_eq!(fault(&folder, NAME, Some(&here), None), None);
     assert_eq!(fault(&folder, NAME, None, None), None);
     let other = fault(&folder, NAME, Some("0"), None).expect("other sources");
     assert!(other.starts_with("libxhci_device.a was made from other sources: ") && other.contains(&here));
+    assert_eq!(fault(&folder, NAME, Some(&here), Some("kit 1")), None);
     assert!(fault(&folder, NAME, Some(&here), Some("kit 0")).expect("another kit").contains("by another kit"));
     put(&folder, "libxhci_device.a", "another");
     assert_eq!(
