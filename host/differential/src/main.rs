@@ -11,6 +11,7 @@ mod exhaustive;
 mod faults;
 mod fields;
 mod groups;
+mod narrow;
 mod outside;
 mod random;
 mod raw;
@@ -31,6 +32,7 @@ use std::time::Instant;
 use compare::Pair;
 use outside::Question;
 use runner::program::{asked, fail, print};
+use scenario::Layer;
 use store::Store;
 use tally::Tally;
 
@@ -39,7 +41,7 @@ usage: differential [--reference LAYER] [--subject LAYER] [--seed N] [--calls N]
                     [--part PART] [--sample] [--store FOLDER]
 
 Holds two layers against each other, call by call, and their functions outside a slot; layers are library, model and
-original.
+original, and crab_usb, crab-usb's device over the library, as a subject.
 
   --reference LAYER   what is right (original)
   --subject LAYER     what is judged (library)
@@ -141,12 +143,20 @@ fn main() -> ExitCode {
     }
 }
 
+/// crab-usb's device over the library, where crab-usb is.
+const CRAB_USB: &str = "crab_usb";
+
+fn subject(name: &str) -> Option<Box<dyn Layer>> {
+    if name == CRAB_USB { crab_usb::layer() } else { runner::layer(name) }
+}
+
 /// The calls on a slot. False: a difference.
 fn calls(options: &Options) -> Result<bool, String> {
-    let (Some(reference), Some(subject)) = (runner::layer(&options.reference), runner::layer(&options.subject)) else {
+    let (Some(reference), Some(subject)) = (runner::layer(&options.reference), subject(&options.subject)) else {
         return Err(format!("one of '{}' and '{}' is not here", options.reference, options.subject));
     };
-    let mut pair = Pair { reference, subject, listed: options.reference == "original" };
+    let (listed, narrow) = (options.reference == "original", options.subject == CRAB_USB);
+    let mut pair = Pair { reference, subject, listed, narrow };
     let mut tally = Tally::default();
     tally.store = options.store.is_some().then(Store::default);
     let start = Instant::now();
@@ -191,7 +201,7 @@ const LISTED: u64 = 50_000;
 /// Lists of calls through the subject, and the rings that a controller may hold. False: one of them is free.
 fn doubt(options: &Options) -> Result<bool, String> {
     let name = &options.subject;
-    let mut subject = runner::layer(name).ok_or_else(|| format!("'{name}' is not here"))?;
+    let mut subject = subject(name).ok_or_else(|| format!("'{name}' is not here"))?;
     let (text, good) = doubt::run(name, &mut *subject, options.seed, (options.calls / 4).max(LISTED));
     print(&text);
     Ok(good)
@@ -258,12 +268,12 @@ mod tests {
     use super::*;
 
     /// A short run.
-    fn library_against(name: &str) {
-        let Some(reference) = runner::layer(name) else {
+    fn short(reference: &str, subject: &str) {
+        let (listed, narrow) = (reference == "original", subject == CRAB_USB);
+        let (Some(reference), Some(subject)) = (runner::layer(reference), super::subject(subject)) else {
             return;
         };
-        let subject = runner::layer("library").expect("the library");
-        let mut pair = Pair { reference, subject, listed: name == "original" };
+        let mut pair = Pair { reference, subject, listed, narrow };
         let mut tally = Tally::default();
         for (name, part) in exhaustive::PARTS {
             if ["refusals", "records", "packets"].contains(&name) {
@@ -276,12 +286,18 @@ mod tests {
 
     #[test]
     fn the_library_is_the_model() {
-        library_against("model");
+        short("model", "library");
     }
 
     #[test]
     fn no_difference_from_the_original_is_unlisted() {
-        library_against("original");
+        short("original", "library");
+    }
+
+    #[test]
+    fn the_device_of_crab_usb_does_what_the_library_says() {
+        short("library", CRAB_USB);
+        short("original", CRAB_USB);
     }
 
     /// What crates/replay_bring_up and its like replay is what docs/DIFFERENCES.md's command makes.
@@ -291,7 +307,7 @@ mod tests {
             return;
         };
         let subject = runner::layer("library").expect("the library");
-        let mut pair = Pair { reference, subject, listed: true };
+        let mut pair = Pair { reference, subject, listed: true, narrow: false };
         let mut tally = Tally::default();
         tally.store = Some(Store::default());
         store::calls(&mut pair, &mut tally);
