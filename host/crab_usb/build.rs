@@ -11,8 +11,16 @@ use tree::{Places, include, lay_out, manifest, read, write};
 const XHCI: &str = "backend/kmod/xhci";
 
 /// In the place of crab-usb's. (Each is copied: device.rs has modules.)
-const REPLACED: [&str; 6] =
-    ["device.rs", "device/answer.rs", "device/attach.rs", "device/pool.rs", "device/wire.rs", "transfer.rs"];
+const REPLACED: [&str; 8] = [
+    "device.rs",
+    "device/answer.rs",
+    "device/attach.rs",
+    "device/handles.rs",
+    "device/pool.rs",
+    "device/request.rs",
+    "device/wire.rs",
+    "transfer.rs",
+];
 
 /// With something behind their last line.
 const ADDED: [&str; 3] = ["context.rs", "endpoint.rs", "ring.rs"];

@@ -74,7 +74,7 @@ impl Device {
             return record;
         }
         let owner = |address: u8| record.endpoints.iter().find(|e| e.address == address).map(|e| e.owner);
-        let endpoint = |(address, published): (&u8, &wire::Published)| {
+        let endpoint = |(address, published): (&u8, &handles::Published)| {
             let owner = owner(*address).expect("an endpoint of the record");
             Endpoint { address: *address, ring: published.ring, owner, active: published.handle.is_active() }
         };

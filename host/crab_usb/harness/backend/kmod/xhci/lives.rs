@@ -1,9 +1,12 @@
 // Lives of devices, through the functions that crab-usb's code above calls.
+use dma_api::DmaDirection;
 use usb_if::endpoint::{RequestId, TransferBuffer, TransferRequest};
 use usb_if::transfer::Direction;
-use xhci::ring::trb::event::{CompletionCode, TransferEvent};
+use xhci::ring::trb::command::{Allowed, DisableSlot};
+use xhci::ring::trb::event::{CommandCompletion, CompletionCode, TransferEvent};
 use xhci_device::{Answer, Command};
 
+use super::super::super::ring::SendRing;
 use super::*;
 use crate::device::{Device as Above, InterfaceSession};
 
@@ -230,7 +233,7 @@ fn a_running_endpoint_is_resumed_by_its_doorbell() {
 #[test]
 fn a_halted_control_endpoint_is_reset() {
     let (host, mut device) = brought_up();
-    let setup = wire::set_interface(0, 0);
+    let setup = request::set_interface(0, 0);
     let control = device.ctrl_ep_ref().clone();
     let request = TransferRequest::Control { setup, direction: Direction::Out, buffer: None };
     let id = control.submit(request).unwrap_or_else(|_| panic!());
@@ -254,4 +257,27 @@ fn refusals_are_errors_of_crab_usb() {
     assert!(matches!(poll(device.claim_interface(0, 1)), Poll::Ready(Err(USBError::NoMemory))));
     assert!(matches!(poll(device.release_interface(0)), Poll::Ready(Err(USBError::NotFound))));
     assert_eq!(sent(), [""; 0]);
+}
+
+/// crab-usb boxes what calls these.
+#[test]
+fn futures_go_to_other_threads() {
+    fn is_send(_: impl Send) {}
+    let mut host = controller();
+    is_send(Device::new(&mut host));
+    let mut device = attached(&mut host);
+    let info = address_info(&port()).unwrap_or_else(|_| panic!());
+    is_send(device.init(&mut host, &info));
+}
+
+/// What docs/CRAB-USB.md says of the rest.
+#[test]
+#[should_panic(expected = "take_waiter called multiple times for the same addr")]
+fn a_command_ring_of_crab_usb_goes_round_once() {
+    let ring = SendRing::<CommandCompletion>::new(DmaDirection::Bidirectional, &Kernel::default());
+    let mut ring = ring.unwrap_or_else(|_| panic!("memory"));
+    for _ in 0..=ring.usable_capacity() {
+        let trb = ring.enque_command(Allowed::DisableSlot(DisableSlot::new()));
+        drop(ring.take_finished_future(trb));
+    }
 }

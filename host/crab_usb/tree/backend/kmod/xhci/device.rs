@@ -18,7 +18,9 @@ use crate::{
 
 mod answer;
 mod attach;
+mod handles;
 mod pool;
+mod request;
 mod wire;
 
 use pool::Pool;
