@@ -14,6 +14,7 @@ mod macros;
 #[path = "../../original/src/bus.rs"]
 mod bus;
 #[cfg(crab_usb)]
+#[allow(dead_code)]
 #[path = "../../original/src/words.rs"]
 mod words;
 
