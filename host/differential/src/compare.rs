@@ -11,7 +11,7 @@ use crate::build::rings_wanted;
 use crate::case::Case;
 use crate::fields;
 use crate::groups;
-use crate::narrow;
+use crate::narrow::{self, Sparse};
 use crate::refusal::{self, chain_fault};
 use crate::rows;
 use crate::tally::Tally;
@@ -54,6 +54,8 @@ pub struct Pair {
     pub listed: bool,
     /// Whether the subject cannot be given every input.
     pub narrow: bool,
+    /// None: every call is judged.
+    pub sparse: Option<Sparse>,
 }
 
 fn done(called: Result<Called, Cannot>, buffers: Buffers) -> Result<Done, Cannot> {
@@ -145,6 +147,10 @@ impl Pair {
 
     /// Counts a case and hands back what the subject left.
     pub fn compare(&mut self, tally: &mut Tally, case: &Case) -> Option<Done> {
+        if self.sparse.as_mut().is_some_and(Sparse::passes_over) {
+            let case = &*self.given(case);
+            return self.sparse.as_mut().and_then(|sparse| ask(&mut *sparse.others, case).ok());
+        }
         let (subject, verdict) = self.judge(case);
         let number = subject.as_ref().map_or(0, |done| done.answer.number);
         tally.count(case, number, &verdict);
@@ -583,7 +589,7 @@ mod tests {
     fn a_wrong_reason_is_found() {
         for wrong in Wrong::ALL {
             let reference = runner::layer("model").expect("the model");
-            let mut pair = Pair { reference, subject: Box::new(wrong), listed: false, narrow: false };
+            let mut pair = Pair { reference, subject: Box::new(wrong), listed: false, narrow: false, sparse: None };
             let mut found = |seed: u64| {
                 let mut tally = Tally::default();
                 random::run(&mut pair, &mut tally, seed, 1_000);
@@ -597,7 +603,7 @@ mod tests {
     #[test]
     fn each_reason_is_met() {
         let [reference, subject] = ["model", "library"].map(|name| runner::layer(name).expect("a layer"));
-        let mut pair = Pair { reference, subject, listed: false, narrow: false };
+        let mut pair = Pair { reference, subject, listed: false, narrow: false, sparse: None };
         let mut tally = Tally::default();
         random::run(&mut pair, &mut tally, 1, 10_000);
         assert_eq!(tally.first_difference(&mut pair), None);

@@ -30,6 +30,7 @@ use std::process::ExitCode;
 use std::time::Instant;
 
 use compare::Pair;
+use narrow::Sparse;
 use outside::Question;
 use runner::program::{asked, fail, print};
 use scenario::Layer;
@@ -38,7 +39,7 @@ use tally::Tally;
 
 const HELP: &str = "\
 usage: differential [--reference LAYER] [--subject LAYER] [--seed N] [--calls N] [--cases N]
-                    [--part PART] [--sample] [--store FOLDER]
+                    [--every N] [--part PART] [--sample] [--store FOLDER]
 
 Holds two layers against each other, call by call, and their functions outside a slot; layers are library, model and
 original, and crab_usb, crab-usb's device over the library, as a subject.
@@ -50,6 +51,7 @@ original, and crab_usb, crab-usb's device over the library, as a subject.
                       least
   --cases N           how many random cases of raw descriptors, and of settings (2000000); a twentieth of blocks, and
                       of lists for a dispatcher, a quarter of choices
+  --every N           judge each N-th call on a slot, and have the library make the others (1)
   --part PART         one part instead of all: refusals, records, routes, outcomes, store, asks, intervals,
                       companions, ports, packets, think, slots, random; doubt, of the subject alone; raw, settings, block, choices
                       or turns (which the
@@ -71,6 +73,8 @@ struct Options {
     calls: u64,
     /// Random cases of the parts raw and settings, twenty times those of block and four times those of choices.
     cases: u64,
+    /// Which calls on a slot are judged.
+    every: u64,
     part: Option<String>,
     /// Print a small scenario for each call and answer, or case for each function and answer, instead of the counts.
     sample: bool,
@@ -85,6 +89,7 @@ fn options() -> Result<Options, String> {
         seed: 1,
         calls: 600_000,
         cases: 2_000_000,
+        every: 1,
         part: None,
         sample: false,
         store: None,
@@ -103,6 +108,7 @@ fn options() -> Result<Options, String> {
             "--seed" => options.seed = number(value()?)?,
             "--calls" => options.calls = number(value()?)?,
             "--cases" => options.cases = number(value()?)?,
+            "--every" => options.every = number(value()?)?,
             "--part" => options.part = Some(value()?),
             "--store" => options.store = Some(value()?.into()),
             _ => return Err(format!("there is no option '{key}'")),
@@ -150,13 +156,20 @@ fn subject(name: &str) -> Option<Box<dyn Layer>> {
     if name == CRAB_USB { crab_usb::layer() } else { runner::layer(name) }
 }
 
+/// The library makes the calls that are not judged.
+fn sparse(every: u64) -> Option<Sparse> {
+    let others = runner::layer("library").filter(|_| every > 1)?;
+    Some(Sparse { every, seen: 0, others })
+}
+
 /// The calls on a slot. False: a difference.
 fn calls(options: &Options) -> Result<bool, String> {
     let (Some(reference), Some(subject)) = (runner::layer(&options.reference), subject(&options.subject)) else {
         return Err(format!("one of '{}' and '{}' is not here", options.reference, options.subject));
     };
     let (listed, narrow) = (options.reference == "original", options.subject == CRAB_USB);
-    let mut pair = Pair { reference, subject, listed, narrow };
+    let sparse = sparse(options.every);
+    let mut pair = Pair { reference, subject, listed, narrow, sparse };
     let mut tally = Tally::default();
     tally.store = options.store.is_some().then(Store::default);
     let start = Instant::now();
@@ -186,7 +199,8 @@ fn calls(options: &Options) -> Result<bool, String> {
 
 fn parts(options: &Options, pair: &mut Pair, tally: &mut Tally) {
     for (name, part) in exhaustive::PARTS {
-        if options.part.as_deref().is_none_or(|p| p == name) {
+        let has_none = pair.narrow && name == "asks";
+        if !has_none && options.part.as_deref().is_none_or(|p| p == name) {
             tally.part(name, |tally| part(pair, tally));
         }
     }
@@ -273,7 +287,7 @@ mod tests {
         let (Some(reference), Some(subject)) = (runner::layer(reference), super::subject(subject)) else {
             return;
         };
-        let mut pair = Pair { reference, subject, listed, narrow };
+        let mut pair = Pair { reference, subject, listed, narrow, sparse: None };
         let mut tally = Tally::default();
         for (name, part) in exhaustive::PARTS {
             if ["refusals", "records", "packets"].contains(&name) {
@@ -307,7 +321,7 @@ mod tests {
             return;
         };
         let subject = runner::layer("library").expect("the library");
-        let mut pair = Pair { reference, subject, listed: true, narrow: false };
+        let mut pair = Pair { reference, subject, listed: true, narrow: false, sparse: None };
         let mut tally = Tally::default();
         tally.store = Some(Store::default());
         store::calls(&mut pair, &mut tally);

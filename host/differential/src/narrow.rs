@@ -1,10 +1,26 @@
-//! A subject that cannot be given every input: crab-usb's device, which reads raw descriptors and lends memory of its own.
+//! A subject that cannot be given every input: crab-usb's device, which reads raw descriptors and lends memory of its own. It is
+//! slow, too, so that not every call need be judged.
 
 use std::borrow::Cow;
 
-use scenario::{BringUp, Call};
+use scenario::{BringUp, Call, Layer};
 
 use crate::case::Case;
+
+/// Judges each so many-th call. The others are made by a layer that does the same faster.
+pub struct Sparse {
+    pub every: u64,
+    pub seen: u64,
+    pub others: Box<dyn Layer>,
+}
+
+impl Sparse {
+    /// Whether the next call is one of the others.
+    pub fn passes_over(&mut self) -> bool {
+        self.seen += 1;
+        !self.seen.is_multiple_of(self.every)
+    }
+}
 
 const PACKETS: u32 = 3 << 10;
 const ONE_PACKET: u32 = 1 << 10;
