@@ -13,16 +13,8 @@ use crate::device::{Device as Above, InterfaceSession};
 const SLOT: u8 = 2;
 
 /// Interface 0: 0x81; or 0x81 and 0x02. Interface 1: 0x83.
-const LIST: [u32; 8] = [
-    0x0040_0000,
-    0x4000_0000,
-    0xA384_0410,
-    0x4000_4000,
-    0xA384_0410,
-    0x8520_0400,
-    0x4040_0000,
-    0xA784_0410,
-];
+const LIST: [u32; 8] =
+    [0x0040_0000, 0x4000_0000, 0xA384_0410, 0x4000_4000, 0xA384_0410, 0x8520_0400, 0x4040_0000, 0xA784_0410];
 
 fn port() -> BringUp {
     BringUp { speed: 3, port: 1, root_port: 1, header: 8, packet: 64, list: LIST.to_vec(), ..BringUp::default() }
@@ -122,6 +114,7 @@ fn from_the_port_to_the_unplugging() {
     assert_eq!(sent(), ["Stop Dci 3", "Configure", "SetInterface 0, alternate 1"]);
     assert_eq!(routes(&host), [(1, 0x1000), (3, 0x3000), (4, 0x4000)]);
     assert!(matches!(first.reclaim(waiting), Err(TransferError::Cancelled)));
+    assert!(is_revoked(done(first.reset())) && is_revoked(submit(&first)));
     assert!(!event(&host, 3, 0x2020, CompletionCode::Success), "a late completion of the setting given up");
     assert!(credited(&host, &handle(&session, 0x81), 3, 0x3000));
 
@@ -133,7 +126,13 @@ fn from_the_port_to_the_unplugging() {
     assert!(credited(&host, &handle(&second, 0x83), 7, 0x2000));
 
     outcomes(&[0; 64]);
-    let hub = HubParams { num_ports: 4, multi_tt: false, tt_think_time_ns: 666, parent_hub_slot_id: 0, root_hub_port_number: 0 };
+    let hub = HubParams {
+        num_ports: 4,
+        multi_tt: false,
+        tt_think_time_ns: 666,
+        parent_hub_slot_id: 0,
+        root_hub_port_number: 0,
+    };
     assert!(done(device.update_hub(hub)).is_ok());
     assert!(done(session.release(&mut device)).is_ok());
     assert!(done(device.set_configuration(1)).is_ok());
@@ -182,6 +181,24 @@ fn a_switch_that_is_undone() {
     assert!(credited(&host, &endpoint, 3, 0x2000), "the ring was begun anew");
 }
 
+/// Of two endpoints the second is not stopped, and the first goes on.
+#[test]
+fn what_was_under_way_on_a_stopped_endpoint() {
+    let (host, mut device) = brought_up();
+    let mut session = claim(&mut device, 0);
+    outcomes(&[0; 64]);
+    assert!(done(session.set_alternate(&mut device, 1)).is_ok());
+    let [input, output] = [0x81, 0x02].map(|address| handle(&session, address));
+    let into = submit(&input).unwrap_or_else(|_| panic!());
+    let bulk = TransferRequest::Bulk { direction: Direction::Out, buffer: Some(TransferBuffer { len: 8 }) };
+    let out = output.submit(bulk).unwrap_or_else(|_| panic!());
+    outcomes(&[0, 7, 0]);
+    assert!(done(session.set_alternate(&mut device, 0)).is_err());
+    assert_eq!(sent(), ["Stop Dci 4", "Stop Dci 3", "Resume Dci 4"]);
+    assert!(matches!(output.reclaim(out), Err(TransferError::Cancelled)));
+    assert!(event(&host, 3, 0x3000, CompletionCode::Success) && input.reclaim(into).is_ok_and(|done| done.is_some()));
+}
+
 #[test]
 fn a_handle_that_the_record_calls_revoked() {
     let (_, mut device) = brought_up();
@@ -212,7 +229,8 @@ fn a_bring_up_that_fails() {
     let mut host = controller();
     let mut device = attached(&mut host);
     outcomes(&[0]);
-    let info = DeviceAddressInfo { port_speed: usb_if::Speed::Wireless, ..address_info(&port()).unwrap_or_else(|_| panic!()) };
+    let info =
+        DeviceAddressInfo { port_speed: usb_if::Speed::Wireless, ..address_info(&port()).unwrap_or_else(|_| panic!()) };
     assert!(matches!(done(device.init(&mut host, &info)), Err(USBError::Other(_))));
     assert_eq!((sent(), device.answer()), (vec!["Disable".to_string()], Answer::Speed));
 }

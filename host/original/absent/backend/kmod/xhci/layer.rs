@@ -4,7 +4,8 @@ use std::task::Poll;
 
 use ax_sync::SpinLock;
 use scenario::{
-    Answer, Asked, BringUp, Buffers, Cannot, Claim, Endpoint, GIVEN_ROOM, HubUpdate, Layer, Outcome, Record, Shown, proper,
+    Answer, Asked, BringUp, Buffers, Cannot, Claim, Endpoint, GIVEN_ROOM, HubUpdate, Layer, Outcome, Record, Shown,
+    proper,
 };
 use usb_if::descriptor::{ConfigurationDescriptor, DeviceDescriptor, EndpointType};
 use usb_if::endpoint::EndpointInfo;

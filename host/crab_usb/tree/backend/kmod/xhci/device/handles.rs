@@ -1,11 +1,11 @@
 //! The handles of a device's endpoints, as its record has them.
 
+use usb_if::descriptor::EndpointDescriptor;
 use xhci_device::{Dci, Record};
 
 use super::super::endpoint::Endpoint as XhciEndpoint;
 use super::wire::Wire;
 use crate::backend::ty::ep::EndpointHandle;
-use usb_if::descriptor::EndpointDescriptor;
 
 /// The handle of an endpoint that the record has.
 pub(super) struct Published {
