@@ -1,113 +1,34 @@
 //! Lays out the original's files, with stand-ins at the absent places, as a tree of modules.
-//!
-//! The original's text is never changed: a file that declares modules is copied whole, so that they are
-//! looked for beside the copy; every other file is included from where it stands.
 
-use std::env;
-use std::fs;
-use std::path::{Path, PathBuf};
+#[path = "build/tree.rs"]
+mod tree;
 
-/// The original's modules at the crate's root. Much of them is not used here.
-const MODULES: &str = "
-#[allow(dead_code, unused_imports)]
-mod backend;
-#[allow(dead_code, unused_imports)]
-mod device;
-#[allow(dead_code, unused_imports)]
-mod err;
-";
-
-const DECLARING: [&str; 5] = [
-    "backend/kmod/mod.rs",
-    "backend/kmod/hub/mod.rs",
-    "backend/kmod/xhci/mod.rs",
-    "backend/ty/mod.rs",
-    "backend/ty/ep/mod.rs",
-];
-
-/// The one absent file that declares modules.
-const BACKEND: &str = "backend/mod.rs";
-
-const WHOLE: [&str; 4] = ["device.rs", "err.rs", "backend/kmod/xhci/context.rs", "backend/kmod/xhci/def.rs"];
+use tree::{Places, include, lay_out, manifest, read, write};
 
 /// Files whose private fields the host must see: something of ours follows them in the same module.
 const EXTENDED: [&str; 2] = ["backend/kmod/xhci/device.rs", "backend/kmod/xhci/transfer.rs"];
+
+const CONTEXT: &str = "backend/kmod/xhci/context.rs";
 
 /// Of endpoint.rs only what begins here.
 const ENDPOINT: &str = "backend/kmod/xhci/endpoint.rs";
 const ENDPOINT_TAIL: &str = "pub(crate) trait EndpointDescriptorExt";
 
-const ABSENT: [&str; 17] = [
-    "backend/kmod/dwc.rs",
-    "backend/kmod/dwc2.rs",
-    "backend/kmod/ehci.rs",
-    "backend/kmod/kcore.rs",
-    "backend/kmod/osal.rs",
-    "backend/kmod/queue.rs",
-    "backend/kmod/transfer.rs",
-    "backend/kmod/hub/device.rs",
-    "backend/kmod/xhci/cmd.rs",
-    "backend/kmod/xhci/event.rs",
-    "backend/kmod/xhci/host.rs",
-    "backend/kmod/xhci/hub.rs",
-    "backend/kmod/xhci/reg.rs",
-    "backend/kmod/xhci/ring.rs",
-    "backend/kmod/xhci/sync.rs",
-    "backend/ty/transfer.rs",
-    "backend/ty/ep/ctrl.rs",
-];
-
-fn write(path: &Path, text: &str) {
-    fs::create_dir_all(path.parent().expect("a folder")).expect("the tree's folder");
-    if fs::read_to_string(path).ok().as_deref() != Some(text) {
-        fs::write(path, text).unwrap_or_else(|e| panic!("{}: {e}", path.display()));
-    }
-}
-
-fn read(path: &Path) -> String {
-    println!("cargo:rerun-if-changed={}", path.display());
-    fs::read_to_string(path).unwrap_or_else(|e| panic!("{}: {e}", path.display()))
-}
-
-fn include(path: &Path) -> String {
-    println!("cargo:rerun-if-changed={}", path.display());
-    format!("include!({:?});\n", path.display().to_string())
-}
-
-/// The folder with the original's `src`: CRAB_USB_SRC, or shared/docs/src beside the repository or beside one of the folders above it.
-fn source(manifest: &Path) -> Option<PathBuf> {
-    println!("cargo:rerun-if-env-changed=CRAB_USB_SRC");
-    if let Some(given) = env::var_os("CRAB_USB_SRC") {
-        return Some(PathBuf::from(given).join("src"));
-    }
-    let beside = |folder: &Path| folder.join("shared/docs/src/src");
-    manifest.ancestors().map(beside).find(|folder| folder.is_dir())
-}
+/// Rings and queues are addresses.
+const ADDRESSES: [&str; 2] = ["backend/kmod/queue.rs", "backend/kmod/xhci/ring.rs"];
 
 fn main() {
-    println!("cargo:rustc-check-cfg=cfg(crab_usb, kmod, umod)");
-    let manifest = PathBuf::from(env::var_os("CARGO_MANIFEST_DIR").expect("cargo's variable"));
-    let Some(source) = source(&manifest) else {
-        println!("cargo:warning=no crab-usb source found: the original is left out (CRAB_USB_SRC names its folder)");
+    let manifest = manifest();
+    let absent = manifest.join("absent");
+    let Some(Places { source, tree }) = lay_out(&manifest, &absent, "the original") else {
         return;
     };
-    let source = fs::canonicalize(&source).unwrap_or_else(|e| panic!("CRAB_USB_SRC: {}: {e}", source.display()));
-    let tree = PathBuf::from(env::var_os("OUT_DIR").expect("cargo's variable")).join("tree");
-    let absent = manifest.join("absent");
-
-    write(&tree.join("modules.rs"), MODULES);
-    for file in DECLARING {
-        write(&tree.join(file), &read(&source.join(file)));
-    }
-    write(&tree.join(BACKEND), &read(&absent.join(BACKEND)));
-    for file in WHOLE {
-        write(&tree.join(file), &include(&source.join(file)));
-    }
+    write(&tree.join(CONTEXT), &include(&source.join(CONTEXT)));
     for file in EXTENDED {
         let ours = include(&absent.join(file));
         write(&tree.join(file), &(include(&source.join(file)) + &ours));
     }
-    for file in ABSENT {
+    for file in ADDRESSES {
         write(&tree.join(file), &include(&absent.join(file)));
     }
     let endpoint = read(&source.join(ENDPOINT));
@@ -115,6 +36,4 @@ fn main() {
     let tail_file = tree.join("endpoint_tail.rs");
     write(&tail_file, &endpoint[tail..]);
     write(&tree.join(ENDPOINT), &(include(&absent.join(ENDPOINT)) + &include(&tail_file)));
-    println!("cargo:rustc-cfg=crab_usb");
-    println!("cargo:rustc-cfg=kmod");
 }

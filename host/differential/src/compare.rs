@@ -1,5 +1,7 @@
 //! Two layers on one case, and the listed differences between them.
 
+use std::borrow::Cow;
+
 use scenario::{
     Answer, Asked, BringUp, Buffers, Call, Called, Cannot, Claim, Layer, Left, Made, Reason, Record, left_text,
     scenario_text,
@@ -9,6 +11,7 @@ use crate::build::rings_wanted;
 use crate::case::Case;
 use crate::fields;
 use crate::groups;
+use crate::narrow::{self, Sparse};
 use crate::refusal::{self, chain_fault};
 use crate::rows;
 use crate::tally::Tally;
@@ -49,6 +52,10 @@ pub struct Pair {
     pub subject: Box<dyn Layer>,
     /// Whether docs/DIFFERENCES.md speaks of the reference.
     pub listed: bool,
+    /// Whether the subject cannot be given every input.
+    pub narrow: bool,
+    /// None: every call is judged.
+    pub sparse: Option<Sparse>,
 }
 
 fn done(called: Result<Called, Cannot>, buffers: Buffers) -> Result<Done, Cannot> {
@@ -67,16 +74,26 @@ pub fn ask(layer: &mut dyn Layer, case: &Case) -> Result<Done, Cannot> {
 
 impl Pair {
     pub fn judge(&mut self, case: &Case) -> (Result<Done, Cannot>, Verdict) {
+        let case = &*self.given(case);
         let mut subject = ask(&mut *self.subject, case);
         let verdict = match &mut subject {
+            Err(Cannot::NoSuchInput) if self.narrow => Verdict::Uncompared(narrow::uncompared(case)),
             Err(_) => Verdict::Different("the subject does not answer"),
             Ok(subject) => {
-                // The original has no reasons.
-                subject.reason = if self.listed { None } else { why(&mut *self.subject, case, subject) };
+                subject.reason = if self.gives_reasons() { why(&mut *self.subject, case, subject) } else { None };
                 self.judge_answer(case, subject)
             }
         };
         (subject, verdict)
+    }
+
+    fn given<'a>(&self, case: &'a Case) -> Cow<'a, Case> {
+        if self.narrow { narrow::given(case) } else { Cow::Borrowed(case) }
+    }
+
+    /// Neither the original nor what stands in its place has reasons.
+    fn gives_reasons(&self) -> bool {
+        !self.listed && !self.narrow
     }
 
     fn judge_answer(&mut self, case: &Case, subject: &Done) -> Verdict {
@@ -91,6 +108,7 @@ impl Pair {
             return Verdict::Different("the refusal");
         }
         if let Call::Claim(args) = &case.call
+            && !self.narrow
             && !self.in_two(case, args, subject)
         {
             return Verdict::Different("a claim, and its ask with its commit");
@@ -111,7 +129,7 @@ impl Pair {
 
     /// The reason is the reference's own.
     fn judge_reason(&mut self, case: &Case, reference: &Done, reason: Option<Reason>) -> Verdict {
-        let expected = if self.listed { None } else { why(&mut *self.reference, case, reference) };
+        let expected = if self.gives_reasons() { why(&mut *self.reference, case, reference) } else { None };
         if reason == expected { Verdict::Same } else { Verdict::Different("the reason") }
     }
 
@@ -129,6 +147,10 @@ impl Pair {
 
     /// Counts a case and hands back what the subject left.
     pub fn compare(&mut self, tally: &mut Tally, case: &Case) -> Option<Done> {
+        if self.sparse.as_mut().is_some_and(Sparse::passes_over) {
+            let case = &*self.given(case);
+            return self.sparse.as_mut().and_then(|sparse| ask(&mut *sparse.others, case).ok());
+        }
         let (subject, verdict) = self.judge(case);
         let number = subject.as_ref().map_or(0, |done| done.answer.number);
         tally.count(case, number, &verdict);
@@ -165,9 +187,12 @@ impl Pair {
     }
 
     pub fn report(&mut self, case: &Case) -> String {
+        let case = &*self.given(case);
         let (subject, verdict) = self.judge(case);
         let mut reference = self.ask_reference(case);
-        if let Ok(done) = &mut reference {
+        if let Ok(done) = &mut reference
+            && self.gives_reasons()
+        {
             done.reason = why(&mut *self.reference, case, done);
         }
         let mut text = String::from("DIFFERENT");
@@ -564,7 +589,7 @@ mod tests {
     fn a_wrong_reason_is_found() {
         for wrong in Wrong::ALL {
             let reference = runner::layer("model").expect("the model");
-            let mut pair = Pair { reference, subject: Box::new(wrong), listed: false };
+            let mut pair = Pair { reference, subject: Box::new(wrong), listed: false, narrow: false, sparse: None };
             let mut found = |seed: u64| {
                 let mut tally = Tally::default();
                 random::run(&mut pair, &mut tally, seed, 1_000);
@@ -578,7 +603,7 @@ mod tests {
     #[test]
     fn each_reason_is_met() {
         let [reference, subject] = ["model", "library"].map(|name| runner::layer(name).expect("a layer"));
-        let mut pair = Pair { reference, subject, listed: false };
+        let mut pair = Pair { reference, subject, listed: false, narrow: false, sparse: None };
         let mut tally = Tally::default();
         random::run(&mut pair, &mut tally, 1, 10_000);
         assert_eq!(tally.first_difference(&mut pair), None);

@@ -11,6 +11,7 @@ mod exhaustive;
 mod faults;
 mod fields;
 mod groups;
+mod narrow;
 mod outside;
 mod random;
 mod raw;
@@ -29,17 +30,19 @@ use std::process::ExitCode;
 use std::time::Instant;
 
 use compare::Pair;
+use narrow::Sparse;
 use outside::Question;
 use runner::program::{asked, fail, print};
+use scenario::Layer;
 use store::Store;
 use tally::Tally;
 
 const HELP: &str = "\
 usage: differential [--reference LAYER] [--subject LAYER] [--seed N] [--calls N] [--cases N]
-                    [--part PART] [--sample] [--store FOLDER]
+                    [--every N] [--part PART] [--sample] [--store FOLDER]
 
 Holds two layers against each other, call by call, and their functions outside a slot; layers are library, model and
-original.
+original, and crab_usb, crab-usb's device over the library, as a subject.
 
   --reference LAYER   what is right (original)
   --subject LAYER     what is judged (library)
@@ -48,6 +51,7 @@ original.
                       least
   --cases N           how many random cases of raw descriptors, and of settings (2000000); a twentieth of blocks, and
                       of lists for a dispatcher, a quarter of choices
+  --every N           judge each N-th call on a slot, and have the library make the others (1)
   --part PART         one part instead of all: refusals, records, routes, outcomes, store, asks, intervals,
                       companions, ports, packets, think, slots, random; doubt, of the subject alone; raw, settings, block, choices
                       or turns (which the
@@ -69,6 +73,8 @@ struct Options {
     calls: u64,
     /// Random cases of the parts raw and settings, twenty times those of block and four times those of choices.
     cases: u64,
+    /// Which calls on a slot are judged.
+    every: u64,
     part: Option<String>,
     /// Print a small scenario for each call and answer, or case for each function and answer, instead of the counts.
     sample: bool,
@@ -83,6 +89,7 @@ fn options() -> Result<Options, String> {
         seed: 1,
         calls: 600_000,
         cases: 2_000_000,
+        every: 1,
         part: None,
         sample: false,
         store: None,
@@ -101,6 +108,7 @@ fn options() -> Result<Options, String> {
             "--seed" => options.seed = number(value()?)?,
             "--calls" => options.calls = number(value()?)?,
             "--cases" => options.cases = number(value()?)?,
+            "--every" => options.every = number(value()?)?,
             "--part" => options.part = Some(value()?),
             "--store" => options.store = Some(value()?.into()),
             _ => return Err(format!("there is no option '{key}'")),
@@ -141,12 +149,27 @@ fn main() -> ExitCode {
     }
 }
 
+/// crab-usb's device over the library, where crab-usb is.
+const CRAB_USB: &str = "crab_usb";
+
+fn subject(name: &str) -> Option<Box<dyn Layer>> {
+    if name == CRAB_USB { crab_usb::layer() } else { runner::layer(name) }
+}
+
+/// The library makes the calls that are not judged.
+fn sparse(every: u64) -> Option<Sparse> {
+    let others = runner::layer("library").filter(|_| every > 1)?;
+    Some(Sparse { every, seen: 0, others })
+}
+
 /// The calls on a slot. False: a difference.
 fn calls(options: &Options) -> Result<bool, String> {
-    let (Some(reference), Some(subject)) = (runner::layer(&options.reference), runner::layer(&options.subject)) else {
+    let (Some(reference), Some(subject)) = (runner::layer(&options.reference), subject(&options.subject)) else {
         return Err(format!("one of '{}' and '{}' is not here", options.reference, options.subject));
     };
-    let mut pair = Pair { reference, subject, listed: options.reference == "original" };
+    let (listed, narrow) = (options.reference == "original", options.subject == CRAB_USB);
+    let sparse = sparse(options.every);
+    let mut pair = Pair { reference, subject, listed, narrow, sparse };
     let mut tally = Tally::default();
     tally.store = options.store.is_some().then(Store::default);
     let start = Instant::now();
@@ -176,7 +199,8 @@ fn calls(options: &Options) -> Result<bool, String> {
 
 fn parts(options: &Options, pair: &mut Pair, tally: &mut Tally) {
     for (name, part) in exhaustive::PARTS {
-        if options.part.as_deref().is_none_or(|p| p == name) {
+        let has_none = pair.narrow && name == "asks";
+        if !has_none && options.part.as_deref().is_none_or(|p| p == name) {
             tally.part(name, |tally| part(pair, tally));
         }
     }
@@ -191,7 +215,7 @@ const LISTED: u64 = 50_000;
 /// Lists of calls through the subject, and the rings that a controller may hold. False: one of them is free.
 fn doubt(options: &Options) -> Result<bool, String> {
     let name = &options.subject;
-    let mut subject = runner::layer(name).ok_or_else(|| format!("'{name}' is not here"))?;
+    let mut subject = subject(name).ok_or_else(|| format!("'{name}' is not here"))?;
     let (text, good) = doubt::run(name, &mut *subject, options.seed, (options.calls / 4).max(LISTED));
     print(&text);
     Ok(good)
@@ -258,12 +282,12 @@ mod tests {
     use super::*;
 
     /// A short run.
-    fn library_against(name: &str) {
-        let Some(reference) = runner::layer(name) else {
+    fn short(reference: &str, subject: &str) {
+        let (listed, narrow) = (reference == "original", subject == CRAB_USB);
+        let (Some(reference), Some(subject)) = (runner::layer(reference), super::subject(subject)) else {
             return;
         };
-        let subject = runner::layer("library").expect("the library");
-        let mut pair = Pair { reference, subject, listed: name == "original" };
+        let mut pair = Pair { reference, subject, listed, narrow, sparse: None };
         let mut tally = Tally::default();
         for (name, part) in exhaustive::PARTS {
             if ["refusals", "records", "packets"].contains(&name) {
@@ -276,12 +300,18 @@ mod tests {
 
     #[test]
     fn the_library_is_the_model() {
-        library_against("model");
+        short("model", "library");
     }
 
     #[test]
     fn no_difference_from_the_original_is_unlisted() {
-        library_against("original");
+        short("original", "library");
+    }
+
+    #[test]
+    fn the_device_of_crab_usb_does_what_the_library_says() {
+        short("library", CRAB_USB);
+        short("original", CRAB_USB);
     }
 
     /// What crates/replay_bring_up and its like replay is what docs/DIFFERENCES.md's command makes.
@@ -291,7 +321,7 @@ mod tests {
             return;
         };
         let subject = runner::layer("library").expect("the library");
-        let mut pair = Pair { reference, subject, listed: true };
+        let mut pair = Pair { reference, subject, listed: true, narrow: false, sparse: None };
         let mut tally = Tally::default();
         tally.store = Some(Store::default());
         store::calls(&mut pair, &mut tally);

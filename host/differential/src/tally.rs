@@ -110,7 +110,7 @@ impl Tally {
         for row in rows::ALL {
             let _ = writeln!(text, "  {:>8}  {row}", self.listed.get(row).unwrap_or(&0));
         }
-        text.push_str("without a counterpart in the reference:\n");
+        text.push_str("without a counterpart:\n");
         for (why, count) in &self.uncompared {
             let _ = writeln!(text, "  {count:>8}  {why}");
         }

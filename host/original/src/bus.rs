@@ -18,6 +18,8 @@ pub const READ_CONFIGURATION: u32 = 9;
 pub const READ_DEVICE: u32 = 10;
 pub const READ_CONFIG: u32 = 11;
 pub const DISABLE: u32 = 12;
+/// Of no call: the reset of a halted endpoint.
+pub const RESET: u32 = 13;
 
 /// What a call's commands meet.
 #[derive(Default)]
@@ -27,7 +29,11 @@ pub struct Script {
     pub header: (usize, u8),
     pub configuration_value: u8,
     pub configurations: Vec<ConfigurationDescriptor>,
+    /// Their bytes.
+    pub raw: Vec<Vec<u8>>,
     pub sent: Vec<u32>,
+    /// The targets that the doorbell was rung with.
+    pub rung: Vec<u8>,
     pub rings_taken: usize,
 }
 
@@ -84,4 +90,18 @@ pub fn configuration_count() -> u8 {
 
 pub fn configuration(index: u8) -> ConfigurationDescriptor {
     SCRIPT.with_borrow(|script| script.configurations[usize::from(index)].clone())
+}
+
+/// As many bytes of a configuration as there are, and have room.
+pub fn raw(index: u8, buff: &mut [u8]) -> usize {
+    SCRIPT.with_borrow(|script| {
+        let bytes = script.raw.get(usize::from(index)).map_or(&[][..], Vec::as_slice);
+        let read = bytes.len().min(buff.len());
+        buff[..read].copy_from_slice(&bytes[..read]);
+        read
+    })
+}
+
+pub fn ring(target: u8) {
+    SCRIPT.with_borrow_mut(|script| script.rung.push(target));
 }

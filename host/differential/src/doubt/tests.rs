@@ -106,7 +106,8 @@ fn a_wrong_quarantine_is_found() {
 #[test]
 fn the_groups_of_single_calls_find_it_too() {
     let differs = |wrong: Wrong, seed: u64| {
-        let mut pair = Pair { reference: Box::new(wrong), subject: Box::new(wrong), listed: false };
+        let mut pair =
+            Pair { reference: Box::new(wrong), subject: Box::new(wrong), listed: false, narrow: false, sparse: None };
         let mut tally = crate::tally::Tally::default();
         crate::random::run(&mut pair, &mut tally, seed, 4_000);
         !tally.text(Duration::ZERO).contains(" 0 different\n")

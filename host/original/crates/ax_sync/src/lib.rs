@@ -1,5 +1,4 @@
 //! The original's spin lock as a lock of the standard library.
-#![forbid(unsafe_code)]
 
 use std::sync::{Mutex, MutexGuard, PoisonError};
 
@@ -12,5 +11,13 @@ impl<T> SpinLock<T> {
 
     pub fn lock(&self) -> MutexGuard<'_, T> {
         self.0.lock().unwrap_or_else(PoisonError::into_inner)
+    }
+
+    /// The original's signature: there interrupts go on.
+    ///
+    /// # Safety
+    /// Here it is `lock`, and always safe.
+    pub unsafe fn lock_raw(&self) -> MutexGuard<'_, T> {
+        self.lock()
     }
 }

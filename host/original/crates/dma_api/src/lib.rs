@@ -1,8 +1,25 @@
 //! Memory that the original shares with a controller, as plain memory. No address is ever followed.
-#![forbid(unsafe_code)]
 
+use std::cell::{Cell, RefCell};
+use std::collections::VecDeque;
 use std::fmt;
+use std::mem::MaybeUninit;
 use std::ops::Range;
+
+thread_local! {
+    static PAGE: Cell<usize> = const { Cell::new(4096) };
+    static ADDRESSES: RefCell<VecDeque<u64>> = const { RefCell::new(VecDeque::new()) };
+}
+
+/// The size of a page, from here on.
+pub fn set_page_size(bytes: usize) {
+    PAGE.set(bytes);
+}
+
+/// Where the next coherent arrays stand, one after the other. Without an address left they stand at 0.
+pub fn place(addresses: impl IntoIterator<Item = u64>) {
+    ADDRESSES.set(addresses.into_iter().collect());
+}
 
 #[derive(Debug)]
 pub enum DmaError {
@@ -49,23 +66,30 @@ impl<T: Copy> CoherentBox<T> {
     }
 }
 
-pub struct CoherentArray<T>(Vec<T>);
+pub struct CoherentArray<T> {
+    items: Vec<T>,
+    address: u64,
+}
 
 impl<T: Copy> CoherentArray<T> {
     pub fn set_cpu(&mut self, index: usize, value: T) {
-        self.0[index] = value;
+        self.items[index] = value;
+    }
+
+    pub fn read_cpu(&self, index: usize) -> Option<T> {
+        self.items.get(index).copied()
     }
 
     pub fn len(&self) -> usize {
-        self.0.len()
+        self.items.len()
     }
 
     pub fn is_empty(&self) -> bool {
-        self.0.is_empty()
+        self.items.is_empty()
     }
 
     pub fn dma_addr(&self) -> DmaAddr {
-        DmaAddr(0)
+        DmaAddr(self.address)
     }
 }
 
@@ -83,24 +107,46 @@ impl<T> ContiguousArray<T> {
     }
 }
 
+#[derive(Clone, Copy, Debug)]
+pub struct DmaConstraints {
+    pub addr_mask: u64,
+}
+
+#[derive(Clone, Copy, Debug)]
+pub struct DmaInfo;
+
+impl DmaInfo {
+    pub fn constraints(&self) -> DmaConstraints {
+        DmaConstraints { addr_mask: u64::MAX }
+    }
+}
+
 #[derive(Clone, Copy, Debug, Default)]
 pub struct DeviceDma;
 
 impl DeviceDma {
     pub fn page_size(&self) -> usize {
-        4096
+        PAGE.get()
+    }
+
+    pub fn info(&self) -> DmaInfo {
+        DmaInfo
     }
 
     pub fn coherent_box_zero_with_align<T: Default>(&self, _align: usize) -> Result<CoherentBox<T>, DmaError> {
         Ok(CoherentBox(Box::default()))
     }
 
-    pub fn coherent_array_zero_with_align<T: Default + Clone>(
+    /// `T` is made of numbers alone, as everything that a controller shares is.
+    pub fn coherent_array_zero_with_align<T: Copy>(
         &self,
         len: usize,
         _align: usize,
     ) -> Result<CoherentArray<T>, DmaError> {
-        Ok(CoherentArray(vec![T::default(); len]))
+        // SAFETY: numbers may be 0.
+        let zero: T = unsafe { MaybeUninit::zeroed().assume_init() };
+        let address = ADDRESSES.with_borrow_mut(VecDeque::pop_front).unwrap_or(0);
+        Ok(CoherentArray { items: vec![zero; len], address })
     }
 
     pub fn contiguous_array_zero_with_align<T: Default + Clone>(

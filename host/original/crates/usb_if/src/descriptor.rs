@@ -8,6 +8,7 @@ pub struct DescriptorType(pub u8);
 
 impl DescriptorType {
     pub const DEVICE: Self = Self(1);
+    pub const CONFIGURATION: Self = Self(2);
     pub const STRING: Self = Self(3);
 }
 

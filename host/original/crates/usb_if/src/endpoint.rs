@@ -1,4 +1,6 @@
 use crate::descriptor::{EndpointDescriptor, EndpointType};
+use crate::host::ControlSetup;
+use crate::transfer::Direction;
 
 #[derive(Clone, Copy, Debug, PartialEq, Eq)]
 pub struct EndpointAddress(u8);
@@ -31,20 +33,38 @@ impl From<&EndpointDescriptor> for EndpointInfo {
     }
 }
 
+#[derive(Clone, Copy, Debug, PartialEq, Eq)]
+pub struct RequestId(u64);
+
+impl RequestId {
+    pub fn new(raw: u64) -> Self {
+        Self(raw)
+    }
+
+    pub fn raw(self) -> u64 {
+        self.0
+    }
+}
+
+/// Memory of a transfer, as far as a ring asks: how long it is.
 #[derive(Clone, Copy, Debug)]
-pub struct RequestId(pub u64);
+pub struct TransferBuffer {
+    pub len: usize,
+}
 
 #[derive(Clone, Debug)]
 pub enum TransferRequest {
-    Control {},
-    Bulk {},
-    Interrupt {},
-    Isochronous {},
+    Control { setup: ControlSetup, direction: Direction, buffer: Option<TransferBuffer> },
+    Bulk { direction: Direction, buffer: Option<TransferBuffer> },
+    Interrupt { direction: Direction, buffer: Option<TransferBuffer> },
+    Isochronous { direction: Direction, packets: Vec<usize> },
 }
 
 #[derive(Clone, Debug)]
 pub enum TransferKind {
-    Control,
+    Control(ControlSetup),
+    Bulk,
+    Interrupt,
     Isochronous { packet_lengths: Vec<usize> },
 }
 

@@ -18,6 +18,7 @@ pub enum TransferError {
     EndpointRevoked,
     Disconnected,
     NotSupported,
+    Cancelled,
     Other(Text),
     /// Not of the original: a command whose outcome was this code.
     Scripted(u8),

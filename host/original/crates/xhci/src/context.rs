@@ -148,6 +148,7 @@ pub trait InputHandler {
 
 /// A context block of so many doublewords.
 #[derive(Clone, Copy)]
+#[repr(C)]
 pub struct Dwords<const D: usize>([u32; D]);
 
 impl<const D: usize> Block for Dwords<D> {
@@ -161,12 +162,14 @@ impl<const D: usize> SlotHandler for Dwords<D> {}
 impl<const D: usize> EndpointHandler for Dwords<D> {}
 
 #[derive(Clone, Copy)]
+#[repr(C)]
 pub struct Device<const D: usize> {
     slot: Dwords<D>,
     endpoints: [Dwords<D>; 31],
 }
 
 #[derive(Clone, Copy)]
+#[repr(C)]
 pub struct Input<const D: usize> {
     control: Dwords<D>,
     device: Device<D>,

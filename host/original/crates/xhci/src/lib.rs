@@ -3,4 +3,5 @@
 #![forbid(unsafe_code)]
 
 pub mod context;
+pub mod registers;
 pub mod ring;

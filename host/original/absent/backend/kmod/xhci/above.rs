@@ -1,5 +1,7 @@
 // What src/device.rs, above these functions, makes of lifecycles that they leave, and of an unplugging
 // (docs/DIFFERENCES.md).
+use usb_if::err::{TransferError, USBError};
+
 use super::*;
 
 const LIST: [u32; 5] = [0x0040_0000, 0x4000_0000, 0xA384_0410, 0x4000_4000, 0xA320_0000];

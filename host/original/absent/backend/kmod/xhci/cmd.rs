@@ -18,6 +18,8 @@ fn word(command: &command::Allowed) -> u32 {
         Allowed::StopEndpoint(stop) => bus::word(bus::STOP, stop.endpoint, 0),
         Allowed::SetTrDequeuePointer(resume) => bus::word(bus::RESUME, resume.endpoint, 0),
         Allowed::DisableSlot(_) => bus::word(bus::DISABLE, 0, 0),
+        Allowed::ResetEndpoint(reset) => bus::word(bus::RESET, reset.endpoint, 0),
+        Allowed::Link(_) => unreachable!("it is none"),
     }
 }
 

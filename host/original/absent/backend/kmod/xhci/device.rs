@@ -1,1 +1,2 @@
+pub(crate) mod asked;
 pub(crate) mod layer;

@@ -1,18 +1,14 @@
 // The functions of device.rs, asked as a `Layer`.
-use std::cell::Cell;
-use std::collections::BTreeMap;
-use std::panic::{self, AssertUnwindSafe};
-use std::pin::pin;
-use std::sync::{Arc, Once};
-use std::task::{Context, Poll, Waker};
+use std::sync::Arc;
+use std::task::Poll;
 
 use ax_sync::SpinLock;
 use scenario::{
-    Answer, Asked, BringUp, Buffers, Cannot, Claim, Endpoint, GIVEN_ROOM, HubUpdate, Layer, Outcome, Record, Shown, proper,
+    Answer, Asked, BringUp, Buffers, Cannot, Claim, Endpoint, GIVEN_ROOM, HubUpdate, Layer, Outcome, Record, Shown,
+    proper,
 };
 use usb_if::descriptor::{ConfigurationDescriptor, DeviceDescriptor, EndpointType};
 use usb_if::endpoint::EndpointInfo;
-use usb_if::err::{TransferError, USBError};
 
 use super::super::cmd::CommandRing;
 use super::super::context::ContextData;
@@ -20,73 +16,20 @@ use super::super::endpoint::Endpoint as XhciEndpoint;
 use super::super::host::Xhci;
 use super::super::reg::{SlotBell, XhciRegistersShared};
 use super::super::transfer::TransferResultHandler;
+use super::asked::{Polled, address_info, answer, ask, poll, quiet_panics, walk};
 use super::{Device, endpoint_address_dci};
-use crate::backend::kmod::DeviceAddressInfo;
-use crate::backend::kmod::hub::{HubId, HubInfo, UsbTt};
 use crate::backend::kmod::osal::Kernel;
 use crate::backend::ty::HubParams;
 use crate::backend::ty::ep::EndpointHandle;
 use crate::bus::{self, Script};
-use crate::err::Result;
 use crate::words;
 
 #[cfg(test)]
 #[path = "above.rs"]
 mod above;
 
-type Polled = Poll<Result<()>>;
-
-/// Polls once: nothing on the scripted bus wakes a future later.
-fn poll<T>(future: impl Future<Output = T>) -> Poll<T> {
-    pin!(future).poll(&mut Context::from_waker(Waker::noop()))
-}
-
-/// 01's number and the code of a 13; the code is 0 where the original keeps none.
-fn answer(polled: Polled) -> (u8, u8) {
-    match polled {
-        Poll::Pending => (15, 0),
-        Poll::Ready(Ok(())) => (0, 0),
-        Poll::Ready(Err(err)) => match err {
-            USBError::NotFound => (8, 0),
-            USBError::InvalidParameter => (9, 0),
-            USBError::SlotLimitReached => (11, 0),
-            USBError::InterfaceBroken => (14, 0),
-            USBError::TransferError(TransferError::Scripted(code)) => (13, code),
-            USBError::TransferError(TransferError::QueueFull) => (17, 0),
-            USBError::TransferError(TransferError::InvalidEndpoint) => (18, 0),
-            USBError::Other(text) if text.0.starts_with("short device descriptor header") => (16, 0),
-            USBError::Other(text) if text.0.starts_with("xHCI failed to disable") => (13, 0),
-            other => panic!("an error that no call gives: {other}"),
-        },
-    }
-}
-
 fn refused(number: u8, record: Record) -> Outcome {
     Ok((record, Answer { number, code: 0, count: 0 }))
-}
-
-thread_local! {
-    static ASKING: Cell<bool> = const { Cell::new(false) };
-}
-
-/// Panics of the original are answers here and print nothing.
-fn quiet_panics() {
-    static HOOK: Once = Once::new();
-    HOOK.call_once(|| {
-        let usual = panic::take_hook();
-        panic::set_hook(Box::new(move |info| {
-            if !ASKING.get() {
-                usual(info);
-            }
-        }));
-    });
-}
-
-fn ask(call: impl FnOnce() -> Outcome) -> Outcome {
-    ASKING.set(true);
-    let outcome = panic::catch_unwind(AssertUnwindSafe(call));
-    ASKING.set(false);
-    outcome.unwrap_or(Err(Cannot::Panics))
 }
 
 /// Lengths of the buffers for so many slots.
@@ -120,50 +63,6 @@ fn load(device: &mut Device, buffers: &Buffers) {
     device.transfer_result_handler.load_routes(&buffers.routes[..served]);
 }
 
-/// The hubs by index; the walk of `address` is tried first.
-fn hubs(args: &BringUp) -> core::result::Result<BTreeMap<HubId, HubInfo>, Cannot> {
-    let words: Vec<_> = args.hubs.iter().map(|word| words::hub(*word)).collect();
-    let mut at = args.has_parent.then_some(args.parent as usize);
-    let mut steps = 0;
-    while let Some(hub) = at.and_then(|index| words.get(index)).filter(|hub| hub.present) {
-        if hub.unused != 0 || hub.depth > 4 || hub.speed.is_none() {
-            return Err(Cannot::NoSuchInput);
-        }
-        if hub.depth == -1 {
-            break;
-        }
-        if steps > words.len() {
-            return Err(Cannot::WalksForever);
-        }
-        at = hub.parent;
-        steps += 1;
-    }
-    let present = words.iter().enumerate().filter(|(_, hub)| hub.present);
-    Ok(present
-        .filter_map(|(index, hub)| {
-            let info = HubInfo {
-                parent: hub.parent.map(HubId::new),
-                slot_id: hub.slot,
-                hub_depth: hub.depth,
-                speed: hub.speed?,
-                port_id: hub.port,
-                tt: UsbTt { multi: hub.multi, think_time_ns: 0 },
-            };
-            Some((HubId::new(index), info))
-        })
-        .collect())
-}
-
-fn address_info(args: &BringUp) -> core::result::Result<DeviceAddressInfo, Cannot> {
-    Ok(DeviceAddressInfo {
-        root_port_id: args.root_port,
-        parent_hub: args.has_parent.then_some(HubId::new(args.parent as usize)),
-        port_speed: words::speed(args.speed).ok_or(Cannot::NoSuchInput)?,
-        port_id: args.port,
-        infos: hubs(args)?,
-    })
-}
-
 fn bring_up(args: &BringUp, buffers: &mut Buffers) -> Outcome {
     let spacing = if buffers.ctx.len() == 33 * 64 { 64 } else { 32 };
     let mut host = Xhci::scripted(args.slot, args.n as usize, spacing == 64).map_err(|_| Cannot::NoSuchInput)?;
@@ -177,6 +76,7 @@ fn bring_up(args: &BringUp, buffers: &mut Buffers) -> Outcome {
     }
     let ring = control_ring(&args.rings).ok_or(Cannot::NoSuchInput)?;
     let info = address_info(args)?;
+    walk(args)?;
     load(&mut device, buffers);
     bus::begin(Script {
         outcomes: buffers.outcomes.clone(),

@@ -1,4 +1,5 @@
-// Control transfers: each is one command of the scripted bus, and what it reads is an input.
+// Control transfers: each is one command of the scripted bus, and what it reads is an input. (A configuration's bytes are
+// read with its descriptor: for them alone nothing is sent.)
 use usb_if::{
     descriptor::{ConfigurationDescriptor, DescriptorType, DeviceDescriptor},
     err::TransferError,
@@ -29,10 +30,13 @@ impl EndpointHandle {
     pub async fn get_descriptor(
         &mut self,
         kind: DescriptorType,
-        _index: u8,
+        index: u8,
         _language: u16,
         buff: &mut [u8],
     ) -> Read<usize> {
+        if kind == DescriptorType::CONFIGURATION {
+            return Ok(bus::raw(index, buff));
+        }
         if kind != DescriptorType::DEVICE || buff.len() != 8 {
             return Err(TransferError::NotSupported);
         }

@@ -1,0 +1,3 @@
+#[path = "../../../../../original/absent/backend/kmod/xhci/asked.rs"]
+pub(crate) mod asked;
+pub(crate) mod layer;
