@@ -121,7 +121,7 @@ static void cut_to_the_room(void) {
     }
 }
 
-/* The word of a descriptor's fields: docs/BEHAVIOUR.md, "Descriptor word". */
+/* The word of a descriptor's fields: docs/FORMATS.md, "Descriptor word". */
 static uint32_t word_of(struct xhci_device_descriptor d) {
     switch (d.kind) {
     case XHCI_DEVICE_DESCRIPTOR_CONFIGURATION:

@@ -1,4 +1,4 @@
-/* Where the ground stands on which a device's descriptors are refused: docs/BEHAVIOUR.md, "Raw configuration descriptors" and
+/* Where the ground stands on which a device's descriptors are refused: docs/FORMATS.md, "Raw configuration descriptors" and
  * "Descriptor list". Only the library judges; here is found what it has judged. */
 #include "xhci_device_parts.h"
 

@@ -72,7 +72,7 @@ impl Place {
             place.put(&format!("repository/crates/{name}/src/lib.rt"), name);
         }
         for path in
-            ["src/lib/part.rt", "src/lib-part.rt", "specs/Laws.antt", "specs/Laws/Part.antt", "must-fail/a.edit"]
+            ["src/lib/part.rt", "src/lib-part.rt", "specs/Laws.antt", "specs/Laws/Part.antt", "wrong/a.edit"]
         {
             place.put(&format!("repository/crates/below/{path}"), "text");
         }

@@ -1,4 +1,4 @@
-//! Descriptor words by their fields (docs/BEHAVIOUR.md, "Descriptor word").
+//! Descriptor words by their fields (docs/FORMATS.md, "Descriptor word").
 
 /// A descriptor word, as [`Record::list`](crate::Record::list), [`read_descriptors`](crate::read_descriptors) and a
 /// [`Reason`](crate::Reason) have them.

@@ -1,5 +1,5 @@
 //! Where descriptors or words stand for which the library refuses what a bring-up has read
-//! (docs/BEHAVIOUR.md, "Raw configuration descriptors" and "Descriptor list").
+//! (docs/FORMATS.md, "Raw configuration descriptors" and "Descriptor list").
 
 use crate::{Descriptor, SETTINGS_BYTES, SettingsRefusal, settings_to_new};
 

@@ -74,7 +74,7 @@ fn the_digest_is_of_what_the_archive_is_made_from() {
     let names: Vec<String> = crates(&root, &[NAME]).expect("crates.txt").into_iter().map(|known| known.0).collect();
     assert_eq!(names, ["below", "xhci_device", "xhci_device_c"]);
     let first = digest(&root, NAME).expect("a digest");
-    for same in ["crates/other/src/lib.rt", "crates/below/must-fail/a.edit", "docs/a.md", "crates/below/src/lib.rt"] {
+    for same in ["crates/other/src/lib.rt", "crates/below/wrong/a.edit", "docs/a.md", "crates/below/src/lib.rt"] {
         put(&root, same, "text");
         assert_eq!(digest(&root, NAME).expect("a digest"), first, "{same}");
     }
