@@ -135,6 +135,7 @@ impl Pending<'_> {
         loop {
             let next = routes.with(|routes| match self.next(routes) {
                 Next::Send(due) => Ok(due.job()),
+                Next::Untold => Err(Answer::Cut),
                 Next::Answer(answer) => Err(answer),
             });
             bus.stepped(self.record());

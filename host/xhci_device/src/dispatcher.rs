@@ -18,7 +18,8 @@ pub const MOST_SLOTS: usize = 32;
 /// let refusal = order.submit(SlotId(7)).unwrap_err();
 /// assert_eq!((refusal.number(), refusal.to_string().as_str()), (27, "the slot has a call waiting"));
 /// ```
-#[derive(Clone, Copy, Debug, PartialEq, Eq)]
+#[derive(Clone, Copy, Debug, PartialEq, Eq, Hash)]
+#[non_exhaustive]
 pub enum SubmitRefusal {
     /// A call of this slot is waiting.
     AlreadyWaiting,
