@@ -57,9 +57,10 @@ fn built(root: &Path) -> PathBuf {
     }
     let folder = root.join("target/staticlib");
     let old: Vec<_> = faults(&folder, Some(root)).into_iter().map(|fault| fault.0).collect();
-    if !old.is_empty() {
-        prove::build(root, &old);
+    if old.is_empty() {
+        return folder;
     }
+    prove::build(root, &old);
     if let Some((_, fault)) = faults(&folder, Some(root)).first() {
         fail(&format!("what host/archives has made is not taken: {fault}"));
     }

@@ -87,7 +87,8 @@ impl Pending<'_> {
     /// may run meanwhile.
     ///
     /// To drop the future before its end is to cut the call: record, context and the slot's own routes are as the last step
-    /// left them. The device can then be unplugged.
+    /// left them. The device can then be unplugged. Or the outcome of the command that was under way is told after all
+    /// ([`outcome`](Pending::outcome)) and the call run again; without it another run sends nothing and answers 15.
     ///
     /// ```
     /// use std::cell::RefCell;

@@ -325,6 +325,27 @@ fn a_future_that_is_never_looked_at_does_nothing() {
     assert!((record, ctx, routes) == before && sent.borrow().len() == count);
 }
 
+#[test]
+fn a_call_goes_on_once_its_command_is_told() {
+    const HANGS: Command = Command::SetInterface { interface: 0, alternate: 1 };
+    let (mut record, mut ctx, routes) = (Record::new(), [0; 1056], RefCell::new(vec![0; 32 * (N + 1)]));
+    let sent = RefCell::new(vec![]);
+    let bus = |hangs| Keyboard { hangs, sent: &sent };
+    ended(life((&mut record, &mut ctx), 1, &[], &routes, bus(None)));
+    let mut pending = Pending::new(&mut record, &mut ctx, ONE);
+    {
+        let mut bus = bus(Some(HANGS));
+        let mut run = pin!(pending.run_async(&routes, &mut bus));
+        (0..10).for_each(|_| assert!(look(run.as_mut()).is_pending()));
+    }
+    let cut = (pending.record().clone(), routes.clone(), sent.borrow().len());
+    assert_eq!(ended(pending.run_async(&routes, &mut bus(None))), Answer::Cut);
+    assert!((pending.record().clone(), routes.clone(), sent.borrow().len()) == cut && !pending.record().is_usable());
+    pending.outcome(answered(HANGS));
+    assert_eq!(ended(pending.run_async(&routes, &mut bus(None))), Answer::Accepted);
+    assert!(record.is_usable() && record.held().len() == 1 && sent.borrow().last() == Some(&(1, HANGS)));
+}
+
 /// A number that is always the same of these two.
 fn any(slot: u8, count: usize) -> usize {
     let mixed = (u64::from(slot) << 32 | count as u64).wrapping_mul(0x9E37_79B9_7F4A_7C15);
