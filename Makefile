@@ -7,7 +7,7 @@ PREFIX ?= /usr/local
 prefix := $(abspath $(PREFIX))
 tree := $(DESTDIR)$(prefix)
 version := $(shell sed -n 's/^.define XHCI_DEVICE_VERSION "\(.*\)"/\1/p' host/include/xhci_device.h)
-driver := $(filter-out %_test.c, $(wildcard host/c/xhci_device_*.c))
+driver := $(wildcard host/c/xhci_device_*)
 folder := $(or $(XHCI_DEVICE_LIB_DIR),target/staticlib)
 libraries := $(addprefix $(folder)/lib, xhci_device xhci_functions)
 

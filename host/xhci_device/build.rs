@@ -1,6 +1,6 @@
 //! Links the archives. The folder XHCI_DEVICE_LIB_DIR has ready ones, which must have been made from the sources that are
-//! here; XHCI_DEVICE_LIB_UNCHECKED takes those of unknown origin. Without it, or where it names the repository's own folder,
-//! host/archives proves and builds each, unless the last one was made from these sources.
+//! here; XHCI_DEVICE_LIB_UNCHECKED takes those of unknown origin. Otherwise host/archives proves and builds each, unless the
+//! last one was made from these sources.
 
 #[path = "build/prove.rs"]
 mod prove;
@@ -13,16 +13,12 @@ use std::env;
 use std::path::{Path, PathBuf};
 use std::process::exit;
 
-use sources::{ARCHIVES, OWN, archive, crates, digest, fault, is_own, kit, kit_file, origin, parts};
+use sources::{ARCHIVES, archive, crates, digest, fault, kit, kit_file, origin, parts};
 
 /// Cargo prints what is wrong.
 fn fail(message: &str) -> ! {
     eprintln!("{message}");
     exit(1)
-}
-
-fn is_unchecked() -> bool {
-    env::var_os("XHCI_DEVICE_LIB_UNCHECKED").is_some()
 }
 
 /// The repository that the package stands in, if it does.
@@ -43,7 +39,8 @@ fn faults(folder: &Path, root: Option<&Path>) -> Vec<(&'static str, String)> {
 }
 
 fn ready(folder: PathBuf, root: Option<&Path>) -> PathBuf {
-    if let Some((_, fault)) = faults(&folder, root).first().filter(|_| !is_unchecked()) {
+    let unchecked = env::var_os("XHCI_DEVICE_LIB_UNCHECKED").is_some();
+    if let Some((_, fault)) = faults(&folder, root).first().filter(|_| !unchecked) {
         fail(&format!(
             "what XHCI_DEVICE_LIB_DIR names, {}, is not taken: {fault}\n\
              (without the variable the archives are proved and built here; XHCI_DEVICE_LIB_UNCHECKED=1 takes any)",
@@ -58,7 +55,7 @@ fn built(root: &Path) -> PathBuf {
     if machine != "x86_64" {
         fail(&format!("rt builds for x86_64: XHCI_DEVICE_LIB_DIR must name a folder with archives for {machine}"));
     }
-    let folder = root.join(OWN);
+    let folder = root.join("target/staticlib");
     let old: Vec<_> = faults(&folder, Some(root)).into_iter().map(|fault| fault.0).collect();
     if !old.is_empty() {
         prove::build(root, &old);
@@ -81,9 +78,8 @@ fn sources(root: &Path) -> Vec<PathBuf> {
 
 fn main() {
     let root = repository();
-    let folder = match (env::var_os("XHCI_DEVICE_LIB_DIR").map(PathBuf::from), &root) {
-        (Some(folder), Some(root)) if is_own(&folder, root) && !is_unchecked() => built(root),
-        (Some(folder), _) => ready(folder, root.as_deref()),
+    let folder = match (env::var_os("XHCI_DEVICE_LIB_DIR"), &root) {
+        (Some(folder), _) => ready(folder.into(), root.as_deref()),
         (None, Some(root)) => built(root),
         (None, None) => fail("there are no sources here: XHCI_DEVICE_LIB_DIR must name a folder with the archives"),
     };

@@ -39,13 +39,13 @@ impl Case {
             _ => Some(self.record.clone()),
         };
         let step = Step {
-            call: self.call.clone(),
             record,
             ctx: self.buffers.ctx.clone(),
             routes: Some(words.collect()),
             routes_len: Some(self.buffers.routes.len()),
             log_len: self.buffers.log.len(),
             outcomes: self.buffers.outcomes.clone(),
+            ..Step::new(self.call.clone())
         };
         Scenario { name: name.to_string(), steps: vec![step] }
     }

@@ -8,7 +8,8 @@ use scenario::{
     Reason, Record, Reply, Shown, Side, proper,
 };
 use xhci_device::{
-    BlockRefusal, ChoiceRefusal, Context, Dci, Memory, RawRefusal, Setting, SettingsRefusal, SlotId, SubmitRefusal,
+    Answered, BlockRefusal, ChoiceRefusal, Context, Dci, Memory, RawRefusal, Setting, SettingsRefusal, SlotId,
+    SubmitRefusal,
 };
 
 pub struct Library;
@@ -18,12 +19,12 @@ fn memory(buffers: &mut Buffers) -> Memory<'_> {
     Memory { ctx, routes, log, outcomes }
 }
 
-fn told((answer, count): (xhci_device::Answer, usize)) -> Answer {
-    Answer { number: answer.number(), code: answer.code(), count }
+fn told(told: Answered) -> Answer {
+    Answer { number: told.answer.number(), code: told.answer.code(), count: told.count }
 }
 
 /// A call on the record that is given.
-fn on(record: &Record, call: impl FnOnce(&mut xhci_device::Record) -> (xhci_device::Answer, usize)) -> Outcome {
+fn on(record: &Record, call: impl FnOnce(&mut xhci_device::Record) -> Answered) -> Outcome {
     let mut record = words::image(record).ok_or(Cannot::NoSuchInput)?;
     let answer = told(proper(|| call(&mut record)));
     Ok((words::record(&record), answer))
@@ -47,6 +48,7 @@ fn reason(reason: xhci_device::Reason) -> Reason {
         xhci_device::Reason::Rings => Reason::Rings,
         xhci_device::Reason::Command { place, word } => Reason::Command { place, word },
         xhci_device::Reason::Number(number) => Reason::Number(number),
+        other => panic!("{other:?} has no form in a scenario"),
     }
 }
 
@@ -66,8 +68,8 @@ impl Layer for Library {
             hubs: &args.hubs,
             list: &args.list,
         };
-        let (record, answer, count) = proper(|| xhci_device::Record::bring_up(memory(buffers), &args));
-        Ok((words::record(&record), told((answer, count))))
+        let (record, answered) = proper(|| xhci_device::Record::bring_up(memory(buffers), &args));
+        Ok((words::record(&record), told(answered)))
     }
 
     fn claim(&mut self, record: &Record, args: &Claim, buffers: &mut Buffers) -> Outcome {
@@ -110,7 +112,8 @@ impl Layer for Library {
         let record = words::image(made.left).ok_or(Cannot::NoSuchInput)?;
         let answer = xhci_device::Answer::of(number, code).ok_or(Cannot::NoSuchInput)?;
         let Claim { interface, alternate } = made.call.claimed().ok_or(Cannot::NoSuchInput)?;
-        let why = || record.why(interface, alternate, (answer, count), made.log, &made.buffers.outcomes);
+        let left = Answered { answer, count };
+        let why = || record.why(interface, alternate, left, made.log, &made.buffers.outcomes);
         Ok(reason(proper(why)))
     }
 }

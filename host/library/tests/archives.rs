@@ -11,7 +11,9 @@ use std::path::{Path, PathBuf};
 use std::process::{Command, Output};
 use std::{env, fs};
 
-use sources::{ARCHIVES, OWN, digest};
+use sources::{ARCHIVES, digest};
+
+const OWN: &str = "target/staticlib";
 
 /// A repository with this one's scripts and binding, a package outside of it, and a kit whose `rt lib` leaves an empty archive
 /// and a line in the file `made`.
@@ -62,14 +64,16 @@ impl Place {
         let place = Place(env::temp_dir().join(format!("{name}-{}", std::process::id())));
         let _ = fs::remove_dir_all(&place.0);
         let here = Path::new(env!("CARGO_MANIFEST_DIR")).join("../..");
-        for path in ["host/archives", "host/origin", "host/xhci_device", ".cargo"] {
+        for path in ["host/archives", "host/origin", "host/xhci_device"] {
             copy(&here.join(path), &place.0.join("repository").join(path));
         }
         place.put("repository/crates.txt", CRATES);
         for name in ["below", "between", "xhci_device_c", "xhci_functions_c"] {
             place.put(&format!("repository/crates/{name}/src/lib.rt"), name);
         }
-        for path in ["src/lib/part.rt", "src/lib-part.rt", "specs/Laws.antt", "specs/Laws/Part.antt", "must-fail/a.edit"] {
+        for path in
+            ["src/lib/part.rt", "src/lib-part.rt", "specs/Laws.antt", "specs/Laws/Part.antt", "must-fail/a.edit"]
+        {
             place.put(&format!("repository/crates/below/{path}"), "text");
         }
         place.put("outside/Cargo.toml", OUTSIDE);
@@ -87,7 +91,7 @@ impl Place {
         fs::write(path, text).expect("a file");
     }
 
-    /// Runs a program over the kit, with no variable of the build but these.
+    /// Runs a program over the kit, with no variable of the build but these, and no configuration of cargo's from outside.
     fn run(&self, program: &str, args: &[&str], folder: &str, variables: &[(&str, &Path)]) -> Output {
         let path = format!("{}:{}", self.0.join("kit/bin").display(), env::var("PATH").expect("a path"));
         let mut command = Command::new(program);
@@ -95,8 +99,9 @@ impl Place {
         for name in ["XHCI_DEVICE_LIB_DIR", "XHCI_DEVICE_LIB_UNCHECKED", "OVER_RT_CI"] {
             command.env_remove(name);
         }
-        let target = self.0.join("target").join(folder);
-        command.env("CARGO_TARGET_DIR", target).envs(variables.iter().copied()).output().expect("a program")
+        let (target, home) = (self.0.join("target").join(folder), self.0.join("home"));
+        command.env("CARGO_TARGET_DIR", target).env("CARGO_HOME", home).envs(variables.iter().copied());
+        command.output().expect("a program")
     }
 
     fn script(&self, name: &str, args: &[&str]) -> String {
@@ -160,7 +165,7 @@ fn a_build_takes_the_archives_that_are_of_its_sources() {
 }
 
 #[test]
-fn the_environments_folder_goes_before() {
+fn a_folder_is_named_by_the_environment_or_by_the_package() {
     let place = Place::new("folders");
     place.script("archives", &[]);
     let (own, other) = (place.0.join("repository").join(OWN), place.0.join("other"));
@@ -174,6 +179,10 @@ fn the_environments_folder_goes_before() {
         assert!(fault.contains("libxhci_device.origin is not that archive's"), "{fault}");
         assert_eq!(place.fault(folder, &unchecked), None);
     }
+    place.put("outside/.cargo/config.toml", &format!("[env]\nXHCI_DEVICE_LIB_DIR = {other:?}\n"));
+    assert!(place.fault("outside", &[]).is_some());
+    assert_eq!(place.fault("outside", &[("XHCI_DEVICE_LIB_DIR", &own)]), None);
+
     let check = |folder: &Path| {
         let folder = folder.to_str().expect("a name");
         place.run("host/archives", &["--check", folder], "repository", &[]).status.success()

@@ -132,6 +132,7 @@ impl<'a> Wire<'a> {
             Command::ReadDevice => self.request([0x80, 6, 0, 1, 0, 0, 18, 0], due),
             Command::ReadConfig(index) => self.read_configuration(index, due),
             Command::Disable => done(self.controller.disable_slot(slot, routes)),
+            other => panic!("{other}: not a command that is known here"),
         }
     }
 

@@ -72,6 +72,7 @@ fn call_text(call: &Call<'_>) -> String {
         Call::SetConfiguration { value } => format!("set configuration {value}"),
         Call::HubUpdate { ports, .. } => format!("hub update, {ports} ports"),
         Call::Disconnect => "unplugging".into(),
+        other => format!("{other:?}"),
     }
 }
 

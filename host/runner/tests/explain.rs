@@ -3,7 +3,9 @@
 use std::process::Command;
 
 use runner::{functions, layer};
-use scenario::{BringUp, Buffers, Call, Choice, Conversion, Form, Kind, Record, candidates, fault, settings_fault};
+use scenario::{
+    BringUp, Buffers, Call, Choice, Conversion, Form, Given, Kind, Record, candidates, fault, settings_fault,
+};
 
 #[test]
 fn the_refusals_are_explained() {
@@ -24,10 +26,18 @@ impl Rng {
     }
 }
 
-fn answer(call: &Call, record: &Record) -> u8 {
-    let mut buffers = Buffers { ctx: vec![0; 1056], routes: vec![0; 64], log: vec![0; 64], outcomes: vec![] };
-    let outcome = layer("library").expect("the library").call(record, call, &mut buffers);
+fn buffers() -> Buffers {
+    Buffers { ctx: vec![0; 1056], routes: vec![0; 64], log: vec![0; 64], outcomes: vec![] }
+}
+
+fn answer(call: &Call) -> u8 {
+    let outcome = layer("library").expect("the library").call(&Record::default(), call, &mut buffers());
     outcome.expect("an answer").1.number
+}
+
+/// Whether anything is told of a bring-up that is refused with a number.
+fn is_told(number: u8, call: &Call) -> bool {
+    fault(number, &Given { call, record: &Record::default(), buffers: &buffers() }).is_some()
 }
 
 /// A list that is valid at a speed more often than not.
@@ -66,11 +76,10 @@ fn a_word_is_named_exactly_where_the_list_is_refused() {
         let list = if rng.below(50) == 0 { [vec![0], list.repeat(4)].concat() } else { list };
         let args = BringUp { slot: 1, n: 1, speed, rings: vec![16], list, ..BringUp::default() };
         let call = Call::BringUp(args);
-        let number = answer(&call, &Record::default());
-        let fault = |number: u8| fault(number, &call, &Record::default()).is_some();
-        assert_eq!(fault(4), number == 4, "{call:?}");
-        if !fault(4) && speed > 3 {
-            assert_eq!(fault(26), number == 26, "{call:?}");
+        let number = answer(&call);
+        assert_eq!(is_told(4, &call), number == 4, "{call:?}");
+        if number != 4 && speed > 3 {
+            assert_eq!(is_told(26, &call), number == 26, "{call:?}");
         }
         refused[usize::from(number)] += 1;
     }
@@ -89,8 +98,8 @@ fn a_given_ring_is_named_exactly_where_one_is_refused() {
             rings[at] = [0, 0x1000, 0x1010, 0x1008, 0x9000][rng.below(5) as usize];
         }
         let call = Call::BringUp(BringUp { slot: 1, n: 1, speed: 3, rings, ..BringUp::default() });
-        let number = answer(&call, &Record::default());
-        assert_eq!(fault(10, &call, &Record::default()).is_some(), number == 10, "{call:?}");
+        let number = answer(&call);
+        assert_eq!(is_told(10, &call), number == 10, "{call:?}");
         refused += u32::from(number == 10);
     }
     assert!((500..4_500).contains(&refused), "{refused}");

@@ -110,6 +110,15 @@ fn the_shipped_companions() {
     assert_eq!((answers(4), answers(6), answers(20), answers(26)), (4, 2, 2, 12));
 }
 
+/// Devices from their raw descriptors, and bring-ups that are not made.
+#[test]
+fn the_shipped_raw_descriptors() {
+    let printed = include_str!("../scenarios/raw.out");
+    shipped(include_str!("../scenarios/raw.txt"), printed, include_str!("../scenarios/raw.explained"));
+    let refused: Vec<&str> = printed.lines().filter_map(|line| line.strip_prefix("no call: ")).collect();
+    assert_eq!(refused, [20, 4, 26].map(|number| format!("raw descriptors refused with {number}")));
+}
+
 /// The original has no reasons. Each kind of reason is there.
 #[test]
 fn the_shipped_reasons() {
@@ -165,7 +174,7 @@ fn a_malformed_line_of_a_case_ends_the_run() {
     let ended = run(&["-"], "case a\nrawread\nroom 0\ngo\ncase b\nrawread\nbytes 0\ngo\n");
     assert_eq!(ended.status.code(), Some(2));
     assert_eq!(String::from_utf8_lossy(&ended.stdout), "answer 3 0\nwords\n.\n");
-    assert_eq!(String::from_utf8_lossy(&ended.stderr), "line 7: bytes are two hexadecimal digits each\n");
+    assert_eq!(String::from_utf8_lossy(&ended.stderr), "-:7: bytes are two hexadecimal digits each\n");
     assert_eq!(run(&["-"], "case a\nrawread\n").status.code(), Some(2));
 }
 
@@ -174,7 +183,7 @@ fn a_malformed_line_ends_the_run() {
     let ended = run(&["-"], "scenario a\nclaim\ngo\nclaim\nno such key\ngo\nend\n");
     assert_eq!(ended.status.code(), Some(2));
     assert!(String::from_utf8_lossy(&ended.stdout).starts_with("answer 12 0 0\n"));
-    assert_eq!(String::from_utf8_lossy(&ended.stderr), "line 5: this call has no 'no'\n");
+    assert_eq!(String::from_utf8_lossy(&ended.stderr), "-:5: this call has no 'no'\n");
     assert_eq!(run(&["/no/such/file"], "").status.code(), Some(2));
     assert_eq!(run(&[], "").status.code(), Some(2));
 }

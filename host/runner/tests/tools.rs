@@ -37,13 +37,13 @@ fn wrong_arguments() {
 
 #[test]
 fn files_that_hold_nothing() {
-    for empty in [&b""[..], b"\n", b"# a comment\n  \n"] {
-        refused(&["-"], empty, "there is neither a scenario nor a case in the file");
+    for (empty, line) in [(&b""[..], 1), (b"\n", 1), (b"# a comment\n  \n", 2)] {
+        refused(&["-"], empty, &format!("-:{line}: there is neither a scenario nor a case in the file"));
     }
-    let marked = "line 1: the file begins with a byte order mark; save it as UTF-8 without one";
+    let marked = "-:1: the file begins with a byte order mark; save it as UTF-8 without one";
     refused(&["-"], b"\xEF\xBB\xBFscenario a\nend\n", marked);
-    refused(&["-"], b"\xFF\xFEs\0c\0", "line 1: the file is UTF-16; save it as UTF-8");
-    refused(&["-"], b"\xFE\xFF\0s\0c", "line 1: the file is UTF-16; save it as UTF-8");
+    refused(&["-"], b"\xFF\xFEs\0c\0", "-:1: the file is UTF-16; save it as UTF-8");
+    refused(&["-"], b"\xFE\xFF\0s\0c", "-:1: the file is UTF-16; save it as UTF-8");
     assert!(run(&["-"], b"scenario a\nend\n").status.success());
 }
 

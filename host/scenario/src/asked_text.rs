@@ -34,12 +34,12 @@ pub fn explain_asked(out: &mut String, record: &Record, asked: &Asked) {
     for at in (0..old.len()).filter(|at| is_last(&old, *at)) {
         let endpoint = record.endpoints.iter().find(|endpoint| endpoint.address == address(old[at]));
         let ring = endpoint.map_or(0, |endpoint| endpoint.ring);
-        let _ = writeln!(out, "    goes:  {}, ring {ring:x}", endpoint_text(old[at]));
+        let _ = writeln!(out, "    goes:  {}, ring {ring:#x}", endpoint_text(old[at]));
     }
     let new = alternate_words(&record.list, asked.interface, asked.alternate);
     for (at, ring) in asked.rings.iter().enumerate().take(new.len()) {
         let kept = if is_last(&new, at) { "" } else { ", which it will not keep" };
-        let _ = writeln!(out, "    comes: {}, ring {ring:x}{kept}", endpoint_text(new[at]));
+        let _ = writeln!(out, "    comes: {}, ring {ring:#x}{kept}", endpoint_text(new[at]));
     }
     let _ = writeln!(out, "    drop flags {:08x}, add flags {:08x}", asked.drops, asked.adds);
 }

@@ -89,6 +89,10 @@ impl Kind for Block {
         let _ = writeln!(out, "from {}\ndci {}", self.from.name(), self.dci);
     }
 
+    fn number(&self, functions: &dyn Functions) -> u8 {
+        self.ask(functions).number
+    }
+
     fn run(&self, functions: &dyn Functions, out: &mut String) {
         let Part { number, offset, bytes } = self.ask(functions);
         let _ = writeln!(out, "answer {number}\npart {offset} {}", bytes.len());

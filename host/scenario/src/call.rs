@@ -156,6 +156,8 @@ pub struct Answer {
 #[derive(Clone, Debug, PartialEq, Eq)]
 pub struct Step {
     pub call: Call,
+    /// Of a bring-up: raw configuration descriptors, from which its list is to be read.
+    pub raw: Option<Vec<u8>>,
     /// None: the record that the last call returned.
     pub record: Option<Record>,
     pub ctx: Vec<u8>,
@@ -173,6 +175,7 @@ impl Step {
     pub fn new(call: Call) -> Step {
         Step {
             call,
+            raw: None,
             record: None,
             ctx: Vec::new(),
             routes: None,

@@ -60,6 +60,9 @@ pub trait Kind: Debug {
     /// Its keys, a line each.
     fn keys(&self, out: &mut String);
 
+    /// What it is answered with: 0, or the number of its first refusal.
+    fn number(&self, functions: &dyn Functions) -> u8;
+
     /// Runs it: the lines that `go` prints.
     fn run(&self, functions: &dyn Functions, out: &mut String);
 
@@ -110,6 +113,11 @@ impl Case {
         let _ = writeln!(out, "case {}\n{}", self.name, self.kind.name());
         self.kind.keys(out);
         out.push_str("go\n");
+    }
+
+    /// What it is answered with.
+    pub fn number(&self, functions: &dyn Functions) -> u8 {
+        self.kind.number(functions)
     }
 
     /// The block that `go` prints.

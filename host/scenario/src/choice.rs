@@ -8,6 +8,7 @@ use crate::descriptors::{endpoint_text, explain_words};
 use crate::fault::{address, endpoints_from};
 use crate::record_key::record_key;
 use crate::settings::configuration;
+use crate::sound::unusable;
 use crate::value::{Parsed, Words};
 use crate::{explain, print, value};
 
@@ -197,6 +198,10 @@ impl Kind for Choice {
         let _ = writeln!(out, "longest {}", self.longest);
     }
 
+    fn number(&self, functions: &dyn Functions) -> u8 {
+        self.ask(functions).number
+    }
+
     fn run(&self, functions: &dyn Functions, out: &mut String) {
         let Chosen { number, alternates } = self.ask(functions);
         let _ = writeln!(out, "answer {number}");
@@ -215,6 +220,7 @@ impl Kind for Choice {
             0 => {
                 names.iter().zip(alternates).for_each(|(name, alternate)| explain_chosen(out, record, *name, alternate))
             }
+            12 => unusable(record).iter().for_each(|fault| _ = writeln!(out, "    {fault}")),
             29 => _ = writeln!(out, "    names: {}, and {MOST_NAMES} are allowed", names.len()),
             30 => explain_no_choice(out, self, functions),
             _ => {}

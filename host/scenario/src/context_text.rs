@@ -93,7 +93,7 @@ fn value(value: u64, told: Told) -> String {
         Hexadecimal => format!("{value:x}"),
         EndpointState => STATES[value as usize & 7].to_string(),
         EndpointType => TYPES[value as usize & 7].to_string(),
-        Address => format!("{:x}", value << 4),
+        Address => format!("{:#x}", value << 4),
     }
 }
 

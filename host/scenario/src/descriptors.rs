@@ -2,17 +2,15 @@
 
 use std::fmt::Write;
 
-use crate::companion::{Piece, companion_fault};
-
 const TYPES: [&str; 4] = ["control", "isochronous", "bulk", "interrupt"];
 
-const CONFIGURATION: u8 = 2;
-const INTERFACE: u8 = 4;
-const ENDPOINT: u8 = 5;
-const COMPANION: u8 = 48;
+pub const CONFIGURATION: u8 = 2;
+pub const INTERFACE: u8 = 4;
+pub const ENDPOINT: u8 = 5;
+pub const COMPANION: u8 = 48;
 
 /// Whether a descriptor is read as an endpoint's companion.
-fn is_companion(kind: u8, speed: u8) -> bool {
+pub fn is_companion(kind: u8, speed: u8) -> bool {
     kind == COMPANION && matches!(speed, 4 | 5)
 }
 
@@ -58,17 +56,17 @@ pub fn explain_words(out: &mut String, list: &[u32]) {
 }
 
 /// A descriptor, and the byte at which it begins.
-struct Descriptor<'a> {
-    at: usize,
-    bytes: &'a [u8],
+pub struct Descriptor<'a> {
+    pub at: usize,
+    pub bytes: &'a [u8],
 }
 
 impl Descriptor<'_> {
-    fn kind(&self) -> u8 {
+    pub fn kind(&self) -> u8 {
         self.bytes[1]
     }
 
-    fn field(&self, at: usize) -> u32 {
+    pub fn field(&self, at: usize) -> u32 {
         u16::from_le_bytes([self.bytes[at], self.bytes[at + 1]]).into()
     }
 }
@@ -83,8 +81,8 @@ fn least_length(kind: u8, speed: u8) -> usize {
 }
 
 /// Bytes as descriptors, one behind another.
-struct Walk<'a> {
-    found: Vec<Descriptor<'a>>,
+pub struct Walk<'a> {
+    pub found: Vec<Descriptor<'a>>,
     /// What ends them before the end of the bytes.
     broken: Option<String>,
     len: usize,
@@ -92,7 +90,7 @@ struct Walk<'a> {
 }
 
 impl Walk<'_> {
-    fn of(bytes: &[u8], speed: u8) -> Walk<'_> {
+    pub fn of(bytes: &[u8], speed: u8) -> Walk<'_> {
         let mut walk = Walk { found: Vec::new(), broken: None, len: bytes.len(), speed };
         while walk.broken.is_none() && walk.at() < bytes.len() {
             match first(&bytes[walk.at()..], speed) {
@@ -182,24 +180,4 @@ pub fn explain_bytes(out: &mut String, bytes: &[u8], speed: u8) {
     if let Some(broken) = &walk.broken {
         let _ = writeln!(out, "    {:>5}  {broken}", walk.at());
     }
-}
-
-/// The first descriptor of bytes with which companions do not fit, and why.
-pub fn bytes_fault(bytes: &[u8], speed: u8) -> Option<String> {
-    let walk = Walk::of(bytes, speed);
-    let makes_word =
-        |d: &&Descriptor| matches!(d.kind(), CONFIGURATION | INTERFACE | ENDPOINT) || is_companion(d.kind(), speed);
-    let found: Vec<&Descriptor> = walk.found.iter().filter(makes_word).collect();
-    let piece = |at: usize| match (found[at].kind(), found[at].bytes) {
-        (ENDPOINT, bytes) => Piece::Endpoint { isochronous: bytes[3] & 3 == 1 },
-        (COMPANION, bytes) => {
-            // Of another than an isochronous endpoint the attributes are not read.
-            let isochronous = at > 0 && found[at - 1].kind() == ENDPOINT && found[at - 1].bytes[3] & 3 == 1;
-            Piece::Companion { burst: bytes[2].into(), mult: if isochronous { u32::from(bytes[3] & 3) } else { 0 } }
-        }
-        _ => Piece::Other,
-    };
-    let pieces: Vec<Piece> = (0..found.len()).map(piece).collect();
-    let (at, what) = companion_fault(&pieces)?;
-    Some(format!("the descriptor at byte {}: {what}", found[at].at))
 }

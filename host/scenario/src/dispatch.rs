@@ -72,6 +72,18 @@ impl Kind for Turns {
         }
     }
 
+    fn number(&self, functions: &dyn Functions) -> u8 {
+        let mut dispatcher = functions.dispatcher();
+        let mut answered = |entry: &Entry| match entry {
+            Entry::Submit(slot) => dispatcher.submit(*slot),
+            Entry::Turn => {
+                dispatcher.turn();
+                0
+            }
+        };
+        self.entries.iter().map(&mut answered).find(|number| *number != 0).unwrap_or(0)
+    }
+
     fn run(&self, functions: &dyn Functions, out: &mut String) {
         let mut dispatcher = functions.dispatcher();
         for entry in &self.entries {

@@ -67,7 +67,7 @@ pub fn command(word: u32) -> String {
     }
 }
 
-fn title(call: &Call) -> String {
+pub fn title(call: &Call) -> String {
     match call {
         Call::BringUp(args) => format!("bring-up of slot {} of {}, speed {}", args.slot, args.n, args.speed),
         Call::Claim(args) => format!("claim of interface {}, alternate {}", args.interface, args.alternate),
@@ -116,7 +116,7 @@ fn commands(out: &mut String, layer: &mut dyn Layer, given: &Given, left: &Left)
 fn routes(out: &mut String, before: &[u64], after: &[u64]) {
     let changed = before.iter().zip(after).enumerate().filter(|(_, (b, a))| a != b);
     for (index, (was, is)) in changed {
-        let _ = writeln!(out, "  route of slot {}, Dci {}: {was:x} -> {is:x}", index / 32, index % 32);
+        let _ = writeln!(out, "  route of slot {}, Dci {}: {was:#x} -> {is:#x}", index / 32, index % 32);
     }
 }
 
@@ -137,7 +137,7 @@ fn answered(out: &mut String, layer: &mut dyn Layer, given: &Given, left: &Left)
     let Answer { number, code, .. } = left.answer;
     let _ = write!(out, "  answer {number}: {}", answer(number));
     let _ = if number == 13 { writeln!(out, ", with code {code}") } else { writeln!(out) };
-    if let Some(fault) = fault(number, given.call, given.record) {
+    if let Some(fault) = fault(number, given) {
         let _ = writeln!(out, "    {fault}");
     }
     let Given { call, record, buffers } = *given;

@@ -1,8 +1,9 @@
-//! What exactly a bring-up is refused for where the answer's number leaves it open, 4, 10 and 26; and what an unplugging
-//! came to.
+//! What exactly a call is refused for where the answer's number leaves it open, and what an unplugging came to.
 
-use crate::call::{BringUp, Call, GIVEN_ROOM, Record};
+use crate::call::{BringUp, Call, GIVEN_ROOM};
 use crate::companion::words_fault;
+use crate::explain::Given;
+use crate::{seen, sound};
 
 const CONFIGURATION: u32 = 0;
 const ALTERNATE: u32 = 1;
@@ -56,10 +57,15 @@ fn place_fault(words: &[u32]) -> Option<&'static str> {
     faults.iter().find(|fault| fault.0).map(|fault| fault.1)
 }
 
-/// The first word with which a list is not valid.
-fn list_fault(list: &[u32], speed: u8) -> Option<String> {
+/// The place of the first word with which a list is not valid, and why.
+pub fn first_fault(list: &[u32], speed: u8) -> Option<(usize, &'static str)> {
     let fault = |at: usize| word_fault(list[at], speed).or_else(|| place_fault(&list[..=at]));
-    let (at, what) = (0..list.len()).find_map(|at| Some((at, fault(at)?)))?;
+    (0..list.len()).find_map(|at| Some((at, fault(at)?)))
+}
+
+/// The same as a line.
+pub fn list_fault(list: &[u32], speed: u8) -> Option<String> {
+    let (at, what) = first_fault(list, speed)?;
     Some(format!("word {} of {}, {:08x}: {what}", at + 1, list.len(), list[at]))
 }
 
@@ -69,36 +75,40 @@ pub fn endpoints_from(words: &[u32]) -> Vec<u32> {
     endpoints.copied().filter(|word| kind(*word) == ENDPOINT).collect()
 }
 
+/// Where lookup finds an alternate.
+pub fn alternate_at(list: &[u32], interface: u8, alternate: u8) -> Option<usize> {
+    let sought = ALTERNATE << 30 | u32::from(interface) << 22 | u32::from(alternate) << 14;
+    list.iter().position(|word| *word == sought)
+}
+
 /// The endpoint words of the first matching alternate.
 pub fn alternate_words(list: &[u32], interface: u8, alternate: u8) -> Vec<u32> {
-    let sought = ALTERNATE << 30 | u32::from(interface) << 22 | u32::from(alternate) << 14;
-    let after = list.iter().position(|word| *word == sought).map_or(list.len(), |at| at + 1);
+    let after = alternate_at(list, interface, alternate).map_or(list.len(), |at| at + 1);
     endpoints_from(&list[after..])
 }
 
 /// Why a ring cannot be given after others.
 fn ring_fault(before: &[u64], ring: u64) -> Option<String> {
     match ring {
-        0 => Some("ring 0 is none".to_string()),
-        _ if !ring.is_multiple_of(16) => Some(format!("ring {ring:x} is not a multiple of 16")),
-        _ if before.contains(&ring) => Some(format!("ring {ring:x} is given twice")),
+        0 => Some("ring 0x0 is none".to_string()),
+        _ if !ring.is_multiple_of(16) => Some(format!("ring {ring:#x} is not a multiple of 16")),
+        _ if before.contains(&ring) => Some(format!("ring {ring:#x} is given twice")),
         _ => None,
     }
 }
 
 /// The first ring that cannot be given, unless their number does not fit.
-fn given_fault(rings: &[u64]) -> Option<String> {
+pub fn given_fault(rings: &[u64]) -> Option<String> {
     if !(1..=GIVEN_ROOM).contains(&rings.len()) {
         return Some(format!("rings given: {}, and 1 to {GIVEN_ROOM} are allowed", rings.len()));
     }
     (0..rings.len()).find_map(|at| ring_fault(&rings[..at], rings[at]))
 }
 
-/// What Disable decided, or why it was not sent.
-fn unplugging(number: u8, record: &Record) -> Option<String> {
+/// What Disable decided.
+fn unplugging(number: u8) -> Option<String> {
     let text = match number {
         0 => "Disable was done: every held setting has ended, and the slot has no route any more",
-        12 if !record.up => "the record is not up: its bring-up was not accepted, or it was unplugged before",
         14 => "Disable failed: the routes stay, control's ring and every live one are in quarantine",
         15 => "Disable has not been answered: routes and rings stay as they are",
         _ => return None,
@@ -106,13 +116,28 @@ fn unplugging(number: u8, record: &Record) -> Option<String> {
     Some(text.to_string())
 }
 
-/// The word or the ring that a bring-up was refused for, or how an unplugging went. None where the number says it all.
-pub fn fault(number: u8, call: &Call, record: &Record) -> Option<String> {
-    match (number, call) {
-        (4, Call::BringUp(BringUp { list, speed, .. })) => list_fault(list, *speed),
-        (26, Call::BringUp(BringUp { list, .. })) => words_fault(list),
-        (10, Call::BringUp(BringUp { rings, .. })) => given_fault(rings),
-        (_, Call::Disconnect) => unplugging(number, record),
+/// What a bring-up is refused for.
+fn of_bring_up(number: u8, args: &BringUp, routes: &[u64]) -> Option<String> {
+    match number {
+        4 => list_fault(&args.list, args.speed),
+        10 => given_fault(&args.rings),
+        11 => seen::slot(args),
+        17 => seen::control_route(args, routes),
+        26 => words_fault(&args.list),
+        _ => None,
+    }
+}
+
+/// What a call is refused for, or how an unplugging went. None where the number says it all.
+pub fn fault(number: u8, given: &Given) -> Option<String> {
+    match (number, given.call) {
+        (1, _) => seen::context_length(given),
+        (2, _) => seen::routes_length(given),
+        (_, Call::BringUp(args)) => of_bring_up(number, args, &given.buffers.routes),
+        (8, call) => Some(seen::alternates(given.record, &call.claimed()?)),
+        (12, Call::Disconnect) => sound::not_up(given.record),
+        (12, _) => sound::unusable(given.record),
+        (_, Call::Disconnect) => unplugging(number),
         _ => None,
     }
 }

@@ -125,7 +125,8 @@ fn memory(out: &mut String, left: &Left) {
     }
 }
 
-fn bring_up(out: &mut String, args: &BringUp) {
+/// Its list is that which raw descriptors stand for, where there are any.
+fn bring_up(out: &mut String, args: &BringUp, raw: Option<&[u8]>) {
     let _ = write!(
         out,
         "bringup\nslot {}\nn {}\nspeed {}\nparent {} {}\nport {}\nrootport {}\nheader {} {}\nconfig {}\n",
@@ -141,7 +142,10 @@ fn bring_up(out: &mut String, args: &BringUp) {
         args.config
     );
     numbers(out, "rings", &args.rings);
-    words(out, "list", &args.list);
+    match raw {
+        Some(raw) => bytes(out, "raw", raw),
+        None => words(out, "list", &args.list),
+    }
     out.push_str("hubs");
     for hub in &args.hubs {
         out.push(' ');
@@ -150,10 +154,10 @@ fn bring_up(out: &mut String, args: &BringUp) {
     out.push('\n');
 }
 
-/// A call as a scenario has it, without its last line.
-fn call_text(out: &mut String, step: &Step) {
+/// A call's name and its arguments.
+fn arguments(out: &mut String, step: &Step) {
     match &step.call {
-        Call::BringUp(args) => bring_up(out, args),
+        Call::BringUp(args) => bring_up(out, args, step.raw.as_deref()),
         Call::Claim(args) => {
             let _ = writeln!(out, "claim\ninterface {}\nalternate {}", args.interface, args.alternate);
         }
@@ -179,6 +183,11 @@ fn call_text(out: &mut String, step: &Step) {
         }
         Call::Disconnect => out.push_str("disconnect\n"),
     }
+}
+
+/// A call as a scenario has it, without its last line.
+fn call_text(out: &mut String, step: &Step) {
+    arguments(out, step);
     if let Some(given) = &step.record {
         record(out, "reclist", given);
     }

@@ -4,8 +4,10 @@ use std::fmt::Write;
 
 use crate::case::{Functions, Kind, Reply, explain_reply, room};
 use crate::companion::words_fault;
-use crate::descriptors::{bytes_fault, explain_bytes, explain_words};
+use crate::descriptors::{explain_bytes, explain_words};
+use crate::fault::list_fault;
 use crate::memory::{filled_bytes, filled_words};
+use crate::raw_fault::raw_fault;
 use crate::value::{Parsed, Words};
 use crate::{print, value};
 
@@ -61,13 +63,16 @@ impl RawWrite {
     }
 }
 
-/// The answer in words: what was written, what 20 says, or where companions do not fit.
-fn reply(out: &mut String, reply: Reply, what: &str, malformed: &str, companion: Option<String>) {
+/// What a 20 of the reader says.
+pub const MALFORMED_BYTES: &str = "the bytes are malformed";
+
+/// The answer in words: what was written, what 20 says, or the ground of a 4 or a 26.
+fn reply(out: &mut String, reply: Reply, what: &str, malformed: &str, fault: Option<String>) {
     match reply.number {
         20 => _ = writeln!(out, "  answer 20: refused: {malformed}"),
         _ => explain_reply(out, reply, what),
     }
-    if let (26, Some(fault)) = (reply.number, companion) {
+    if let Some(fault) = fault {
         let _ = writeln!(out, "    {fault}");
     }
 }
@@ -93,6 +98,10 @@ impl Kind for RawRead {
         room(out, self.room, WORDS_ROOM);
     }
 
+    fn number(&self, functions: &dyn Functions) -> u8 {
+        self.ask(functions).0.number
+    }
+
     fn run(&self, functions: &dyn Functions, out: &mut String) {
         let (Reply { number, count }, words) = self.ask(functions);
         let _ = writeln!(out, "answer {number} {count}");
@@ -104,7 +113,7 @@ impl Kind for RawRead {
         let RawRead { speed, bytes, room } = self;
         let _ = writeln!(out, "{} bytes to words at speed {speed}, room for {room}", bytes.len());
         explain_bytes(out, bytes, *speed);
-        reply(out, replied, "words", "the bytes are malformed", bytes_fault(bytes, *speed));
+        reply(out, replied, "words", MALFORMED_BYTES, raw_fault(replied.number, bytes, *speed));
         explain_words(out, &words[..replied.count]);
     }
 }
@@ -130,6 +139,10 @@ impl Kind for RawWrite {
         room(out, self.room, BYTES_ROOM);
     }
 
+    fn number(&self, functions: &dyn Functions) -> u8 {
+        self.ask(functions).0.number
+    }
+
     fn run(&self, functions: &dyn Functions, out: &mut String) {
         let (Reply { number, count }, bytes) = self.ask(functions);
         let _ = writeln!(out, "answer {number} {count}");
@@ -141,7 +154,12 @@ impl Kind for RawWrite {
         let RawWrite { speed, list, room } = self;
         let _ = writeln!(out, "{} words to bytes at speed {speed}, room for {room}", list.len());
         explain_words(out, list);
-        reply(out, replied, "bytes", "an endpoint has packets 0", words_fault(list));
+        let fault = match replied.number {
+            4 => list_fault(list, *speed),
+            26 => words_fault(list),
+            _ => None,
+        };
+        reply(out, replied, "bytes", "an endpoint has packets 0", fault);
         explain_bytes(out, &bytes[..replied.count], *speed);
     }
 }

@@ -24,7 +24,7 @@ fn numbers(record: &Record) -> String {
     let Record { slot, n, spacing, speed, control, list, given, .. } = record;
     let (usable, configuration) = (usable(record), configuration(record));
     format!(
-        "{usable}, slot {slot} of {n}, spacing {spacing}, speed {speed}, configuration {configuration}, control's ring {control:x} of {}, {} words",
+        "{usable}, slot {slot} of {n}, spacing {spacing}, speed {speed}, configuration {configuration}, control's ring {control:#x} of {}, {} words",
         given.len(),
         list.len()
     )
@@ -32,7 +32,7 @@ fn numbers(record: &Record) -> String {
 
 fn endpoint(endpoint: Option<&Endpoint>) -> String {
     endpoint.map_or("none".to_string(), |Endpoint { ring, owner, active, .. }| {
-        format!("interface {owner}, ring {ring:x}, {}", state(*active))
+        format!("interface {owner}, ring {ring:#x}, {}", state(*active))
     })
 }
 
@@ -53,7 +53,7 @@ fn beside<'a, T>(was: &'a [T], is: &'a [T], key: impl Fn(&T) -> u8) -> Vec<(u8, 
 fn store(lines: &mut Vec<String>, was: &Record, is: &Record) {
     let text = |record: &Record| {
         let free = record.free();
-        let first = free.first().map_or(String::new(), |ring| format!(", the lowest {ring:x}"));
+        let first = free.first().map_or(String::new(), |ring| format!(", the lowest {ring:#x}"));
         format!("{} of {}{first}", free.len(), record.given.len())
     };
     if was.free() != is.free() {
@@ -82,10 +82,10 @@ fn maps(lines: &mut Vec<String>, call: &Call, was: &Record, is: &Record) {
         }
     }
     for ring in is.quarantined.iter().filter(|ring| !was.quarantined.contains(ring)) {
-        lines.push(format!("ring {ring:x} is quarantined: {}", doubt(call)));
+        lines.push(format!("ring {ring:#x} is quarantined: {}", doubt(call)));
     }
     for ring in was.quarantined.iter().filter(|ring| !is.quarantined.contains(ring)) {
-        lines.push(format!("ring {ring:x} is quarantined no more"));
+        lines.push(format!("ring {ring:#x} is quarantined no more"));
     }
 }
 
@@ -102,7 +102,7 @@ fn changes(call: &Call, was: &Record, is: &Record) -> Vec<String> {
     number("spacing ", was.spacing.to_string(), is.spacing.to_string());
     number("speed ", was.speed.to_string(), is.speed.to_string());
     number("configuration ", configuration(was), configuration(is));
-    number("control's ring ", format!("{:x}", was.control), format!("{:x}", is.control));
+    number("control's ring ", format!("{:#x}", was.control), format!("{:#x}", is.control));
     let control = |record: &Record| state(!record.control_revoked).to_string();
     number("control ", control(was), control(is));
     if was.list != is.list {

@@ -185,6 +185,10 @@ impl Kind for Conversion {
         room(out, self.room, SETTINGS_ROOM);
     }
 
+    fn number(&self, functions: &dyn Functions) -> u8 {
+        self.ask(functions).0.number
+    }
+
     fn run(&self, functions: &dyn Functions, out: &mut String) {
         let (Reply { number, count }, bytes) = self.ask(functions);
         let _ = writeln!(out, "answer {number} {count}");

@@ -9,21 +9,31 @@ pub type Parsed<T> = Result<T, String>;
 /// The most words or bytes of memory that a call or a case may be given, so that a slip of the pen asks for no gigabytes.
 pub const MOST: usize = 1 << 24;
 
+/// What a hexadecimal number may begin with, and begins with where a decimal one might stand.
+const MARK: &str = "0x";
+
 pub fn word<'a>(words: &mut Words<'a>, what: &str) -> Parsed<&'a str> {
     words.next().ok_or_else(|| format!("{what} is missing"))
 }
 
-pub fn decimal<T: TryFrom<u64>>(text: &str) -> Parsed<T> {
-    let all_digits = !text.is_empty() && text.bytes().all(|b| b.is_ascii_digit());
-    let value = text.parse::<u64>().ok().filter(|_| all_digits);
-    value.and_then(|v| T::try_from(v).ok()).ok_or_else(|| format!("'{text}' is not a decimal number, or out of range"))
+/// A number of at most so many digits.
+fn digits(text: &str, radix: u32, most: usize) -> Option<u64> {
+    let fits = (1..=most).contains(&text.len()) && text.chars().all(|c| c.is_digit(radix));
+    u64::from_str_radix(text, radix).ok().filter(|_| fits)
 }
 
+/// A decimal number, or a hexadecimal one with its mark.
+pub fn decimal<T: TryFrom<u64>>(text: &str) -> Parsed<T> {
+    let (value, kind) = match text.strip_prefix(MARK) {
+        Some(rest) => (digits(rest, 16, 16), "hexadecimal"),
+        None => (digits(text, 10, text.len()), "decimal"),
+    };
+    value.and_then(|v| T::try_from(v).ok()).ok_or_else(|| format!("'{text}' is not a {kind} number, or out of range"))
+}
+
+/// A hexadecimal number, with its mark or without.
 pub fn hex(text: &str, most: usize) -> Parsed<u64> {
-    let fits = (1..=most).contains(&text.len()) && text.bytes().all(|b| b.is_ascii_hexdigit());
-    u64::from_str_radix(text, 16)
-        .ok()
-        .filter(|_| fits)
+    digits(text.strip_prefix(MARK).unwrap_or(text), 16, most)
         .ok_or_else(|| format!("'{text}' is not a hexadecimal number of at most {most} digits"))
 }
 
@@ -32,7 +42,7 @@ pub fn number<T: TryFrom<u64>>(words: &mut Words) -> Parsed<T> {
 }
 
 pub fn flag(text: &str) -> Parsed<bool> {
-    match text {
+    match text.strip_prefix(MARK).unwrap_or(text) {
         "0" => Ok(false),
         "1" => Ok(true),
         _ => Err(format!("'{text}' is neither 0 nor 1")),
@@ -47,13 +57,26 @@ pub fn length(words: &mut Words) -> Parsed<usize> {
     Ok(len)
 }
 
+/// Bytes that stand together, of two digits each.
+fn group(text: &str) -> Option<Vec<u8>> {
+    let (pairs, rest) = text.as_bytes().as_chunks::<2>();
+    let digit = |b: u8| (b as char).to_digit(16).map(|digit| digit as u8);
+    let byte = |pair: &[u8; 2]| Some(digit(pair[0])? << 4 | digit(pair[1])?);
+    if rest.is_empty() { pairs.iter().map(byte).collect() } else { None }
+}
+
+/// Bytes, with blanks and colons between them where wanted.
 pub fn bytes(words: &mut Words) -> Parsed<Vec<u8>> {
-    let text = words.next().unwrap_or("");
-    if !text.len().is_multiple_of(2) || !text.bytes().all(|b| b.is_ascii_hexdigit()) {
-        return Err("bytes are two hexadecimal digits each".to_string());
+    let mut found = Vec::new();
+    for text in words.by_ref().flat_map(|word| word.split(':')) {
+        let bytes = match text.strip_prefix(MARK) {
+            Some("") => None,
+            Some(rest) => group(rest),
+            None => group(text),
+        };
+        found.extend(bytes.ok_or("bytes are two hexadecimal digits each")?);
     }
-    let digit = |b: u8| (b as char).to_digit(16).unwrap_or(0) as u8;
-    Ok(text.as_bytes().chunks(2).map(|p| digit(p[0]) << 4 | digit(p[1])).collect())
+    Ok(found)
 }
 
 pub fn list<T>(words: &mut Words, each: impl Fn(&str) -> Parsed<T>) -> Parsed<Vec<T>> {

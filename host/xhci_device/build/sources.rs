@@ -10,15 +10,6 @@ use crate::sha256::sha256;
 /// The archives: the calls on a slot, and the functions outside a slot.
 pub const ARCHIVES: [&str; 2] = ["xhci_device", "xhci_functions"];
 
-/// Where host/archives leaves them in the repository.
-pub const OWN: &str = "target/staticlib";
-
-/// Whether a folder is that one.
-pub fn is_own(folder: &Path, root: &Path) -> bool {
-    let top = folder.ancestors().nth(2).and_then(|top| top.canonicalize().ok());
-    folder.ends_with(OWN) && top.is_some_and(|top| top == root)
-}
-
 /// The crate of the repository that is built as an archive: it exports the calls of the library of the archive's name.
 pub fn exporting(name: &str) -> String {
     format!("{name}_c")

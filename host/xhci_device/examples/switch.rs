@@ -103,7 +103,7 @@ fn main() {
     slot.run("bring-up of slot 1", Call::BringUp(port), None);
     slot.run("claim of interface 0, alternate 0", Call::Claim { interface: 0, alternate: 0 }, None);
     let failing = Command::SetInterface { interface: 0, alternate: 1 };
-    let asked = slot.record.ask(&slot.ctx, &slot.routes, &[0; 64], 0, 1).expect("an accepted ask");
+    let asked = slot.record.ask_driven(&slot.ctx, &slot.routes, 0, 1).expect("an accepted ask");
     show(&asked);
     slot.run("commit of interface 0, alternate 1", Call::Commit(asked), Some(failing));
     slot.run("release of interface 0", Call::Release { interface: 0 }, None);

@@ -3,8 +3,9 @@
 use core::fmt;
 
 /// What a call answers, in the order of their numbers. Those from `ContextLength` to `Unusable`,
-/// `QueueFull`, `TooFewRings`, `OutdatedAsk`, `NotClaimed` and `Companion` are refusals: the call has sent nothing and changed nothing.
-/// After `InterfaceBroken`, `Cut` and any bring-up that was not accepted the record is unusable.
+/// `QueueFull`, `TooFewRings`, `OutdatedAsk`, `NotClaimed` and `Companion` are refusals: the call has sent nothing and changed nothing,
+/// but that [`Record::bring_up`](crate::Record::bring_up) returns the empty record. (Driven, a bring-up that is refused leaves the
+/// record as it was.) After `InterfaceBroken`, `Cut` and any other bring-up that was not accepted the record is unusable.
 ///
 /// ```
 /// use xhci_device::Answer;
@@ -12,7 +13,9 @@ use core::fmt;
 /// assert_eq!(Answer::of(13, 7), Some(Answer::Failed(7)));
 /// assert_eq!(Answer::Failed(7).to_string(), "a command failed, with code 7");
 /// ```
-#[derive(Clone, Copy, Debug, PartialEq, Eq)]
+#[derive(Clone, Copy, Debug, PartialEq, Eq, Hash)]
+#[must_use]
+#[non_exhaustive]
 pub enum Answer {
     /// Everything was done.
     Accepted,
@@ -134,6 +137,49 @@ impl Answer {
             _ => 0,
         }
     }
+
+    /// An error, unless it is `Accepted`.
+    ///
+    /// ```
+    /// use std::error::Error;
+    /// use xhci_device::{Answer, Bus, Call, Pending, Record, READ_WORDS, read_descriptors};
+    ///
+    /// fn claim(record: &mut Record, ctx: &mut [u8], routes: &mut [u64], bus: &mut impl Bus) -> Result<(), Box<dyn Error>> {
+    ///     Pending::new(record, ctx, Call::Claim { interface: 0, alternate: 0 }).run(routes, bus).ok()?;
+    ///     read_descriptors(&[9, 2, 9, 0, 0, 1, 0, 0x80, 50], record.port_speed(), &mut [0; READ_WORDS])?;
+    ///     Ok(())
+    /// }
+    /// # assert_eq!((Answer::Accepted.ok(), Answer::Cut.ok()), (Ok(()), Err(Answer::Cut)));
+    /// ```
+    pub fn ok(self) -> Result<(), Answer> {
+        match self {
+            Answer::Accepted => Ok(()),
+            answer => Err(answer),
+        }
+    }
+}
+
+/// What a call on a [`Record`](crate::Record) answers, and how many words it has logged.
+///
+/// ```
+/// use xhci_device::{Answer, Answered, BringUp, Memory, Record};
+///
+/// # let (mut ctx, mut routes, mut log) = ([0; 1056], [0; 64], [0; 64]);
+/// # let args = BringUp { slot: xhci_device::SlotId(1), n: 1, speed: 3, parent: None, port: 1, root_port: 1,
+/// #     rings: &[0x1000, 0x2000], header: 8, packet: 64, value: 0, hubs: &[], list: &[0x0040_0000, 0x4000_0000] };
+/// let memory = Memory { ctx: &mut ctx, routes: &mut routes, log: &mut log, outcomes: &[0; 64] };
+/// let (record, Answered { answer, count }) = Record::bring_up(memory, &args);
+/// answer.ok()?;
+/// assert_eq!((record.slot().0, log[..count].len()), (1, 9));
+/// # Ok::<(), Answer>(())
+/// ```
+#[derive(Clone, Copy, Debug, PartialEq, Eq, Hash)]
+#[must_use]
+pub struct Answered {
+    /// The answer.
+    pub answer: Answer,
+    /// How many words of the log are the call's.
+    pub count: usize,
 }
 
 /// In words, as host/include/xhci_device.h names the answers; a failure with its code.

@@ -8,25 +8,25 @@ use crate::layout::EP_ROOM;
 /// commit takes it and makes that claim, unless an ask would show something else by then. Of a refused ask there is none.
 ///
 /// ```
-/// use xhci_device::{Answer, Dci, Memory};
+/// use xhci_device::{Answer, Answered, Dci, Memory};
 ///
 /// # let (mut ctx, mut routes, mut log) = ([0; 1056], [0; 64], [0; 64]);
 /// # let memory = xhci_device::Memory { ctx: &mut ctx, routes: &mut routes, log: &mut log, outcomes: &[0; 64] };
 /// # let args = xhci_device::BringUp { slot: xhci_device::SlotId(1), n: 1, speed: 3, parent: None, port: 1,
 /// #     root_port: 1, rings: &[0x1000, 0x2000, 0x3000], header: 8, packet: 64, value: 0, hubs: &[],
 /// #     list: &[0x0040_0000, 0x4000_0000, 0xA384_0410, 0x4000_4000, 0xA384_0410] };
-/// # let (mut record, _, _) = xhci_device::Record::bring_up(memory, &args);
+/// # let (mut record, _) = xhci_device::Record::bring_up(memory, &args);
 /// let asked = record.ask(&ctx, &routes, &log, 0, 1)?;
 /// assert_eq!((asked.interface(), asked.alternate()), (0, 1));
 /// assert!(asked.added().eq([Dci(3)]) && asked.add_flags() == 1 << 3 && asked.rings() == [0x2000]);
 ///
 /// let memory = Memory { ctx: &mut ctx, routes: &mut routes, log: &mut log, outcomes: &[0; 64] };
-/// record.claim(memory, 0, 0); // draws that ring: now Dci 3 would be dropped, too, and added on another
+/// record.claim(memory, 0, 0).answer.ok()?; // draws that ring: now Dci 3 would be dropped, too, and added on another
 /// let memory = Memory { ctx: &mut ctx, routes: &mut routes, log: &mut log, outcomes: &[0; 64] };
-/// assert_eq!(record.commit(memory, asked), (Answer::OutdatedAsk, 0));
+/// assert_eq!(record.commit(memory, asked), Answered { answer: Answer::OutdatedAsk, count: 0 });
 /// # Ok::<(), Answer>(())
 /// ```
-#[derive(Clone, Debug, PartialEq, Eq)]
+#[derive(Clone, Debug, PartialEq, Eq, Hash)]
 pub struct Asked {
     pub(crate) interface: u8,
     pub(crate) alternate: u8,

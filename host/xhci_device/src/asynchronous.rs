@@ -117,25 +117,25 @@ impl Pending<'_> {
     /// #     list: &[0x0040_0000, 0x4000_0000, 0xA384_0410] };
     /// # let (mut record, ..) = xhci_device::Record::bring_up(memory, &args);
     /// let routes = RefCell::new(routes);
-    /// let mut context = Context::from_waker(Waker::noop());
+    /// let (mut bus, mut context) = (Slow, Context::from_waker(Waker::noop()));
     /// let claim = Call::Claim { interface: 0, alternate: 0 };
-    /// let mut pending = Pending::new(&mut record, &mut ctx, claim.clone());
+    /// let mut pending = Pending::new(&mut record, &mut ctx, claim);
     /// {
-    ///     let mut run = pin!(pending.run_async(&routes, &mut Slow));
-    ///     assert!(run.as_mut().poll(&mut context).is_pending()); // Configure is under way
+    ///     let run = pin!(pending.run_async(&routes, &mut bus));
+    ///     assert!(run.poll(&mut context).is_pending()); // Configure is under way
     /// }
     /// assert!(pending.record().quarantined().eq([0x2000]) && !record.is_usable() && record.is_up());
     ///
     /// let mut pending = Pending::new(&mut record, &mut ctx, Call::Disconnect);
-    /// let mut run = pin!(pending.run_async(&routes, &mut Slow));
-    /// assert!(run.as_mut().poll(&mut context).is_pending()); // Disable is under way
-    /// assert_eq!(run.as_mut().poll(&mut context), Poll::Ready(Answer::Accepted));
-    /// assert_eq!(routes.into_inner(), [0; 64]);
+    /// let mut run = pin!(pending.run_async(&routes, &mut bus));
+    /// while run.as_mut().poll(&mut context) != Poll::Ready(Answer::Accepted) {}
+    /// assert_eq!(*routes.borrow(), [0; 64]);
     /// ```
     pub async fn run_async<R: Routes + ?Sized, B: AsyncBus>(&mut self, routes: &R, bus: &mut B) -> Answer {
         loop {
             let next = routes.with(|routes| match self.next(routes) {
                 Next::Send(due) => Ok(due.job()),
+                Next::Untold => Err(Answer::Cut),
                 Next::Answer(answer) => Err(answer),
             });
             bus.stepped(self.record());

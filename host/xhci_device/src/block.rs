@@ -23,7 +23,8 @@ pub enum Context {
 /// let refusal = endpoint_block(&[0; 1056], &[0; 1024], Context::Input, Dci(0)).unwrap_err();
 /// assert_eq!((refusal.number(), refusal.to_string().as_str()), (4, "the Dci is not 1 to 31"));
 /// ```
-#[derive(Clone, Copy, Debug, PartialEq, Eq)]
+#[derive(Clone, Copy, Debug, PartialEq, Eq, Hash)]
+#[non_exhaustive]
 pub enum BlockRefusal {
     /// The contexts have not 1,056 and 1,024 bytes, nor 2,112 and 2,048.
     ContextLength,

@@ -4,12 +4,14 @@ use core::num::NonZeroU8;
 
 use crate::{Command, Dci, Record, SlotId, route_index};
 
-/// How a command went: done, with what it read, or failed, with a code of the bus's own. [`Bus`] shows both.
+/// How a command went: done, with what it read, or failed, with a code of the bus's own, 1 to 254 (255 counts as 254).
+/// [`Bus`] shows both.
 pub type Outcome<'a> = Result<Read<'a>, NonZeroU8>;
 
 /// The code of a command that was done but brought what a bring-up cannot use: no byte of a configuration
 /// value, less than the 18 bytes of a device descriptor, more than 8 configurations, malformed descriptors, words that
-/// are not one configuration, or words with which the list is not valid.
+/// are not one configuration, or words with which the list is not valid. [`Pending::unreadable`](crate::Pending::unreadable)
+/// says which.
 ///
 /// ```
 /// use xhci_device::{Answer, Attached, Call, Next, Pending, Read, Record, SlotId, UNREADABLE};
@@ -20,11 +22,12 @@ pub type Outcome<'a> = Result<Read<'a>, NonZeroU8>;
 /// let mut pending = Pending::new(&mut record, &mut ctx, Call::BringUp(attached));
 /// let answer = loop {
 ///     match pending.next(&mut routes) {
-///         Next::Send(_) => pending.outcome(Ok(Read::Bytes(&[64; 8]))), // too few for ReadDevice
 ///         Next::Answer(answer) => break answer,
+///         _ => pending.outcome(Ok(Read::Bytes(&[64; 8]))), // too few for ReadDevice
 ///     }
 /// };
 /// assert_eq!(answer, Answer::Failed(UNREADABLE.get()));
+/// assert_eq!(pending.unreadable().unwrap().to_string(), "ReadDevice: 8 bytes, and 18 are needed");
 /// ```
 pub const UNREADABLE: NonZeroU8 = NonZeroU8::MAX;
 
@@ -64,7 +67,8 @@ pub const UNREADABLE: NonZeroU8 = NonZeroU8::MAX;
 /// # assert_eq!(pending.run(&mut routes, &mut bus), Answer::Accepted);
 /// # assert!(record.list().eq(bus.words));
 /// ```
-#[derive(Clone, Copy, Debug, PartialEq, Eq)]
+#[derive(Clone, Copy, Debug, PartialEq, Eq, Hash)]
+#[non_exhaustive]
 pub enum Read<'a> {
     /// There was nothing to read.
     Nothing,
@@ -99,7 +103,7 @@ pub enum Read<'a> {
 /// # let args = xhci_device::BringUp { slot: xhci_device::SlotId(1), n: 1, speed: 3, parent: None, port: 1,
 /// #     root_port: 1, rings: &[0x1000, 0x2000, 0x3000], header: 8, packet: 64, value: 0, hubs: &[],
 /// #     list: &[0x0040_0000, 0x4000_0000, 0xA384_0410, 0x4000_4000, 0xA384_0410] };
-/// # let (mut record, _, _) = xhci_device::Record::bring_up(memory, &args);
+/// # let (mut record, _) = xhci_device::Record::bring_up(memory, &args);
 /// let mut claim = |alternate| {
 ///     let call = Call::Claim { interface: 0, alternate };
 ///     Pending::new(&mut record, &mut ctx, call).run(&mut routes, &mut Stalls)
@@ -131,9 +135,9 @@ pub trait Bus {
 /// # let args = xhci_device::BringUp { slot: xhci_device::SlotId(1), n: 1, speed: 3, parent: None, port: 1,
 /// #     root_port: 1, rings: &[0x1000, 0x2000, 0x3000], header: 8, packet: 64, value: 0, hubs: &[],
 /// #     list: &[0x0040_0000, 0x4000_0000, 0xA384_0410, 0x4000_4000, 0xA384_0410] };
-/// # let (mut record, _, _) = xhci_device::Record::bring_up(memory, &args);
+/// # let (mut record, _) = xhci_device::Record::bring_up(memory, &args);
 /// # let memory = xhci_device::Memory { ctx: &mut ctx, routes: &mut routes, log: &mut log, outcomes: &[0; 64] };
-/// # record.claim(memory, 0, 0);
+/// # let _ = record.claim(memory, 0, 0);
 /// let mut pending = Pending::new(&mut record, &mut ctx, Call::Claim { interface: 0, alternate: 1 });
 /// let Next::Send(due) = pending.next(&mut routes) else { panic!() };
 /// assert_eq!(due.command, Command::Stop(Dci(3)));

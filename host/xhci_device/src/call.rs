@@ -6,7 +6,7 @@ use crate::SlotId;
 /// otherwise a failure code. Without one the call is cut.
 ///
 /// ```
-/// use xhci_device::{Answer, Command, Memory};
+/// use xhci_device::{Answer, Answered, Command, Memory};
 ///
 /// let (mut ctx, mut log) = ([0; 33 * 32], [0; 64]);
 /// let mut routes = [0; 32 * (1 + 1)]; // of one slot
@@ -14,10 +14,10 @@ use crate::SlotId;
 /// # let args = xhci_device::BringUp { slot: xhci_device::SlotId(1), n: 1, speed: 3, parent: None, port: 1,
 /// #     root_port: 1, rings: &[0x1000, 0x2000], header: 8, packet: 64, value: 0, hubs: &[],
 /// #     list: &[0x0040_0000, 0x4000_0000, 0xA384_0410] };
-/// # let (mut record, _, _) = xhci_device::Record::bring_up(memory, &args);
+/// # let (mut record, _) = xhci_device::Record::bring_up(memory, &args);
 ///
 /// let memory = Memory { ctx: &mut ctx, routes: &mut routes, log: &mut log, outcomes: &[0] };
-/// assert_eq!(record.claim(memory, 0, 0), (Answer::Cut, 2));
+/// assert_eq!(record.claim(memory, 0, 0), Answered { answer: Answer::Cut, count: 2 });
 /// assert_eq!([log[0], log[1]].map(Command::of), [
 ///     Some(Command::Configure),
 ///     Some(Command::SetInterface { interface: 0, alternate: 0 }), // of which no outcome was known
@@ -60,8 +60,8 @@ pub struct Memory<'a> {
 /// };
 /// let (mut ctx, mut routes, mut log) = ([0; 1056], [0; 96], [0; 64]);
 /// let memory = Memory { ctx: &mut ctx, routes: &mut routes, log: &mut log, outcomes: &[0; 64] };
-/// let (record, answer, _) = Record::bring_up(memory, &mouse);
-/// assert_eq!((answer, record.control()), (Answer::Accepted, 0x1000));
+/// let (record, answered) = Record::bring_up(memory, &mouse);
+/// assert_eq!((answered.answer, record.control()), (Answer::Accepted, 0x1000));
 /// assert_eq!(ctx[32], 0x03); // the route string: port 3 of the hub
 /// assert_eq!(ctx[40..42], [1, 3]); // the transaction translator: slot 1, port 3
 /// ```

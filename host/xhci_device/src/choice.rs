@@ -8,7 +8,7 @@ use crate::Setting;
 pub const MOST_NAMES: usize = 8;
 
 /// One alternate setting for each interface that was named, in the order of the names.
-#[derive(Clone, Copy, Debug, PartialEq, Eq)]
+#[derive(Clone, Copy, Debug, PartialEq, Eq, Hash)]
 pub struct Chosen {
     pub(crate) names: [u8; MOST_NAMES],
     pub(crate) alternates: [u8; MOST_NAMES],
@@ -36,7 +36,8 @@ impl Chosen {
 /// let refusal = Record::new().choose(&[0], 3).unwrap_err();
 /// assert_eq!((refusal.number(), refusal.to_string().as_str()), (12, "the record is unusable or not sound"));
 /// ```
-#[derive(Clone, Copy, Debug, PartialEq, Eq)]
+#[derive(Clone, Copy, Debug, PartialEq, Eq, Hash)]
+#[non_exhaustive]
 pub enum ChoiceRefusal {
     /// The record is marked unusable or not sound.
     Unusable,

@@ -15,6 +15,7 @@ use crate::library::{self, Logged};
 /// assert_eq!(Command::of(0), None);
 /// ```
 #[derive(Clone, Copy, Debug, PartialEq, Eq, Hash)]
+#[non_exhaustive]
 pub enum Command {
     /// The Address Device Command, over the input context.
     Address,
@@ -99,8 +100,8 @@ impl fmt::Display for Command {
             Command::Address => f.write_str("Address"),
             Command::Evaluate => f.write_str("Evaluate"),
             Command::Configure => f.write_str("Configure"),
-            Command::Stop(dci) => write!(f, "Stop Dci {}", dci.0),
-            Command::Resume(dci) => write!(f, "Resume Dci {}", dci.0),
+            Command::Stop(dci) => write!(f, "Stop {dci}"),
+            Command::Resume(dci) => write!(f, "Resume {dci}"),
             Command::SetInterface { interface, alternate } => {
                 write!(f, "SetInterface {interface}, alternate {alternate}")
             }

@@ -18,7 +18,8 @@ pub const MOST_SLOTS: usize = 32;
 /// let refusal = order.submit(SlotId(7)).unwrap_err();
 /// assert_eq!((refusal.number(), refusal.to_string().as_str()), (27, "the slot has a call waiting"));
 /// ```
-#[derive(Clone, Copy, Debug, PartialEq, Eq)]
+#[derive(Clone, Copy, Debug, PartialEq, Eq, Hash)]
+#[non_exhaustive]
 pub enum SubmitRefusal {
     /// A call of this slot is waiting.
     AlreadyWaiting,
@@ -322,12 +323,12 @@ impl<'a> Dispatcher<'a> {
     /// #     root_port: 1, rings: &[0x1000], header: 8, packet: 64, value: 0, hubs: &[], list: &[0x0040_0000, 0x4000_0000] };
     /// # let (mut record, ..) = xhci_device::Record::bring_up(memory, &args);
     /// # let routes = std::cell::RefCell::new(routes);
-    /// # let mut context = Context::from_waker(Waker::noop());
+    /// # let (mut bus, mut context) = (Hangs, Context::from_waker(Waker::noop()));
     /// let mut dispatcher = Dispatcher::new();
     /// let call = Call::SetConfiguration { value: 1 };
     /// dispatcher.submit(Waiting { record: &mut record, ctx: &mut ctx, call }).unwrap();
     /// {
-    ///     let turn = pin!(dispatcher.turn_async(&routes, &mut Hangs));
+    ///     let turn = pin!(dispatcher.turn_async(&routes, &mut bus)); // which has no end for its command
     ///     assert!(turn.poll(&mut context).is_pending());
     /// }
     /// let cut = dispatcher.take_cut().unwrap();

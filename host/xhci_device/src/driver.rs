@@ -4,11 +4,22 @@
 //! with the outcomes so far, over what it began with: record, context and the slot's own routes are put back
 //! first. Where it is cut, the last command it logged is the next one to send, over the context that it left.
 
-use crate::learned::Learned;
-use crate::{Answer, Asked, BringUp, Bus, Command, Due, Memory, Outcome, Reason, Record, SlotId, UNREADABLE};
+mod scenario;
+
+use core::fmt;
+
+use crate::debug::Listed;
+use crate::learned::{Learned, Numbers};
+use crate::{
+    Answer, Answered, Attached, BringUp, Bus, Call, Cause, Command, Due, Memory, Outcome, Reason, Record, SlotId,
+    UNREADABLE, Unreadable, library,
+};
 
 /// How many commands a call may send.
-const COMMANDS: usize = 64;
+pub(crate) const COMMANDS: usize = 64;
+
+/// The highest code of a failed command: the one above it is [`UNREADABLE`].
+const HIGHEST_CODE: u8 = 254;
 
 /// The longest input context: 33 blocks of 64 bytes.
 const CONTEXT: usize = 2112;
@@ -16,127 +27,16 @@ const CONTEXT: usize = 2112;
 /// Routes of one slot.
 const ROUTES_OF_SLOT: usize = 32;
 
-/// A device that is to be brought up, as far as it is known before it is asked.
-///
-/// ```
-/// use xhci_device::{Answer, Attached, Call, Dci, Next, Pending, Record, SlotId};
-///
-/// let port = Attached {
-///     slot: SlotId(1), // of Enable Slot
-///     n: 1,
-///     speed: 3, // of PORTSC
-///     parent: None,
-///     port: 5,
-///     root_port: 5,
-///     rings: &[0x3000, 0x1000, 0x2000],
-///     hubs: &[],
-/// };
-/// let (mut record, mut ctx, mut routes) = (Record::new(), [0; 1056], [0; 64]);
-/// let unknown = Call::BringUp(Attached { speed: 6, ..port });
-/// let mut pending = Pending::new(&mut record, &mut ctx, unknown);
-/// assert!(matches!(pending.next(&mut routes), Next::Answer(Answer::Speed))); // nothing was sent
-///
-/// let mut pending = Pending::new(&mut record, &mut ctx, Call::BringUp(port));
-/// let Next::Send(due) = pending.next(&mut routes) else { panic!() };
-/// assert_eq!(due.command.to_string(), "Address");
-/// assert_eq!(due.ring(Dci::CONTROL), 0x1000);
-/// ```
-#[derive(Clone, Copy, Debug)]
-pub struct Attached<'a> {
-    /// The slot that it gets.
-    pub slot: SlotId,
-    /// N, the number of slots that the routes serve.
-    pub n: usize,
-    /// xHCI's speed id, 1 to 5.
-    pub speed: u8,
-    /// The hub that the device is on: its place in `hubs`.
-    pub parent: Option<usize>,
-    /// The port on that hub.
-    pub port: u8,
-    /// The port of the root hub that the way to the device begins at.
-    pub root_port: u8,
-    /// The rings that the slot is given: 1 to 64, in any order. The lowest is control's; claims draw the others.
-    pub rings: &'a [u64],
-    /// Hub words ([`Hub::word`](crate::Hub::word)), of every hub between the root hub and the device at least.
-    pub hubs: &'a [u64],
-}
-
-/// A call that is to be driven.
-///
-/// ```
-/// use xhci_device::{Answer, Bus, Call, Due, Outcome, Pending, Read};
-///
-/// struct Does;
-///
-/// impl Bus for Does {
-///     fn send(&mut self, _: &Due<'_>) -> Outcome<'_> {
-///         Ok(Read::Nothing)
-///     }
-/// }
-///
-/// # let (mut ctx, mut routes, mut log) = ([0; 1056], [0; 64], [0; 64]);
-/// # let memory = xhci_device::Memory { ctx: &mut ctx, routes: &mut routes, log: &mut log, outcomes: &[0; 64] };
-/// # let args = xhci_device::BringUp { slot: xhci_device::SlotId(1), n: 1, speed: 3, parent: None, port: 1,
-/// #     root_port: 1, rings: &[0x1000, 0x2000], header: 8, packet: 64, value: 0, hubs: &[],
-/// #     list: &[0x0040_0000, 0x4000_0000, 0xA384_0410] };
-/// # let (mut record, _, _) = xhci_device::Record::bring_up(memory, &args);
-/// let asked = record.ask(&ctx, &routes, &log, 0, 0)?;
-/// let calls = [
-///     Call::HubUpdate { ports: 4, multi: false, ns: 666 },
-///     Call::Commit(asked),
-///     Call::Release { interface: 0 },
-///     Call::SetConfiguration { value: 1 },
-///     Call::Claim { interface: 0, alternate: 0 },
-///     Call::Disconnect,
-/// ];
-/// for call in calls {
-///     let answer = Pending::new(&mut record, &mut ctx, call).run(&mut routes, &mut Does);
-///     assert_eq!(answer, Answer::Accepted);
-/// }
-/// assert!(!record.is_up() && routes == [0; 64]);
-/// # Ok::<(), Answer>(())
-/// ```
-#[derive(Clone, Debug)]
-pub enum Call<'a> {
-    /// Makes the record, whatever it was before.
-    BringUp(Attached<'a>),
-    /// The claim of an interface's alternate setting.
-    Claim {
-        /// The interface.
-        interface: u8,
-        /// Its alternate setting.
-        alternate: u8,
-    },
-    /// The claim that an ask has shown ([`Record::ask`]), unless another would be shown now.
-    Commit(Asked),
-    /// The release of an interface.
-    Release {
-        /// The interface.
-        interface: u8,
-    },
-    /// The setting of a configuration, which ends all held settings.
-    SetConfiguration {
-        /// The configuration's value.
-        value: u8,
-    },
-    /// The hub update.
-    HubUpdate {
-        /// The number of ports.
-        ports: u8,
-        /// Whether each port has its own transaction translator.
-        multi: bool,
-        /// Think time in nanoseconds.
-        ns: u32,
-    },
-    /// The unplugging, which disables the slot.
-    Disconnect,
-}
-
 /// What a pending call wants; [`Pending`] shows what is done with it.
 #[derive(Clone, Copy, Debug)]
+#[must_use]
+#[non_exhaustive]
 pub enum Next<'a> {
     /// This command is to be sent, and then its outcome told.
     Send(Due<'a>),
+    /// The outcome of the command that was to be sent was not told. Told, the call goes on; left, it is cut.
+    /// [`Pending::due`] shows the command.
+    Untold,
     /// The call has ended.
     Answer(Answer),
 }
@@ -153,7 +53,7 @@ pub enum Next<'a> {
 /// # let memory = xhci_device::Memory { ctx: &mut ctx, routes: &mut routes, log: &mut log, outcomes: &[0; 64] };
 /// # let args = xhci_device::BringUp { slot: xhci_device::SlotId(1), n: 1, speed: 3, parent: None, port: 1,
 /// #     root_port: 1, rings: &[0x1000], header: 8, packet: 64, value: 0, hubs: &[], list: &[0x0040_0000, 0x4000_0000] };
-/// # let (mut record, _, _) = Record::bring_up(memory, &args);
+/// # let (mut record, _) = Record::bring_up(memory, &args);
 /// let mut pending = Pending::new(&mut record, &mut ctx, Call::Claim { interface: 0, alternate: 0 });
 /// let Next::Send(due) = pending.next(&mut routes) else { panic!() };
 /// assert_eq!(due.command, Command::Configure); // sent over due.ctx; other slots' calls may run meanwhile
@@ -163,6 +63,7 @@ pub enum Next<'a> {
 /// pending.outcome(Ok(Read::Nothing));
 /// assert!(matches!(pending.next(&mut routes), Next::Answer(Answer::Accepted)));
 /// ```
+#[must_use]
 pub struct Pending<'a> {
     record: &'a mut Record,
     ctx: &'a mut [u8],
@@ -171,11 +72,12 @@ pub struct Pending<'a> {
     learned: Learned,
     log: [u32; COMMANDS],
     outcomes: [u8; COMMANDS],
-    /// How many outcomes are known, and how many words are logged.
+    /// How many outcomes are known, and with how many of them the call was run last.
     told: usize,
-    count: usize,
-    /// What the call answers with these outcomes.
-    answer: Answer,
+    played: usize,
+    /// What the call then answered.
+    answered: Answered,
+    unreadable: Option<Unreadable>,
     state: State,
 }
 
@@ -187,13 +89,13 @@ struct Begun {
     routes_len: usize,
 }
 
-#[derive(Clone, Copy)]
+#[derive(Clone, Copy, Debug)]
 enum State {
     New,
     /// A command is to be sent.
     Waits(Command),
     /// Its outcome was told.
-    Told,
+    Told(Command),
     Ended,
 }
 
@@ -214,52 +116,71 @@ impl<'a> Pending<'a> {
             log: [0; COMMANDS],
             outcomes: [0; COMMANDS],
             told: 0,
-            count: 0,
-            answer: Answer::Cut,
+            played: 0,
+            answered: Answered { answer: Answer::Cut, count: 0 },
+            unreadable: None,
             state: State::New,
         }
     }
 
-    /// Drives the call to its end.
+    /// Drives the call to its end. Where the outcome of a command is still to be told, nothing is sent, and it answers `Cut`.
     pub fn run<B: Bus + ?Sized>(&mut self, routes: &mut [u64], bus: &mut B) -> Answer {
         loop {
             let outcome = match self.next(routes) {
                 Next::Send(due) => bus.send(&due),
+                Next::Untold => return Answer::Cut,
                 Next::Answer(answer) => return answer,
             };
             self.outcome(outcome);
         }
     }
 
-    /// What the call wants now; asked twice, it says the same. The routes are those of all slots; in between, other
-    /// calls may have written to other slots'. Routes of another length than at the first step end the call, which
-    /// stays cut.
+    /// What the call wants now. The routes are those of all slots; in between, other calls may have written to other
+    /// slots'. Routes of another length than at the first step end the call, which stays cut. An archive that has records
+    /// of another number of words than [`Record::WORDS`] ends it at once, with `Unusable`, and nothing is run.
     pub fn next<'b>(&'b mut self, routes: &'b mut [u64]) -> Next<'b> {
         match self.state {
-            State::New => {
-                self.begin(routes);
-                self.step(routes);
-            }
-            State::Told if routes.len() == self.begun.routes_len => self.step(routes),
-            State::Told => (self.answer, self.state) = (Answer::RoutesLength, State::Ended),
-            State::Waits(_) | State::Ended => (),
+            State::New => self.begin(routes, library::record_words()),
+            State::Waits(_) => return Next::Untold,
+            State::Told(_) if routes.len() == self.begun.routes_len => self.step(routes),
+            State::Told(_) => (self.answered.answer, self.state) = (Answer::RoutesLength, State::Ended),
+            State::Ended => (),
         }
-        match self.state {
-            State::Waits(command) => Next::Send(self.due(command, routes)),
-            _ => Next::Answer(self.answer),
+        match self.due(routes) {
+            Some(due) => Next::Send(due),
+            None => Next::Answer(self.answered.answer),
         }
+    }
+
+    /// The command whose outcome is not told yet, over the routes of all slots.
+    ///
+    /// ```
+    /// use xhci_device::{Attached, Call, Command, Next, Pending, Read, Record};
+    ///
+    /// # let port = Attached { slot: xhci_device::SlotId(1), n: 1, speed: 3, parent: None, port: 1, root_port: 1,
+    /// #     rings: &[0x1000], hubs: &[] };
+    /// # let (mut record, mut ctx, mut routes) = (Record::new(), [0; 1056], [0; 64]);
+    /// let mut pending = Pending::new(&mut record, &mut ctx, Call::BringUp(port));
+    /// assert!(matches!(pending.next(&mut routes), Next::Send(due) if due.command == Command::Address));
+    /// assert!(matches!(pending.next(&mut routes), Next::Untold));
+    /// assert_eq!(pending.due(&routes).map(|due| due.command), Some(Command::Address));
+    /// pending.outcome(Ok(Read::Nothing));
+    /// assert!(matches!(pending.next(&mut routes), Next::Send(due) if due.command == Command::ReadHeader));
+    /// ```
+    pub fn due<'b>(&'b self, routes: &'b [u64]) -> Option<Due<'b>> {
+        let State::Waits(command) = self.state else { return None };
+        Some(Due { command, slot: self.slot(), ctx: self.ctx, record: self.record, routes, log: self.log() })
     }
 
     /// Takes the outcome of the command that `next` wanted sent. Where none was, it is not taken.
     pub fn outcome(&mut self, outcome: Outcome<'_>) {
         let State::Waits(command) = self.state else { return };
-        let code = match outcome {
-            Ok(read) => self.learned.take(command, read).map_or(UNREADABLE.get(), |()| 0),
-            Err(code) => code.get(),
+        self.outcomes[self.told] = match outcome {
+            Ok(read) => self.learned.take(command, read).map_or_else(|cause| self.cannot_use(command, cause), |()| 0),
+            Err(code) => code.get().min(HIGHEST_CODE),
         };
-        self.outcomes[self.told] = code;
         self.told += 1;
-        self.state = State::Told;
+        self.state = State::Told(command);
     }
 
     /// The record as the call leaves it so far.
@@ -274,12 +195,33 @@ impl<'a> Pending<'a> {
 
     /// The words logged so far: of every command that was to be sent, the one that waits included.
     pub fn log(&self) -> &[u32] {
-        &self.log[..self.count]
+        &self.log[..self.answered.count]
     }
 
     /// The outcomes so far.
     pub fn outcomes(&self) -> &[u8] {
         &self.outcomes[..self.told]
+    }
+
+    /// What a bring-up has read that it cannot use: why an outcome is [`UNREADABLE`].
+    ///
+    /// ```
+    /// use xhci_device::{Attached, Call, Cause, Command, Next, Pending, Read, Record};
+    ///
+    /// # let port = Attached { slot: xhci_device::SlotId(1), n: 1, speed: 3, parent: None, port: 1, root_port: 1,
+    /// #     rings: &[0x1000], hubs: &[] };
+    /// # let (mut record, mut ctx, mut routes) = (Record::new(), [0; 1056], [0; 64]);
+    /// let mut pending = Pending::new(&mut record, &mut ctx, Call::BringUp(port));
+    /// while let Next::Send(due) = pending.next(&mut routes) {
+    ///     assert_ne!(due.command, Command::ReadConfig(0));
+    ///     pending.outcome(Ok(Read::Bytes(&[18, 1, 0, 2, 0, 0, 0, 64]))); // too few for ReadDevice
+    /// }
+    /// let unreadable = pending.unreadable().unwrap();
+    /// assert_eq!((unreadable.command, unreadable.cause), (Command::ReadDevice, Cause::TooShort { had: 8, wanted: 18 }));
+    /// assert_eq!(unreadable.to_string(), "ReadDevice: 8 bytes, and 18 are needed");
+    /// ```
+    pub fn unreadable(&self) -> Option<Unreadable> {
+        self.unreadable
     }
 
     /// Why a claim or a commit that has ended got its answer. None before its end, and of any other call.
@@ -291,7 +233,7 @@ impl<'a> Pending<'a> {
     /// # let memory = xhci_device::Memory { ctx: &mut ctx, routes: &mut routes, log: &mut log, outcomes: &[0; 64] };
     /// # let args = xhci_device::BringUp { slot: xhci_device::SlotId(1), n: 1, speed: 3, parent: None, port: 1,
     /// #     root_port: 1, rings: &[0x1000], header: 8, packet: 64, value: 0, hubs: &[], list: &[0x0040_0000, 0x4000_0000] };
-    /// # let (mut record, _, _) = Record::bring_up(memory, &args);
+    /// # let (mut record, _) = Record::bring_up(memory, &args);
     /// let mut pending = Pending::new(&mut record, &mut ctx, Call::Claim { interface: 0, alternate: 0 });
     /// assert!(matches!(pending.next(&mut routes), Next::Send(_)) && pending.why().is_none());
     /// pending.outcome(Err(19.try_into().unwrap()));
@@ -306,16 +248,12 @@ impl<'a> Pending<'a> {
             (State::Ended, Call::Commit(asked)) => (asked.interface(), asked.alternate()),
             _ => return None,
         };
-        Some(self.record.why(interface, alternate, (self.answer, self.count), &self.log, self.outcomes()))
+        Some(self.record.why(interface, alternate, self.answered, &self.log, self.outcomes()))
     }
 
     /// Gives record and context back. Before the end this cuts the call.
     pub fn into_parts(self) -> (&'a mut Record, &'a mut [u8]) {
         (self.record, self.ctx)
-    }
-
-    fn due<'b>(&'b self, command: Command, routes: &'b [u64]) -> Due<'b> {
-        Due { command, slot: self.slot(), ctx: self.ctx, record: self.record, routes, log: self.log() }
     }
 
     fn slot(&self) -> SlotId {
@@ -331,27 +269,53 @@ impl<'a> Pending<'a> {
         first..first + ROUTES_OF_SLOT
     }
 
-    fn begin(&mut self, routes: &[u64]) {
+    /// The first step, with the number of words that the archive's records have.
+    fn begin(&mut self, routes: &mut [u64], record_words: usize) {
         self.begun.routes_len = routes.len();
         if let Some(own) = routes.get(self.own_routes()) {
             self.begun.routes.copy_from_slice(own);
+        }
+        if record_words == Record::WORDS {
+            self.step(routes);
+        } else {
+            (self.answered.answer, self.state) = (Answer::Unusable, State::Ended);
         }
     }
 
     /// Goes on to the next command or to the end.
     fn step(&mut self, routes: &mut [u64]) {
         self.play(routes);
-        if self.count < self.told {
+        if self.answered.count < self.told {
             // Refused, though commands were sent: for the list, with what the last one read.
-            self.learned.forget();
-            self.outcomes[self.told - 1] = UNREADABLE.get();
+            self.take_back();
             self.play(routes);
         }
-        let next = self.log[..self.count].get(self.told).and_then(|word| Command::of(*word));
-        self.state = match (self.answer, next) {
+        self.played = self.told;
+        self.learned.stepped();
+        if self.answered.count == 0 && matches!(self.call, Call::BringUp(_)) {
+            // Nothing was sent: the record that the library has emptied is as it was.
+            self.record.clone_from(&self.begun.record);
+        }
+        let next = self.log().get(self.told).and_then(|word| Command::of(*word));
+        self.state = match (self.answered.answer, next) {
             (Answer::Cut, Some(command)) => State::Waits(command),
             _ => State::Ended,
         };
+    }
+
+    /// The last outcome becomes that of a command whose read cannot be used.
+    fn take_back(&mut self) {
+        if let State::Told(command) = self.state {
+            let cause = self.learned.list_refused(command, self.answered.answer);
+            self.learned.forget();
+            self.outcomes[self.told - 1] = self.cannot_use(command, cause);
+        }
+    }
+
+    /// The outcome of a command whose read cannot be used.
+    fn cannot_use(&mut self, command: Command, cause: Cause) -> u8 {
+        self.unreadable = Some(Unreadable { command, cause });
+        UNREADABLE.get()
     }
 
     /// Runs the call with the outcomes so far.
@@ -359,7 +323,7 @@ impl<'a> Pending<'a> {
         self.put_back(routes);
         let outcomes = &self.outcomes[..self.told];
         let memory = Memory { ctx: self.ctx, routes, log: &mut self.log, outcomes };
-        (self.answer, self.count) = match &self.call {
+        self.answered = match &self.call {
             Call::BringUp(attached) => self.record.bring_up_here(memory, &known(attached, &self.learned)),
             Call::Claim { interface, alternate } => self.record.claim(memory, *interface, *alternate),
             Call::Commit(asked) => self.record.commit_shown(memory, asked),
@@ -381,9 +345,52 @@ impl<'a> Pending<'a> {
     }
 }
 
+impl fmt::Debug for Pending<'_> {
+    fn fmt(&self, f: &mut fmt::Formatter<'_>) -> fmt::Result {
+        f.debug_struct("Pending")
+            .field("slot", &self.slot())
+            .field("call", &self.call)
+            .field("state", &self.state)
+            .field("answered", &self.answered)
+            .field("log", &Listed(|| self.log().iter().filter_map(|word| Command::of(*word))))
+            .field("outcomes", &self.outcomes())
+            .field("unreadable", &self.unreadable)
+            .finish_non_exhaustive()
+    }
+}
+
 /// A bring-up with what is known of the device so far.
 fn known<'b>(attached: &Attached<'b>, learned: &'b Learned) -> BringUp<'b> {
     let Attached { slot, n, speed, parent, port, root_port, rings, hubs } = *attached;
-    let Learned { header, packet, value, .. } = *learned;
+    let Numbers { header, packet, value, .. } = learned.numbers();
     BringUp { slot, n, speed, parent, port, root_port, rings, header, packet, value, hubs, list: learned.list() }
+}
+
+#[cfg(test)]
+mod tests {
+    use super::{Call, Next, Pending};
+    use crate::{Answer, BringUp, Memory, Record, SlotId};
+
+    /// With an archive whose records have a word more or less, a call ends at once, and nothing has changed.
+    #[test]
+    fn another_archive_runs_nothing() {
+        let (mut ctx, mut routes, mut log) = ([0; 1056], [0; 64], [0; 64]);
+        let memory = Memory { ctx: &mut ctx, routes: &mut routes, log: &mut log, outcomes: &[0; 64] };
+        let (slot, rings, list) = (SlotId(1), &[0x1000], &[0x0040_0000, 0x4000_0000]);
+        let (n, speed, header, packet, value) = (1, 3, 8, 64, 0);
+        let (parent, port, root_port, hubs) = (None, 1, 1, &[]);
+        let args = BringUp { slot, n, speed, parent, port, root_port, rings, header, packet, value, hubs, list };
+        let (mut record, _) = Record::bring_up(memory, &args);
+        let before = (record.clone(), ctx, routes);
+        for words in [Record::WORDS - 1, Record::WORDS + 1] {
+            let mut pending = Pending::new(&mut record, &mut ctx, Call::SetConfiguration { value: 1 });
+            pending.begin(&mut routes, words);
+            assert!(matches!(pending.next(&mut routes), Next::Answer(Answer::Unusable)));
+            assert!(pending.log().is_empty() && pending.due(&routes).is_none());
+            assert!((&record, ctx, routes) == (&before.0, before.1, before.2));
+        }
+        let mut pending = Pending::new(&mut record, &mut ctx, Call::SetConfiguration { value: 1 });
+        pending.begin(&mut routes, Record::WORDS);
+        assert!(pending.due(&routes).is_some());
+    }
 }

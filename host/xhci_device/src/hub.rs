@@ -11,7 +11,7 @@ use crate::SlotId;
 /// let hub = Hub { parent: Some(0), slot: SlotId(2), depth: 0, speed: 3, port: 4, multi: false };
 /// assert_eq!([root.word(), hub.word()], [0x8000_0300_0000_0000, 0xC000_8B04_0000_0000]);
 /// ```
-#[derive(Clone, Copy, Debug, PartialEq, Eq)]
+#[derive(Clone, Copy, Debug, PartialEq, Eq, Hash)]
 pub struct Hub {
     /// The hub that it is on: its place among the hubs.
     pub parent: Option<u8>,

@@ -3,7 +3,7 @@
 use crate::bus::flagged;
 use crate::{Command, Dci, Due, SlotId};
 
-/// Endpoints of a slot, the context's own blocks among them.
+/// As many as a slot has routes.
 const DCIS: usize = 32;
 
 /// A [`Due`] that borrows nothing, so that it may be kept while others use the routes. Its methods say what those of the

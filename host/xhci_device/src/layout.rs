@@ -14,7 +14,7 @@
 //! # let args = xhci_device::BringUp { slot: xhci_device::SlotId(1), n: 1, speed: 3, parent: None, port: 1,
 //! #     root_port: 1, rings: &[0x1000, 0x2000], header: 8, packet: 64, value: 0, hubs: &[],
 //! #     list: &[0x0040_0000, 0x4000_0000, 0xA384_0410] };
-//! # let (record, _, _) = xhci_device::Record::bring_up(memory, &args);
+//! # let (record, _) = xhci_device::Record::bring_up(memory, &args);
 //! assert_eq!((record.words()[SLOT], given(record.words())), (1, [0x1000, 0x2000].as_slice()));
 //! ```
 

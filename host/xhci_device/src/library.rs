@@ -6,12 +6,12 @@ use core::ops::Range;
 
 use crate::layout::EP_ROOM;
 use crate::{
-    Answer, Asked, BlockRefusal, BringUp, ChoiceRefusal, Chosen, Dci, MOST_NAMES, Memory, RawRefusal, SettingsRefusal,
-    SlotId, SubmitRefusal,
+    Answer, Answered, Asked, BlockRefusal, BringUp, ChoiceRefusal, Chosen, Dci, MOST_NAMES, Memory, RawRefusal,
+    SettingsRefusal, SlotId, SubmitRefusal,
 };
 
 #[repr(C)]
-struct Answered {
+struct Told {
     answer: u32,
     code: u32,
     count: usize,
@@ -89,7 +89,6 @@ unsafe extern "C" {
     fn xhci_device_submit(dispatcher: Marks, slot: u8) -> Submitted;
     fn xhci_device_turn(dispatcher: Marks) -> Turned;
     fn xhci_device_command_of(word: u32) -> Logged;
-    #[cfg(test)]
     fn xhci_device_record_words() -> usize;
     fn xhci_device_is_usable(image: *const u64, image_len: usize) -> bool;
     fn xhci_device_is_up(image: *const u64, image_len: usize) -> bool;
@@ -121,7 +120,7 @@ unsafe extern "C" {
         header: usize,
         packet: u8,
         value: u8,
-    ) -> Answered;
+    ) -> Told;
     fn xhci_device_claim(
         image: *mut u64,
         image_len: usize,
@@ -135,7 +134,7 @@ unsafe extern "C" {
         outcomes_len: usize,
         interface: u8,
         alternate: u8,
-    ) -> Answered;
+    ) -> Told;
     fn xhci_device_ask(
         image: *const u64,
         image_len: usize,
@@ -164,7 +163,7 @@ unsafe extern "C" {
         adds: u32,
         rings: *const u64,
         rings_len: usize,
-    ) -> Answered;
+    ) -> Told;
     fn xhci_device_release(
         image: *mut u64,
         image_len: usize,
@@ -177,7 +176,7 @@ unsafe extern "C" {
         outcomes: *const u8,
         outcomes_len: usize,
         interface: u8,
-    ) -> Answered;
+    ) -> Told;
     fn xhci_device_set_configuration(
         image: *mut u64,
         image_len: usize,
@@ -190,7 +189,7 @@ unsafe extern "C" {
         outcomes: *const u8,
         outcomes_len: usize,
         value: u8,
-    ) -> Answered;
+    ) -> Told;
     fn xhci_device_hub_update(
         image: *mut u64,
         image_len: usize,
@@ -205,7 +204,7 @@ unsafe extern "C" {
         ports: u8,
         multi: u8,
         ns: u32,
-    ) -> Answered;
+    ) -> Told;
     fn xhci_device_disconnect(
         image: *mut u64,
         image_len: usize,
@@ -217,7 +216,7 @@ unsafe extern "C" {
         log_len: usize,
         outcomes: *const u8,
         outcomes_len: usize,
-    ) -> Answered;
+    ) -> Told;
     fn xhci_device_why(
         image: *const u64,
         image_len: usize,
@@ -242,14 +241,14 @@ unsafe extern "C" {
         speed: u8,
         words: *mut u32,
         words_len: usize,
-    ) -> Answered;
+    ) -> Told;
     fn xhci_device_write_descriptors(
         list: *const u32,
         list_len: usize,
         speed: u8,
         bytes: *mut u8,
         bytes_len: usize,
-    ) -> Answered;
+    ) -> Told;
     fn xhci_device_settings_to_new(
         settings: *const u8,
         settings_len: usize,
@@ -258,7 +257,7 @@ unsafe extern "C" {
         speed: u8,
         bytes: *mut u8,
         bytes_len: usize,
-    ) -> Answered;
+    ) -> Told;
     fn xhci_device_settings_to_old(
         settings: *const u8,
         settings_len: usize,
@@ -267,12 +266,12 @@ unsafe extern "C" {
         speed: u8,
         bytes: *mut u8,
         bytes_len: usize,
-    ) -> Answered;
+    ) -> Told;
     fn xhci_device_block(input_len: usize, output_len: usize, from_output: u8, dci: u8) -> Placed;
 }
 
-fn told(answered: Answered) -> (Answer, usize) {
-    (answer(answered.answer, answered.code), answered.count)
+fn told(told: Told) -> Answered {
+    Answered { answer: answer(told.answer, told.code), count: told.count }
 }
 
 fn answer(number: u32, code: u32) -> Answer {
@@ -280,11 +279,17 @@ fn answer(number: u32, code: u32) -> Answer {
 }
 
 /// What a function outside a slot answers.
-fn counted<Refusal>(answered: Answered, refusal: fn(u32) -> Option<Refusal>) -> Result<usize, Refusal> {
-    match answered.answer {
-        0 => Ok(answered.count),
+fn counted<Refusal>(told: Told, refusal: fn(u32) -> Option<Refusal>) -> Result<usize, Refusal> {
+    match told.answer {
+        0 => Ok(told.count),
         number => Err(refusal(number).expect("an answer of the function")),
     }
+}
+
+/// How many words a record of the archive has.
+pub fn record_words() -> usize {
+    // SAFETY: takes nothing.
+    unsafe { xhci_device_record_words() }
 }
 
 pub fn command_of(word: u32) -> Logged {
@@ -307,7 +312,7 @@ pub fn is_sound(image: &[u64]) -> bool {
     unsafe { xhci_device_is_sound(image.as_ptr(), image.len()) }
 }
 
-pub fn bring_up(image: &mut [u64], memory: Memory<'_>, args: &BringUp<'_>) -> (Answer, usize) {
+pub fn bring_up(image: &mut [u64], memory: Memory<'_>, args: &BringUp<'_>) -> Answered {
     let Memory { ctx, routes, log, outcomes } = memory;
     // SAFETY: each pointer comes with its slice's length, and the slices written are borrowed for this call alone.
     told(unsafe {
@@ -342,7 +347,7 @@ pub fn bring_up(image: &mut [u64], memory: Memory<'_>, args: &BringUp<'_>) -> (A
     })
 }
 
-pub fn claim(image: &mut [u64], memory: Memory<'_>, interface: u8, alternate: u8) -> (Answer, usize) {
+pub fn claim(image: &mut [u64], memory: Memory<'_>, interface: u8, alternate: u8) -> Answered {
     let Memory { ctx, routes, log, outcomes } = memory;
     // SAFETY: each pointer comes with its slice's length, and the slices written are borrowed for this call alone.
     told(unsafe {
@@ -399,7 +404,7 @@ pub struct Parts<'a> {
     pub rings: &'a [u64],
 }
 
-pub fn commit(image: &mut [u64], memory: Memory<'_>, asked: &Parts<'_>) -> (Answer, usize) {
+pub fn commit(image: &mut [u64], memory: Memory<'_>, asked: &Parts<'_>) -> Answered {
     let Memory { ctx, routes, log, outcomes } = memory;
     // SAFETY: each pointer comes with its slice's length, and the slices written are borrowed for this call alone.
     told(unsafe {
@@ -424,7 +429,7 @@ pub fn commit(image: &mut [u64], memory: Memory<'_>, asked: &Parts<'_>) -> (Answ
     })
 }
 
-pub fn release(image: &mut [u64], memory: Memory<'_>, interface: u8) -> (Answer, usize) {
+pub fn release(image: &mut [u64], memory: Memory<'_>, interface: u8) -> Answered {
     let Memory { ctx, routes, log, outcomes } = memory;
     // SAFETY: each pointer comes with its slice's length, and the slices written are borrowed for this call alone.
     told(unsafe {
@@ -444,7 +449,7 @@ pub fn release(image: &mut [u64], memory: Memory<'_>, interface: u8) -> (Answer,
     })
 }
 
-pub fn set_configuration(image: &mut [u64], memory: Memory<'_>, value: u8) -> (Answer, usize) {
+pub fn set_configuration(image: &mut [u64], memory: Memory<'_>, value: u8) -> Answered {
     let Memory { ctx, routes, log, outcomes } = memory;
     // SAFETY: each pointer comes with its slice's length, and the slices written are borrowed for this call alone.
     told(unsafe {
@@ -464,7 +469,7 @@ pub fn set_configuration(image: &mut [u64], memory: Memory<'_>, value: u8) -> (A
     })
 }
 
-pub fn hub_update(image: &mut [u64], memory: Memory<'_>, ports: u8, multi: bool, ns: u32) -> (Answer, usize) {
+pub fn hub_update(image: &mut [u64], memory: Memory<'_>, ports: u8, multi: bool, ns: u32) -> Answered {
     let Memory { ctx, routes, log, outcomes } = memory;
     // SAFETY: each pointer comes with its slice's length, and the slices written are borrowed for this call alone.
     told(unsafe {
@@ -486,7 +491,7 @@ pub fn hub_update(image: &mut [u64], memory: Memory<'_>, ports: u8, multi: bool,
     })
 }
 
-pub fn disconnect(image: &mut [u64], memory: Memory<'_>) -> (Answer, usize) {
+pub fn disconnect(image: &mut [u64], memory: Memory<'_>) -> Answered {
     let Memory { ctx, routes, log, outcomes } = memory;
     // SAFETY: each pointer comes with its slice's length, and the slices written are borrowed for this call alone.
     told(unsafe {
@@ -561,21 +566,21 @@ pub fn turn(dispatcher: &mut Marks) -> Option<SlotId> {
 
 pub fn read_descriptors(bytes: &[u8], speed: u8, words: &mut [u32]) -> Result<usize, RawRefusal> {
     // SAFETY: each pointer comes with its slice's length, and the words are borrowed for this call alone.
-    let answered =
+    let told =
         unsafe { xhci_device_read_descriptors(bytes.as_ptr(), bytes.len(), speed, words.as_mut_ptr(), words.len()) };
-    counted(answered, RawRefusal::of)
+    counted(told, RawRefusal::of)
 }
 
 pub fn write_descriptors(list: &[u32], speed: u8, bytes: &mut [u8]) -> Result<usize, RawRefusal> {
     // SAFETY: each pointer comes with its slice's length, and the bytes are borrowed for this call alone.
-    let answered =
+    let told =
         unsafe { xhci_device_write_descriptors(list.as_ptr(), list.len(), speed, bytes.as_mut_ptr(), bytes.len()) };
-    counted(answered, RawRefusal::of)
+    counted(told, RawRefusal::of)
 }
 
 pub fn settings_to_new(settings: &[u8], list: &[u32], speed: u8, bytes: &mut [u8]) -> Result<usize, SettingsRefusal> {
     // SAFETY: each pointer comes with its slice's length, and the bytes are borrowed for this call alone.
-    let answered = unsafe {
+    let told = unsafe {
         xhci_device_settings_to_new(
             settings.as_ptr(),
             settings.len(),
@@ -586,12 +591,12 @@ pub fn settings_to_new(settings: &[u8], list: &[u32], speed: u8, bytes: &mut [u8
             bytes.len(),
         )
     };
-    counted(answered, SettingsRefusal::of)
+    counted(told, SettingsRefusal::of)
 }
 
 pub fn settings_to_old(settings: &[u8], list: &[u32], speed: u8, bytes: &mut [u8]) -> Result<usize, SettingsRefusal> {
     // SAFETY: each pointer comes with its slice's length, and the bytes are borrowed for this call alone.
-    let answered = unsafe {
+    let told = unsafe {
         xhci_device_settings_to_old(
             settings.as_ptr(),
             settings.len(),
@@ -602,7 +607,7 @@ pub fn settings_to_old(settings: &[u8], list: &[u32], speed: u8, bytes: &mut [u8
             bytes.len(),
         )
     };
-    counted(answered, SettingsRefusal::of)
+    counted(told, SettingsRefusal::of)
 }
 
 /// Lengths of input and output. Where the block stands in the one that is shown.
@@ -620,7 +625,6 @@ pub fn block(lengths: [usize; 2], from_output: bool, dci: Dci) -> Result<Range<u
 mod tests {
     #[test]
     fn the_archive_has_this_image() {
-        // SAFETY: takes nothing.
-        assert_eq!(unsafe { super::xhci_device_record_words() }, crate::layout::WORDS);
+        assert_eq!(super::record_words(), crate::layout::WORDS);
     }
 }

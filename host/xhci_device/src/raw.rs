@@ -18,7 +18,8 @@ pub const WRITE_BYTES: usize = 2304;
 /// let refusal = read_descriptors(&[9, 2, 25], 3, &mut [0; READ_WORDS]).unwrap_err();
 /// assert_eq!((refusal.number(), refusal.to_string().as_str()), (20, "the descriptors are malformed"));
 /// ```
-#[derive(Clone, Copy, Debug, PartialEq, Eq)]
+#[derive(Clone, Copy, Debug, PartialEq, Eq, Hash)]
+#[non_exhaustive]
 pub enum RawRefusal {
     /// Less than `READ_WORDS` words or `WRITE_BYTES` bytes are lent.
     TooShort,

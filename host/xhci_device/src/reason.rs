@@ -2,6 +2,7 @@
 
 use core::fmt;
 
+use crate::descriptor::address;
 use crate::library::Why;
 use crate::{Answer, Command};
 
@@ -17,7 +18,8 @@ use crate::{Answer, Command};
 /// assert_eq!(told(Reason::Command { place: 2, word: 0x6000_1000 }), "the command at place 2 of the log failed first: SetInterface 0, alternate 1");
 /// assert_eq!(told(Reason::Number(12)), "the record is unusable or not sound");
 /// ```
-#[derive(Clone, Copy, Debug, PartialEq, Eq)]
+#[derive(Clone, Copy, Debug, PartialEq, Eq, Hash)]
+#[non_exhaustive]
 pub enum Reason {
     /// Nothing stood in the way: it is accepted.
     Nothing,
@@ -30,7 +32,7 @@ pub enum Reason {
     },
     /// `InvalidParameter`: the first endpoint word, in the order of the list, whose address another interface owns.
     Endpoint {
-        /// The descriptor word.
+        /// The descriptor word, which [`Descriptor::of`](crate::Descriptor::of) reads.
         word: u32,
         /// The interface that owns its address.
         owner: u8,
@@ -61,11 +63,6 @@ impl Reason {
             _ => Reason::Number(why.number as u8),
         }
     }
-}
-
-/// The address of an endpoint word.
-fn address(word: u32) -> u32 {
-    (word >> 29 & 1) << 7 | word >> 25 & 15
 }
 
 impl fmt::Display for Reason {

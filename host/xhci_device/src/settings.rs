@@ -16,7 +16,8 @@ pub const SETTINGS_BYTES: usize = 66;
 /// let refusal = settings_to_new(&[0, 1, 3], &[0x0040_0000], 3, &mut [0; SETTINGS_BYTES]).unwrap_err();
 /// assert_eq!((refusal.number(), refusal.to_string().as_str()), (23, "the settings are malformed or not found"));
 /// ```
-#[derive(Clone, Copy, Debug, PartialEq, Eq)]
+#[derive(Clone, Copy, Debug, PartialEq, Eq, Hash)]
+#[non_exhaustive]
 pub enum SettingsRefusal {
     /// Less than `SETTINGS_BYTES` bytes are lent.
     TooShort,

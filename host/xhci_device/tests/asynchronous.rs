@@ -11,8 +11,8 @@ use std::task::{Context, Poll, Waker};
 
 use random::{Device, ROUTES, Rng, World};
 use xhci_device::{
-    Answer, AsyncBus, Attached, Bus, Call, Command, Dci, Dispatcher, Due, Job, Next, Outcome, Pending, Ran, Read, Reason,
-    Record, Routes, SlotId, Waiting,
+    Answer, AsyncBus, Attached, Bus, Call, Command, Dci, Dispatcher, Due, Job, Next, Outcome, Pending, Ran, Read,
+    Reason, Record, Routes, SlotId, Waiting,
 };
 
 /// The most commands that a call sends.
@@ -390,6 +390,13 @@ struct Awaited<'b> {
 trait Turns {
     /// The next turn, and whether it is cut at its second command.
     fn turn<'a>(&mut self, dispatcher: &mut Dispatcher<'a>, is_cut: bool) -> Option<Ran<'a>>;
+
+    /// A bring-up that came to no good end leaves its slot's routes to the firmware.
+    fn clear(&mut self, slot: SlotId);
+}
+
+fn clear(routes: &mut [u64], slot: SlotId) {
+    routes[32 * usize::from(slot.0)..][..32].fill(0);
 }
 
 impl Turns for Driven<'_> {
@@ -417,6 +424,10 @@ impl Turns for Driven<'_> {
         let (record, ctx) = pending.into_parts();
         Some(Ran { slot, record, ctx, answer, reason })
     }
+
+    fn clear(&mut self, slot: SlotId) {
+        clear(self.routes, slot);
+    }
 }
 
 impl Turns for Awaited<'_> {
@@ -438,6 +449,10 @@ impl Turns for Awaited<'_> {
         assert!(dispatcher.take_cut().is_none());
         cut
     }
+
+    fn clear(&mut self, slot: SlotId) {
+        self.routes.with(|routes| clear(routes, slot));
+    }
 }
 
 /// The answers in the order of the turns, with their slots, and what is left of record and context of each slot.
@@ -455,6 +470,9 @@ fn turns(by: &mut impl Turns) -> Left {
     for count in 1..=TURNS {
         let ran = by.turn(&mut dispatcher, count % DROPPED == 0).expect("all slots wait");
         answers.push((ran.slot.0, ran.answer, ran.reason));
+        if !ran.record.is_up() {
+            by.clear(ran.slot);
+        }
         let call = next_call(ran.slot.0, count, ran.record);
         assert!(dispatcher.submit(Waiting { record: ran.record, ctx: ran.ctx, call }).is_ok());
     }
@@ -469,7 +487,9 @@ fn turns_that_are_awaited_equal_turns() {
     assert_eq!(awaited.0, driven.0);
     assert!(awaited.1 == driven.1 && one == other);
     let number = |number| driven.0.iter().filter(|ran| ran.1.number() == number).count();
-    assert!(number(0) > TURNS / 2 && number(13) > 0 && number(15) > TURNS / DROPPED / 2);
+    let (accepted, failed, cut) = (number(0), number(13), number(15));
+    println!("{TURNS} turns: {accepted} accepted, {failed} failed, {cut} cut");
+    assert!(accepted > TURNS / 3 && failed > TURNS / 20 && cut > TURNS / DROPPED / 2);
 }
 
 /// Routes behind a lock.

@@ -48,8 +48,8 @@ fn brought_up(lent: &mut Lent, list: &[u32]) -> Record {
         hubs: &[],
         list,
     };
-    let (record, answer, _) = Record::bring_up(lent.memory(), &args);
-    assert_eq!(answer, Answer::Accepted);
+    let (record, answered) = Record::bring_up(lent.memory(), &args);
+    assert_eq!(answered.answer, Answer::Accepted);
     record
 }
 
@@ -92,7 +92,7 @@ fn what_is_chosen_is_claimed() {
     let settings: Vec<Setting> = chosen.settings().collect();
     assert_eq!(settings, [Setting { interface: 1, alternate: 0 }, Setting { interface: 0, alternate: 2 }]);
     for Setting { interface, alternate } in settings {
-        assert_eq!(record.claim(lent.memory(), interface, alternate).0, Answer::Accepted);
+        assert_eq!(record.claim(lent.memory(), interface, alternate).answer, Answer::Accepted);
     }
     // What is held has no say, and claiming it again is a claim as any other.
     assert_eq!(record.choose(&[1, 0], 5), Ok(chosen));
@@ -104,11 +104,11 @@ fn what_is_held_has_no_say() {
     let mut lent = Lent::new();
     let list = [0x0040_0000, 0x4000_0000, 0xA384_0410, 0x4040_0000, 0xA384_0410];
     let mut record = brought_up(&mut lent, &list);
-    assert_eq!(record.claim(lent.memory(), 0, 0).0, Answer::Accepted);
+    assert_eq!(record.claim(lent.memory(), 0, 0).answer, Answer::Accepted);
     assert_eq!(record.choose(&[1], 3).expect("a choice").alternates(), [0]);
-    assert_eq!(record.claim(lent.memory(), 1, 0).0, Answer::InvalidParameter);
-    assert_eq!(record.release(lent.memory(), 0).0, Answer::Accepted);
-    assert_eq!(record.claim(lent.memory(), 1, 0).0, Answer::Accepted);
+    assert_eq!(record.claim(lent.memory(), 1, 0).answer, Answer::InvalidParameter);
+    assert_eq!(record.release(lent.memory(), 0).answer, Answer::Accepted);
+    assert_eq!(record.claim(lent.memory(), 1, 0).answer, Answer::Accepted);
 }
 
 #[test]

@@ -7,8 +7,8 @@ use std::num::NonZeroU8;
 
 use random::{Device, N, ROUTES, Rng, World};
 use xhci_device::{
-    Answer, Attached, BringUp, Bus, Call, Command, Dci, Due, Memory, Next, Outcome, Pending, Read, Reason, Record,
-    SlotId, UNREADABLE, WRITE_BYTES, route_index, write_descriptors,
+    Answer, Answered, Attached, BringUp, Bus, Call, Command, Dci, Due, Memory, Next, Outcome, Pending, Read, Reason,
+    Record, SlotId, UNREADABLE, WRITE_BYTES, route_index, write_descriptors,
 };
 
 /// The most commands that a call sends.
@@ -19,19 +19,23 @@ const CALLS: u32 = 120_000;
 /// The answer and the words logged.
 type Told = (Answer, Vec<u32>);
 
-/// A call with everything known, as the library takes it.
+/// A call with everything known, as the library takes it; but that a bring-up that sends nothing leaves the record, as driven.
 fn one_shot(world: &mut World, call: &Call<'_>, device: &Device, list: &[u32], outcomes: &[u8]) -> Told {
     let mut log = [0; 64];
     let World { record, ctx, routes } = world;
     let memory = Memory { ctx, routes, log: &mut log, outcomes };
-    let (answer, count) = match call.clone() {
+    let Answered { answer, count } = match call.clone() {
         Call::BringUp(Attached { slot, n, speed, parent, port, root_port, rings, hubs }) => {
             let (header, packet) = (device.header.len(), device.packet());
             let value = device.value.first().copied().unwrap_or(0);
             let args = BringUp { slot, n, speed, parent, port, root_port, rings, header, packet, value, hubs, list };
-            let (made, answer, count) = Record::bring_up(memory, &args);
-            *record = made;
-            (answer, count)
+            let (made, answered) = Record::bring_up(memory, &args);
+            if answered.count > 0 {
+                *record = made;
+            } else {
+                assert!(made == Record::new());
+            }
+            answered
         }
         Call::Claim { interface, alternate } => record.claim(memory, interface, alternate),
         Call::Commit(asked) => record.commit(memory, asked),
@@ -39,6 +43,7 @@ fn one_shot(world: &mut World, call: &Call<'_>, device: &Device, list: &[u32], o
         Call::SetConfiguration { value } => record.set_configuration(memory, value),
         Call::HubUpdate { ports, multi, ns } => record.hub_update(memory, ports, multi, ns),
         Call::Disconnect => record.disconnect(memory),
+        _ => panic!("another call"),
     };
     (answer, log[..count].to_vec())
 }
@@ -69,9 +74,9 @@ fn unreadable(device: &Device) -> Option<(usize, Vec<u32>)> {
     Some((5 + first, device.list(first)))
 }
 
-/// What must come out.
+/// What must come out. The bus's code 255 counts as 254.
 fn expected(world: &mut World, call: &Call<'_>, device: &Device, outcomes: &[u8]) -> Told {
-    let mut outcomes = outcomes.to_vec();
+    let mut outcomes: Vec<u8> = outcomes.iter().map(|outcome| (*outcome).min(UNREADABLE.get() - 1)).collect();
     let unreadable = if let Call::BringUp(_) = call { unreadable(device) } else { None };
     let Some((at, list)) = unreadable else {
         return one_shot(world, call, device, &device.list(device.configurations.len()), &outcomes);
@@ -173,6 +178,7 @@ fn drive(world: &mut World, call: &Call<'_>, mut script: Script<'_>, rng: &mut R
         let outcome = match pending.next(routes) {
             Next::Answer(answer) => return ((answer, pending.log().to_vec()), pending.why(), written),
             Next::Send(due) => script.outcome(&due),
+            other => panic!("{other:?}"),
         };
         let Some(outcome) = outcome else {
             return ((Answer::Cut, pending.log().to_vec()), pending.why(), written);
@@ -193,7 +199,8 @@ fn why(world: &World, call: &Call<'_>, (answer, log): &Told, outcomes: &[u8]) ->
         Call::Commit(asked) => (asked.interface(), asked.alternate()),
         _ => return None,
     };
-    let reason = || world.record.why(interface, alternate, (*answer, log.len()), log, outcomes);
+    let answered = Answered { answer: *answer, count: log.len() };
+    let reason = || world.record.why(interface, alternate, answered, log, outcomes);
     (*answer != Answer::Cut).then(reason)
 }
 
@@ -300,28 +307,6 @@ fn two_slots_take_turns_over_one_table() {
 }
 
 #[test]
-fn what_is_asked_twice_is_said_twice() {
-    let mut world = fresh();
-    brought_up(&mut world, 1);
-    let World { record, ctx, routes } = &mut world;
-    let mut pending = Pending::new(record, ctx, Call::SetConfiguration { value: 1 });
-    // Told before anything was to be sent: not taken.
-    pending.outcome(Ok(Read::Nothing));
-    let Next::Send(first) = pending.next(routes) else { panic!("a command") };
-    let first = (first.command, first.ctx.to_vec());
-    let Next::Send(again) = pending.next(routes) else { panic!("a command") };
-    assert_eq!((again.command, again.ctx.to_vec()), first);
-    assert_eq!((pending.log().len(), pending.outcomes().len()), (1, 0));
-    pending.outcome(Err(NonZeroU8::new(7).expect("a code")));
-    pending.outcome(Ok(Read::Nothing));
-    assert_eq!(pending.outcomes(), [7]);
-    for _ in 0..2 {
-        assert!(matches!(pending.next(routes), Next::Answer(Answer::Failed(7))));
-    }
-    assert!(pending.into_parts().0.is_usable());
-}
-
-#[test]
 fn a_table_of_another_length_leaves_the_call_cut() {
     let mut world = fresh();
     brought_up(&mut world, 1);
@@ -335,26 +320,4 @@ fn a_table_of_another_length_leaves_the_call_cut() {
     assert!(matches!(pending.next(routes), Next::Answer(Answer::RoutesLength)));
     assert!(world.record == cut.record && world.ctx == cut.ctx && world.routes == cut.routes);
     assert!(!world.record.is_usable());
-}
-
-#[test]
-fn a_call_that_never_begins_changes_nothing() {
-    let mut world = fresh();
-    let mut refused = fresh();
-    let call = Call::BringUp(Attached {
-        speed: 9,
-        slot: SlotId(1),
-        n: N,
-        parent: None,
-        port: 1,
-        root_port: 1,
-        rings: &[16],
-        hubs: &[],
-    });
-    assert_eq!(one_shot(&mut refused, &call, &keyboard(), &[], &[]).0, Answer::Speed);
-    assert!(refused.record == Record::new());
-    brought_up(&mut world, 1);
-    let before = world.clone();
-    let _ = Pending::new(&mut world.record, &mut world.ctx, Call::SetConfiguration { value: 1 });
-    assert!(world.record == before.record && world.ctx == before.ctx);
 }

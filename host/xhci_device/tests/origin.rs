@@ -11,7 +11,7 @@ use std::ops::Deref;
 use std::path::{Path, PathBuf};
 
 use sha256::sha256;
-use sources::{OWN, crates, digest, fault, is_own};
+use sources::{crates, digest, fault};
 
 const NAME: &str = "xhci_device";
 
@@ -66,15 +66,6 @@ fn put(root: &Path, path: &str, text: &str) {
     let path = root.join(path);
     fs::create_dir_all(path.parent().expect("a folder")).expect("a folder");
     fs::write(path, text).expect("a file");
-}
-
-#[test]
-fn the_repository_has_one_folder_of_its_own() {
-    let root = repository("own");
-    let top = root.canonicalize().expect("the folder");
-    let at = |path: &str| is_own(&root.join(path), &top);
-    assert!(at(OWN) && at("crates/../target/staticlib") && at("target/staticlib/"));
-    assert!(!at("target") && !at("crates/target/staticlib") && !is_own(Path::new(OWN), &top));
 }
 
 #[test]

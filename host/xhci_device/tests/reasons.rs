@@ -3,8 +3,8 @@
 use std::num::NonZeroU8;
 
 use xhci_device::{
-    Answer, BlockRefusal, BringUp, Bus, Call, Command, Context, Dci, Due, Memory, Next, Outcome, Pending, Read, Reason,
-    Record, SlotId, endpoint_block,
+    Answer, Answered, BlockRefusal, BringUp, Bus, Call, Command, Context, Dci, Due, Memory, Next, Outcome, Pending,
+    Read, Reason, Record, SlotId, endpoint_block,
 };
 
 /// Interface 0: 81 in alternate 0, 82 in alternate 1. Interface 1: 02 and 81; in alternate 1 02, 03 and 04.
@@ -50,9 +50,9 @@ fn slot() -> Slot {
         list: &LIST,
     };
     let memory = Memory { ctx: &mut ctx, routes: &mut routes, log: &mut log, outcomes: &[0; 64] };
-    let (mut record, answer, _) = Record::bring_up(memory, &args);
+    let (mut record, up) = Record::bring_up(memory, &args);
     let memory = Memory { ctx: &mut ctx, routes: &mut routes, log: &mut log, outcomes: &[0; 64] };
-    assert_eq!((answer, record.claim(memory, 0, 0)), (Answer::Accepted, (Answer::Accepted, 2)));
+    assert_eq!([up, record.claim(memory, 0, 0)].map(|told| told.answer), [Answer::Accepted; 2]);
     Slot { record, ctx, routes }
 }
 
@@ -62,7 +62,7 @@ impl Slot {
         let mut log = [0x6000_0000; 64];
         let memory = Memory { ctx: &mut self.ctx, routes: &mut self.routes, log: &mut log, outcomes };
         let left = self.record.claim(memory, interface, alternate);
-        (left.0, self.record.why(interface, alternate, left, &log, outcomes))
+        (left.answer, self.record.why(interface, alternate, left, &log, outcomes))
     }
 }
 
@@ -98,10 +98,11 @@ fn the_log_counts_as_far_as_it_was_written() {
     let memory = Memory { ctx: &mut slot.ctx, routes: &mut slot.routes, log: &mut log, outcomes: &outcomes };
     let left = slot.record.claim(memory, 0, 1);
     let before = slot.record.clone();
-    assert_eq!(left, (Answer::InterfaceBroken, 3));
+    assert_eq!(left, Answered { answer: Answer::InterfaceBroken, count: 3 });
+    let more = Answered { count: 99, ..left };
     assert_eq!(slot.record.why(0, 1, left, &log, &outcomes), Reason::Number(14));
-    assert_eq!(slot.record.why(0, 1, (left.0, 99), &log[..4], &outcomes), command(3, 0));
-    assert_eq!(slot.record.why(0, 1, (left.0, 99), &[], &outcomes), Reason::Number(14));
+    assert_eq!(slot.record.why(0, 1, more, &log[..4], &outcomes), command(3, 0));
+    assert_eq!(slot.record.why(0, 1, more, &[], &outcomes), Reason::Number(14));
     assert!(slot.record == before);
 }
 
@@ -128,7 +129,7 @@ fn driven_calls_hand_their_reason_out() {
     assert_eq!(fails(claim(0, 1), 0x6000_1000), (Answer::Failed(1), Some(command(2, 0x6000_1000))));
     assert_eq!(fails(claim(1, 0), 0), (Answer::InvalidParameter, Some(OWNED)));
     let Slot { record, ctx, routes } = slot();
-    let asked = record.ask(&ctx, &routes, &[0; 64], 0, 1).expect("an accepted ask");
+    let asked = record.ask_driven(&ctx, &routes, 0, 1).expect("an accepted ask");
     assert_eq!(fails(Call::Commit(asked.clone()), 0x4030_0000), (Answer::Failed(1), Some(command(0, 0x4030_0000))));
     assert_eq!(fails(Call::Release { interface: 0 }, 0x4030_0000), (Answer::Failed(1), None));
 

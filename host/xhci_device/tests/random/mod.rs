@@ -245,7 +245,7 @@ pub fn call<'a>(rng: &mut Rng, record: &Record, rings: &'a [u64], hubs: &'a [u64
 /// In the place of every second claim a commit of its ask, or of the ask before it.
 pub fn committed<'a>(rng: &mut Rng, world: &World, call: Call<'a>, before: &mut Option<Asked>) -> Call<'a> {
     let Call::Claim { interface, alternate } = call else { return call };
-    let asked = world.record.ask(&world.ctx, &world.routes, &[0; 64], interface, alternate).ok();
+    let asked = world.record.ask_driven(&world.ctx, &world.routes, interface, alternate).ok();
     let old = std::mem::replace(before, asked.clone());
     match if rng.once_in(8) { old } else { asked } {
         Some(asked) if rng.once_in(2) => Call::Commit(asked),
