@@ -281,8 +281,8 @@ fn write(folder: &Path, store: &Store, pair: &mut Pair) -> std::io::Result<()> {
 mod tests {
     use super::*;
 
-    /// A short run.
-    fn short(reference: &str, subject: &str) {
+    /// A short run: of these parts, and so many random calls.
+    fn short(reference: &str, subject: &str, parts: &[&str], calls: u64) {
         let (listed, narrow) = (reference == "original", subject == CRAB_USB);
         let (Some(reference), Some(subject)) = (runner::layer(reference), super::subject(subject)) else {
             return;
@@ -290,28 +290,28 @@ mod tests {
         let mut pair = Pair { reference, subject, listed, narrow, sparse: None };
         let mut tally = Tally::default();
         for (name, part) in exhaustive::PARTS {
-            if ["refusals", "records", "packets"].contains(&name) {
+            if parts.contains(&name) {
                 part(&mut pair, &mut tally);
             }
         }
-        random::run(&mut pair, &mut tally, 1, 5_000);
+        random::run(&mut pair, &mut tally, 1, calls);
         assert_eq!(tally.first_difference(&mut pair), None);
     }
 
     #[test]
     fn the_library_is_the_model() {
-        short("model", "library");
+        short("model", "library", &["refusals", "records", "packets"], 5_000);
     }
 
     #[test]
     fn no_difference_from_the_original_is_unlisted() {
-        short("original", "library");
+        short("original", "library", &["refusals", "records", "packets"], 5_000);
     }
 
     #[test]
     fn the_device_of_crab_usb_does_what_the_library_says() {
-        short("library", CRAB_USB);
-        short("original", CRAB_USB);
+        short("library", CRAB_USB, &["refusals", "packets"], 3_000);
+        short("original", CRAB_USB, &["packets"], 3_000);
     }
 
     /// What crates/replay_bring_up and its like replay is what docs/DIFFERENCES.md's command makes.

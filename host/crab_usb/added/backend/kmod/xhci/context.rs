@@ -36,12 +36,12 @@ impl DeviceContextList {
 }
 
 /// A context is doublewords, lowest byte first, and nothing between them.
-fn bytes<T: Copy>(context: &T) -> &[u8] {
+fn bytes<T>(context: &T) -> &[u8] {
     // SAFETY: each of its bytes may be read.
     unsafe { core::slice::from_raw_parts(core::ptr::from_ref(context).cast(), size_of::<T>()) }
 }
 
-fn context<T: Copy>(bytes: &[u8]) -> T {
+fn context<T>(bytes: &[u8]) -> T {
     assert_eq!(bytes.len(), size_of::<T>());
     // SAFETY: the bytes are as many as a context has, and any doublewords are one.
     unsafe { bytes.as_ptr().cast::<T>().read_unaligned() }

@@ -25,6 +25,7 @@ mod lives;
 
 /// Rings are short: as many transfers as a page has bytes.
 const PAGE: usize = 8;
+const RING_BYTES: u64 = 16 * PAGE as u64;
 
 /// No table serves so many slots.
 const MANY_SLOTS: u32 = 1000;
@@ -114,11 +115,15 @@ fn script(args: &BringUp, outcomes: &[u8]) -> core::result::Result<Script, Canno
     })
 }
 
-/// What no device can be given: more bytes of a header than were asked for, more hubs than a number names, two rings in
-/// one place.
+/// Whether rings stand in places of their own, where memory goes on.
+fn are_places(rings: &[u64]) -> bool {
+    let places: BTreeSet<&u64> = rings.iter().collect();
+    places.len() == rings.len() && rings.iter().all(|ring| ring.checked_add(RING_BYTES).is_some())
+}
+
+/// What no device can be given: more bytes of a header than were asked for, more hubs than a number names, rings that are none.
 fn is_given(args: &BringUp) -> bool {
-    let rings: BTreeSet<&u64> = args.rings.iter().collect();
-    args.header <= 8 && args.hubs.len() <= 256 && args.n < MANY_SLOTS && rings.len() == args.rings.len()
+    args.header <= 8 && args.hubs.len() <= 256 && args.n < MANY_SLOTS && are_places(&args.rings)
 }
 
 fn bring_up(args: &BringUp, buffers: &mut Buffers) -> Outcome {
@@ -148,8 +153,11 @@ fn device(of: &Record, is_64: bool) -> core::result::Result<Device, Cannot> {
     let image = image(of).ok_or(Cannot::NoSuchInput)?;
     let (id, kernel) = (SlotId::from(of.slot), Kernel::default());
     let memory = ContextData::new(is_64, &kernel).map_err(|_| Cannot::NoSuchInput)?;
-    let used = of.endpoints.iter().map(|e| e.ring).chain([of.control]);
-    let rings: BTreeSet<u64> = of.given.iter().copied().chain(used).collect();
+    // Of a record that is not sound nothing is used.
+    let rings = if image.is_sound() { of.given.as_slice() } else { &[] };
+    if !are_places(rings) {
+        return Err(Cannot::NoSuchInput);
+    }
     dma_api::place(rings.iter().copied());
     let bell = Arc::new(Mutex::new(SlotBell));
     let pool = Pool::new(id, rings.len(), &kernel, bell, &CommandRing).map_err(|_| Cannot::NoSuchInput)?;

@@ -235,6 +235,17 @@ fn a_bring_up_that_fails() {
     assert_eq!((sent(), device.answer()), (vec!["Disable".to_string()], Answer::Speed));
 }
 
+#[test]
+fn a_device_that_sends_what_cannot_be_used() {
+    let mut host = controller();
+    let mut device = attached(&mut host);
+    let cut_off = vec![vec![9, 2, 25, 0, 1, 1, 0, 0x80, 50]];
+    bus::begin(Script { raw: cut_off, ..script(&port(), &[0; 64]).unwrap_or_default() });
+    let failed = init(&mut host, &mut device);
+    assert!(matches!(failed, Err(USBError::Other(text)) if text.0.starts_with("ReadConfig 0: ")));
+    assert_eq!(sent()[5..], ["ReadConfig 0", "Disable"]);
+}
+
 /// What an undoing Configure has added runs already.
 #[test]
 fn a_running_endpoint_is_resumed_by_its_doorbell() {

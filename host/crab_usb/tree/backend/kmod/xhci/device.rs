@@ -107,7 +107,8 @@ impl Device {
         let mut ctx = self.wire.memory.input();
         let mut pending = Box::new(Pending::new(&mut self.record, &mut ctx, call));
         self.answer = pending.run_async(&self.routes, &mut *self.wire).await;
-        answer::result(self.answer, self.wire.take_errors())
+        let unreadable = pending.unreadable();
+        answer::result(self.answer, self.wire.take_errors(), unreadable)
     }
 
     /// The layer's answer to the last call, which has more to say than an error: docs/INTEGRATION.md has what to do after it.

@@ -3,12 +3,12 @@
 use alloc::vec::Vec;
 
 use usb_if::err::{TransferError, USBError};
-use xhci_device::Answer;
+use xhci_device::{Answer, Unreadable};
 
 use crate::err::Result;
 
-/// The errors of the commands that failed; one's code is its place, counted from 1.
-pub(super) fn result(answer: Answer, mut errors: Vec<TransferError>) -> Result {
+/// The errors of the commands that failed; one's code is its place, counted from 1. And what a bring-up could not use, if so.
+pub(super) fn result(answer: Answer, mut errors: Vec<TransferError>, unreadable: Option<Unreadable>) -> Result {
     Err(match answer {
         Answer::Accepted => return Ok(()),
         Answer::NotFound | Answer::NotClaimed => USBError::NotFound,
@@ -21,7 +21,6 @@ pub(super) fn result(answer: Answer, mut errors: Vec<TransferError>) -> Result {
         Answer::Failed(code) if (1..=errors.len()).contains(&code.into()) => {
             errors.swap_remove(usize::from(code) - 1).into()
         }
-        Answer::Failed(_) => USBError::Other(anyhow!("what the device sent cannot be used")),
-        other => USBError::Other(anyhow!("{other}")),
+        other => USBError::Other(unreadable.map_or_else(|| anyhow!("{other}"), |unreadable| anyhow!("{unreadable}"))),
     })
 }
