@@ -32,19 +32,19 @@ static void bring_up(void) {
 }
 
 static void is_endpoint(size_t i, uint8_t address, uint8_t interface, uint64_t ring, bool active) {
-    struct xhci_device_endpoint e = xhci_device_endpoint(image, i);
+    struct xhci_device_held_endpoint e = xhci_device_endpoint(image, i);
     expect(e.address == address && e.interface == interface && e.ring == ring && e.active == active, "an endpoint");
 }
 
 static void is_free(size_t count, const uint64_t *rings) {
     memset(free_rings, 0, sizeof free_rings);
-    expect(xhci_device_free(image, free_rings) == count, "how many rings are free");
+    expect(xhci_device_free_rings(image, free_rings) == count, "how many rings are free");
     expect(memcmp(free_rings, rings, count * sizeof rings[0]) == 0 && free_rings[count] == 0, "the free rings");
 }
 
 static void nothing(void) {
     uint8_t value = 9;
-    expect(xhci_device_slot(image) == 0 && xhci_device_slots(image) == 0 && xhci_device_spacing(image) == 0, "no numbers");
+    expect(xhci_device_slot(image) == 0 && xhci_device_n(image) == 0 && xhci_device_spacing(image) == 0, "no numbers");
     expect(!xhci_device_configuration(image, &value) && value == 0, "no configuration");
     expect(xhci_device_held_count(image) == 0 && xhci_device_endpoint_count(image) == 0, "nothing held");
     expect(xhci_device_given_count(image) == 0 && xhci_device_list_count(image) == 0, "nothing given");
@@ -56,8 +56,9 @@ static void brought_up(void) {
     const uint64_t left[] = {0x2000, 0x3000, 0x4000, 0x5000, 0x6000};
     uint8_t value = 9;
     size_t i;
-    expect(xhci_device_slot(image) == SLOT && xhci_device_slots(image) == N && xhci_device_spacing(image) == 64, "numbers");
+    expect(xhci_device_slot(image) == SLOT && xhci_device_n(image) == N && xhci_device_spacing(image) == 64, "numbers");
     expect(xhci_device_port_speed(image) == 3 && xhci_device_control(image) == 0x1000, "speed and control");
+    expect(!xhci_device_control_revoked(image), "control is active");
     expect(xhci_device_configuration(image, &value) && value == 3, "the configuration");
     expect(xhci_device_list_count(image) == LIST_LEN && xhci_device_list_word(image, LIST_LEN) == 0, "the list");
     for (i = 0; i < LIST_LEN; i++) {
@@ -103,6 +104,7 @@ static void cut_to_the_room(void) {
     for (i = 0; i < WORDS; i++) {
         image[i] = most;
     }
+    expect(xhci_device_control_revoked(image), "control is revoked");
     expect(xhci_device_held_count(image) == XHCI_DEVICE_HELD_ROOM && xhci_device_held(image, 31).interface == 255, "held");
     expect(xhci_device_held(image, XHCI_DEVICE_HELD_ROOM).interface == 0, "held, past the room");
     expect(xhci_device_endpoint_count(image) == XHCI_DEVICE_EP_ROOM, "endpoints");
@@ -115,7 +117,7 @@ static void cut_to_the_room(void) {
         image[XHCI_DEVICE_AT_GIVEN + i] = XHCI_DEVICE_GIVEN_ROOM - i;
         free_rings[i] = 0;
     }
-    expect(xhci_device_free(image, free_rings) == XHCI_DEVICE_GIVEN_ROOM, "all are free");
+    expect(xhci_device_free_rings(image, free_rings) == XHCI_DEVICE_GIVEN_ROOM, "all are free");
     for (i = 0; i < XHCI_DEVICE_GIVEN_ROOM; i++) {
         expect(free_rings[i] == i + 1, "free rings rise");
     }

@@ -166,7 +166,7 @@ static void numbers(const struct printer *p, const uint64_t *image) {
     field(p, "record usable=", sane && image[XHCI_DEVICE_AT_USABLE] != 0);
     field(p, " up=", sane && image[XHCI_DEVICE_AT_UP] != 0);
     field(p, " slot=", xhci_device_slot(image));
-    field(p, " n=", xhci_device_slots(image));
+    field(p, " n=", xhci_device_n(image));
     field(p, " spacing=", xhci_device_spacing(image));
     field(p, " speed=", xhci_device_port_speed(image));
     if (xhci_device_configuration(image, &value)) {
@@ -176,10 +176,10 @@ static void numbers(const struct printer *p, const uint64_t *image) {
     }
     text(p, " control=");
     hexadecimal(p, xhci_device_control(image), 1);
-    text(p, image[XHCI_DEVICE_AT_CONTROL_REVOKED] != 0 ? "/revoked\n" : "/active\n");
+    text(p, xhci_device_control_revoked(image) ? "/revoked\n" : "/active\n");
 }
 
-static void endpoint(const struct printer *p, struct xhci_device_endpoint endpoint) {
+static void endpoint(const struct printer *p, struct xhci_device_held_endpoint endpoint) {
     text(p, " ");
     hexadecimal(p, endpoint.address, 2);
     text(p, ":");

@@ -222,7 +222,7 @@ static inline uint8_t xhci_device_slot(const uint64_t *image) {
 }
 
 /* N, the number of slots that the routes serve. */
-static inline uint8_t xhci_device_slots(const uint64_t *image) {
+static inline uint8_t xhci_device_n(const uint64_t *image) {
     return (uint8_t)image[XHCI_DEVICE_AT_MAX_SLOTS];
 }
 
@@ -246,6 +246,11 @@ static inline bool xhci_device_configuration(const uint64_t *image, uint8_t *val
 /* Control's ring. */
 static inline uint64_t xhci_device_control(const uint64_t *image) {
     return image[XHCI_DEVICE_AT_CONTROL];
+}
+
+/* Whether control is revoked: no request is sent over it. */
+static inline bool xhci_device_control_revoked(const uint64_t *image) {
+    return image[XHCI_DEVICE_AT_CONTROL_REVOKED] != 0;
 }
 
 /* How many elements of an array are in use, by the word that counts them. */
@@ -273,7 +278,7 @@ static inline struct xhci_device_setting xhci_device_held(const uint64_t *image,
 }
 
 /* An endpoint of a held setting. */
-struct xhci_device_endpoint {
+struct xhci_device_held_endpoint {
     uint8_t address;
     uint8_t interface;  /* that owns it */
     uint64_t ring;
@@ -284,8 +289,8 @@ static inline size_t xhci_device_endpoint_count(const uint64_t *image) {
     return xhci_device_count_at(image, XHCI_DEVICE_AT_EP_COUNT, XHCI_DEVICE_EP_ROOM);
 }
 
-static inline struct xhci_device_endpoint xhci_device_endpoint(const uint64_t *image, size_t i) {
-    struct xhci_device_endpoint endpoint = {0, 0, 0, false};
+static inline struct xhci_device_held_endpoint xhci_device_endpoint(const uint64_t *image, size_t i) {
+    struct xhci_device_held_endpoint endpoint = {0, 0, 0, false};
     if (i < xhci_device_endpoint_count(image)) {
         endpoint.address = (uint8_t)image[XHCI_DEVICE_AT_EP_ADDRESSES + i];
         endpoint.interface = (uint8_t)image[XHCI_DEVICE_AT_EP_INTERFACES + i];
@@ -327,7 +332,7 @@ static inline bool xhci_device_has_taken(const uint64_t *image, uint64_t ring) {
 }
 
 /* The given rings that a claim may draw, rising, into the first words; how many there are. */
-static inline size_t xhci_device_free(const uint64_t *image, uint64_t rings[XHCI_DEVICE_GIVEN_ROOM]) {
+static inline size_t xhci_device_free_rings(const uint64_t *image, uint64_t rings[XHCI_DEVICE_GIVEN_ROOM]) {
     size_t i, at, count = 0;
     for (i = 0; i < xhci_device_given_count(image); i++) {
         uint64_t ring = xhci_device_given(image, i);
