@@ -77,7 +77,8 @@ static void bring_up(const struct printer *p, const struct xhci_device_pending_o
     key(p, "config", learned->value);
     text(p, "rings");
     for (i = 0; i < at->rings_len; i++) {
-        field(p, " ", at->rings[i]);
+        text(p, " 0x");
+        hexadecimal(p, at->rings[i], 1);
     }
     text(p, "\nlist");
     for (i = 0; i < learned->read + learned->unread; i++) {

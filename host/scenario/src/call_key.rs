@@ -161,8 +161,8 @@ fn what_was_asked(words: &mut Words) -> Parsed<Asked> {
     Ok(Asked {
         interface: number(words)?,
         alternate: number(words)?,
-        drops: hex32(word(words, "the drop flags")?)?,
-        adds: hex32(word(words, "the add flags")?)?,
+        drops: hex32(word(words, "the word of drop flags")?)?,
+        adds: hex32(word(words, "the word of add flags")?)?,
         rings: list(words, hex64)?,
     })
 }

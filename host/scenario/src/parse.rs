@@ -46,6 +46,9 @@ impl Asking {
         if !self.case.kind.repeats() {
             once(&mut self.seen, key)?;
         }
+        if ["scenario", "case", "end"].contains(&key) {
+            return Err("the case before this line has no 'go'".to_string());
+        }
         if !self.case.kind.key(key, words)? {
             return Err(format!("'{}' has no '{key}'", self.case.kind.name()));
         }
@@ -138,7 +141,7 @@ fn next(place: Place, key: &str, words: &mut Words) -> Parsed<(Place, Option<Eve
         (Place::Between(Mode::Begun), "dispatcher") => (Place::Between(Mode::Dispatched), Some(Event::Dispatcher)),
         (Place::Between(Mode::Dispatched), "turn") => (Place::Between(Mode::Dispatched), Some(Event::Turn)),
         (Place::Between(mode), _) => {
-            let (call, mode) = (named(key).ok_or_else(|| format!("there is no call '{key}'"))?, mode.decided());
+            let (call, mode) = (named(key).ok_or_else(|| no_call(key))?, mode.decided());
             (Place::Call(Box::new(Building::new(call, mode == Mode::Dispatched)), mode), None)
         }
         (Place::Call(building, Mode::Dispatched), "submit") => {
@@ -148,7 +151,7 @@ fn next(place: Place, key: &str, words: &mut Words) -> Parsed<(Place, Option<Eve
             (Place::Between(mode), Some(Event::Call(Box::new(building.finish()?))))
         }
         (Place::Call(mut building, mode), _) => {
-            building.line(key, words)?;
+            building.line(key, words).map_err(|message| no_end(key, mode).unwrap_or(message))?;
             (Place::Call(building, mode), None)
         }
         (Place::Case(name), _) => {
@@ -161,6 +164,22 @@ fn next(place: Place, key: &str, words: &mut Words) -> Parsed<(Place, Option<Eve
             (Place::Kind(asking), None)
         }
     })
+}
+
+/// What is wrong with a line that should begin a call.
+fn no_call(key: &str) -> String {
+    match key {
+        "scenario" | "case" => "the scenario before this line has no 'end'".to_string(),
+        "turn" | "dispatcher" => "a scenario with turns has 'dispatcher' as its first line".to_string(),
+        _ => format!("there is no call '{key}'"),
+    }
+}
+
+/// What is wrong where a key of a call should stand, and something begins or ends.
+fn no_end(key: &str, mode: Mode) -> Option<String> {
+    let end = if mode == Mode::Dispatched { "submit" } else { "go" };
+    let other = ["scenario", "case", "end", "go", "submit", "turn"].contains(&key) || named(key).is_some();
+    other.then(|| format!("the call before this line has no '{end}'"))
 }
 
 /// A name of one word or more.

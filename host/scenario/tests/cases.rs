@@ -226,7 +226,7 @@ fn the_first_bad_line_is_named() {
     assert_eq!(error("case a\ngo\n").0, 2);
     assert_eq!(error("case a\nrawread\n"), (2, "the case has no 'go'".to_string()));
     assert_eq!(error("case a\n"), (1, "the case has no 'go'".to_string()));
-    assert_eq!(error("scenario a\ncase b\n"), (2, "there is no call 'case'".to_string()));
+    assert_eq!(error("scenario a\ncase b\n"), (2, "the scenario before this line has no 'end'".to_string()));
 }
 
 #[test]

@@ -159,6 +159,29 @@ fn the_first_bad_line_is_named() {
     assert_eq!(error("scenario\n").0, 1);
 }
 
+#[test]
+fn what_has_no_end_is_told_so() {
+    let go = (4, "the call before this line has no 'go'".to_string());
+    for next in ["end", "claim", "submit", "turn", "scenario b", "case b"] {
+        assert_eq!(error(&format!("scenario a\nclaim\ninterface 1\n{next}\n")), go);
+    }
+    let submit = (4, "the call before this line has no 'submit'".to_string());
+    for next in ["end", "claim", "go", "turn"] {
+        assert_eq!(error(&format!("scenario a\ndispatcher\nclaim\n{next}\n")), submit);
+    }
+    for next in ["end", "scenario b", "case b"] {
+        let message = "the case before this line has no 'go'".to_string();
+        assert_eq!(error(&format!("case a\nrawread\nspeed 3\n{next}\n")), (4, message));
+    }
+    for next in ["scenario b", "case b"] {
+        let message = "the scenario before this line has no 'end'".to_string();
+        assert_eq!(error(&format!("scenario a\n{next}\n")), (2, message));
+    }
+    let message = "a scenario with turns has 'dispatcher' as its first line".to_string();
+    assert_eq!(error("scenario a\nturn\n"), (2, message));
+    assert_eq!(error("scenario a\ncommit\nasked 0 1 0\n"), (3, "the word of add flags is missing".to_string()));
+}
+
 /// A layer that writes into all it is given.
 struct Scribe;
 
@@ -364,11 +387,11 @@ fn calls_through_a_dispatcher_are_read_and_printed() {
 fn a_dispatcher_s_lines_stand_in_its_scenarios_only() {
     for (lines, line, message) in [
         ("release\non 3", 3, "this call has no 'on'"),
-        ("release\nsubmit", 3, "this call has no 'submit'"),
-        ("turn", 2, "there is no call 'turn'"),
-        ("release\ngo\ndispatcher", 4, "there is no call 'dispatcher'"),
-        ("dispatcher\ndispatcher", 3, "there is no call 'dispatcher'"),
-        ("dispatcher\nrelease\ngo", 4, "this call has no 'go'"),
+        ("release\nsubmit", 3, "the call before this line has no 'go'"),
+        ("turn", 2, "a scenario with turns has 'dispatcher' as its first line"),
+        ("release\ngo\ndispatcher", 4, "a scenario with turns has 'dispatcher' as its first line"),
+        ("dispatcher\ndispatcher", 3, "a scenario with turns has 'dispatcher' as its first line"),
+        ("dispatcher\nrelease\ngo", 4, "the call before this line has no 'submit'"),
         ("dispatcher\nbringup\non 3", 4, "this call has no 'on'"),
         ("dispatcher\nrelease\non 3\non 3", 5, "'on' is given twice"),
         ("dispatcher\nrelease\non 256", 4, "'256' is not a decimal number, or out of range"),

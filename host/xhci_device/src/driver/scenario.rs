@@ -127,7 +127,7 @@ fn bring_up(f: &mut Formatter<'_>, attached: &Attached<'_>, pending: &Pending<'_
     writeln!(f, "parent {} {}", u8::from(parent.is_some()), parent.unwrap_or(0).min(MOST))?;
     write!(f, "port {port}\nrootport {root_port}\nheader {} {packet}\n", header.min(MOST))?;
     writeln!(f, "config {value}")?;
-    line(f, "rings", rings, |f, ring| write!(f, "{ring}"))?;
+    line(f, "rings", rings, |f, ring| write!(f, "{ring:#x}"))?;
     line(f, "list", list, word)?;
     line(f, "hubs", hubs, |f, hub| write!(f, "{hub:016x}"))
 }
