@@ -46,6 +46,24 @@ static void second_words(const uint32_t *words, size_t len) {
     device.words_len[1] = len;
 }
 
+/* The call as it is printed, as far as there is room. */
+static char printed[256];
+static size_t printed_len;
+
+static void put(char c, void *to) {
+    (void)to;
+    if (printed_len + 1 < sizeof printed) {
+        printed[printed_len++] = c;
+        printed[printed_len] = 0;
+    }
+}
+
+/* What is told of a read behind the name of the call that is printed. */
+static void is_told(const char *comment) {
+    const char *line = strchr(printed, '\n') + 1;
+    expect(strncmp(line, comment, strlen(comment)) == 0 && line[strlen(comment)] == '\n', comment);
+}
+
 static struct xhci_device_unreadable brought_up(uint32_t answer) {
     uint64_t image[XHCI_DEVICE_RECORD_WORDS] = {0}, routes[ROUTES] = {0};
     uint8_t ctx[XHCI_DEVICE_CONTEXT_BYTES_32] = {0};
@@ -54,6 +72,8 @@ static struct xhci_device_unreadable brought_up(uint32_t answer) {
     device.packet = speed > 3 ? 9 : 64;
     xhci_device_pending_bring_up(&call, image, ctx, sizeof ctx, &attached);
     left = xhci_device_pending_run(&call, routes, ROUTES, test_send, &device);
+    printed_len = 0;
+    xhci_device_pending_print(&call, put, NULL);
     expect(left.answer == answer && left.code == (answer == XHCI_DEVICE_ANSWER_FAILED ? XHCI_DEVICE_UNREADABLE : 0),
         "an answer of a bring-up");
     return xhci_device_pending_unreadable(&call);
@@ -88,6 +108,7 @@ static void is_malformed(const char *what, size_t at, uint8_t byte, size_t place
 static void nothing(void) {
     begin();
     expect(brought_up(XHCI_DEVICE_ANSWER_ACCEPTED).operation == 0, "two configurations");
+    is_told("bringup");
     second_bytes(PLAIN, sizeof PLAIN);
     expect(brought_up(XHCI_DEVICE_ANSWER_ACCEPTED).operation == 0, "one of them in bytes");
 }
@@ -99,11 +120,13 @@ static void too_short(void) {
     begin();
     device.descriptor_len = 17;
     counts("17 bytes", XHCI_DEVICE_OP_READ_DEVICE, 0, XHCI_DEVICE_UNREADABLE_TOO_SHORT, 17, 18);
+    is_told("# ReadDevice: 17 bytes, and 18 are needed");
     second_bytes(NULL, 0);
     counts("no configuration", XHCI_DEVICE_OP_READ_CONFIG, 1, XHCI_DEVICE_UNREADABLE_TOO_SHORT, 0, 9);
     begin();
     device.configurations = 9;
     counts("nine configurations", XHCI_DEVICE_OP_READ_DEVICE, 0, XHCI_DEVICE_UNREADABLE_CONFIGURATIONS, 9, 8);
+    is_told("# ReadDevice: 9 configurations, and 8 are allowed");
 }
 
 static void malformed(void) {
@@ -115,6 +138,7 @@ static void malformed(void) {
     is_malformed("a number of interfaces", 4, 2, 4);
     is_malformed("a number of endpoints", 13, 2, 13);
     is_malformed("packets bits of 3", 23, 0x18, 23);
+    is_told("# ReadConfig 1: the descriptors are malformed at byte 23");
     second_bytes(one, sizeof one);
     stands("one byte", XHCI_DEVICE_UNREADABLE_MALFORMED, 0, 0);
     second_bytes(PLAIN, sizeof PLAIN - 1);
@@ -127,6 +151,7 @@ static void no_list(void) {
     static const uint32_t unused[] = {0x00800000, 0x40000001}, no_alternate[] = {0x00800000, 0xa3840410};
     second_bytes(no_type, sizeof no_type);
     stands("an endpoint's type 0", XHCI_DEVICE_UNREADABLE_LIST, 2 + 2, 0xa2040410);
+    is_told("# ReadConfig 1: word a2040410 at place 4: the descriptor list is not valid");
     second_bytes(alone, sizeof alone);
     stands("no configuration first", XHCI_DEVICE_UNREADABLE_LIST, 2, 0x40000000);
     second_words(unused, 2);
@@ -159,6 +184,7 @@ static void companions(void) {
     expect(brought_up(XHCI_DEVICE_ANSWER_ACCEPTED).operation == 0, "a companion");
     bytes[27] = 16;
     stands("burst 16", XHCI_DEVICE_UNREADABLE_COMPANION, 25, 0);
+    is_told("# ReadConfig 1: descriptor at byte 25: a companion is missing, misplaced or out of range");
     second_bytes(PLAIN, sizeof PLAIN);
     speed = 5;
     stands("no companion", XHCI_DEVICE_UNREADABLE_COMPANION, 18, 0);
@@ -177,6 +203,7 @@ static void companions(void) {
     second_words(mult, 4);
     speed = 4;
     stands("a mult", XHCI_DEVICE_UNREADABLE_COMPANION, 2 + 3, 0xc1000000);
+    is_told("# ReadConfig 1: word c1000000 at place 5: a companion is missing, misplaced or out of range");
 }
 
 static void not_one(void) {
@@ -191,6 +218,7 @@ static void not_one(void) {
     stands("two in bytes", XHCI_DEVICE_UNREADABLE_NOT_ONE, 2 + 3, 0x00800000);
     second_bytes(other, sizeof other);
     stands("no word", XHCI_DEVICE_UNREADABLE_NOT_ONE, 2, 0);
+    is_told("# ReadConfig 1: word 00000000 at place 2: not one configuration");
 }
 
 /* 255 words behind two are one too many; so are 257 in bytes. */
@@ -212,6 +240,7 @@ static void no_room(void) {
     }
     second_bytes(bytes, sizeof bytes);
     counts("257 words in bytes", XHCI_DEVICE_OP_READ_CONFIG, 1, XHCI_DEVICE_UNREADABLE_NO_ROOM, 259, 256);
+    is_told("# ReadConfig 1: 259 words, and 256 are allowed");
 }
 
 static uint64_t seed = 0x5EED0020;

@@ -258,10 +258,53 @@ static void routes(const struct printer *p, const struct xhci_device_pending *ca
     key(p, "routeslen", least(call->own.routes_len, MOST_ROUTES));
 }
 
+/* A count that is not what is wanted. */
+static void counted(const struct printer *p, const struct xhci_device_unreadable *u) {
+    bool few = u->cause == XHCI_DEVICE_UNREADABLE_TOO_SHORT;
+    decimal(p, u->had);
+    text(p, few ? " bytes" : u->cause == XHCI_DEVICE_UNREADABLE_CONFIGURATIONS ? " configurations" : " words");
+    field(p, ", and ", u->wanted);
+    text(p, few ? " are needed\n" : " are allowed\n");
+}
+
+/* Which read a bring-up could not use, and why, as a comment. */
+static void unreadable(const struct printer *p, const struct xhci_device_unreadable *u) {
+    text(p, "# ");
+    text(p, xhci_device_operation_name(u->operation));
+    if (u->operation == XHCI_DEVICE_OP_READ_CONFIG) {
+        field(p, " ", u->index);
+    }
+    text(p, ": ");
+    if (u->wanted != 0) {
+        counted(p, u);
+        return;
+    }
+    if (u->cause == XHCI_DEVICE_UNREADABLE_MALFORMED) {
+        field(p, "the descriptors are malformed at byte ", u->place);
+        text(p, "\n");
+        return;
+    }
+    if (u->cause == XHCI_DEVICE_UNREADABLE_COMPANION && u->word == 0) {
+        field(p, "descriptor at byte ", u->place);
+    } else {
+        text(p, "word ");
+        hexadecimal(p, u->word, 8);
+        field(p, " at place ", u->place);
+    }
+    text(p, ": ");
+    text(p, u->cause == XHCI_DEVICE_UNREADABLE_LIST ? xhci_device_answer_name(XHCI_DEVICE_ANSWER_DESCRIPTOR_LIST)
+        : u->cause == XHCI_DEVICE_UNREADABLE_COMPANION ? xhci_device_answer_name(XHCI_DEVICE_ANSWER_COMPANION)
+                                                       : "not one configuration");
+    text(p, "\n");
+}
+
 void xhci_device_pending_print(const struct xhci_device_pending *call, void (*put)(char c, void *to), void *to) {
     struct printer printer = {put, to};
     size_t i;
     text(&printer, "scenario pending\n");
+    if (call->answered.code == XHCI_DEVICE_UNREADABLE) {
+        unreadable(&printer, &call->own.unreadable);
+    }
     name(&printer, &call->own);
     if (call->own.call != BRING_UP) {
         record(&printer, call->own.begun_image);

@@ -209,7 +209,7 @@ XHCI_DEVICE_MUST_USE struct xhci_device_answered xhci_device_pending_run(
  * run last. Run by the library, it gives the answer, log, context, record and routes of the slot that the call has now; only
  * a bring-up that was refused leaves an empty record there, and a call that routes of another length have ended is cut there.
  * What the call points to must stand. The routes are known from the first step on. An image that is no record is printed as
- * an unusable one. */
+ * an unusable one. Which read a bring-up could not use, and why, is told in a comment. */
 void xhci_device_pending_print(const struct xhci_device_pending *call, void (*put)(char c, void *to), void *to);
 
 #ifdef __cplusplus

@@ -54,6 +54,23 @@ fn lengths_slots_and_routes_of_a_bring_up() {
     }
 }
 
+/// A driver tells 255 of what it has read and cannot use, and of nothing else.
+#[test]
+fn reads_without_use() {
+    for (outcomes, failed) in [
+        ("000000ff", "4. ReadConfiguration                failed, code 255: a driver cannot use what was read"),
+        ("00000000ff", "5. ReadDevice                       failed, code 255: a driver cannot use what was read"),
+        ("0000000000ff", "6. ReadConfig 0                     failed, code 255: a driver cannot use what was read"),
+        ("0000000000fe", "6. ReadConfig 0                     failed, code 254"),
+        ("00ff", "2. ReadHeader                       failed, code 255"),
+        ("0000ff", "3. Evaluate                         failed, code 255"),
+    ] {
+        let ran = run(&["--explain", "-"], &bring_up(&["list 00400000", &format!("outcomes {outcomes}")]));
+        let lines: Vec<_> = ran.out.lines().filter(|line| line.contains("failed, code")).map(str::trim).collect();
+        assert_eq!(lines, [failed], "{}", ran.out);
+    }
+}
+
 /// A device that holds 81 for interface 0; interface 1 has 02 and 81 in alternate 0, 02 alone in alternate 1.
 const FIELDS: [&str; 8] =
     ["usable=1", "up=1", "slot=1", "n=1", "spacing=32", "speed=3", "config=1", "control=1000/active"];

@@ -95,11 +95,16 @@ fn context_at(layer: &mut dyn Layer, given: &Given, at: usize) -> Option<Vec<u8>
 /// Each command with its outcome, and with what it reads of the context that no command before it has read.
 fn commands(out: &mut String, layer: &mut dyn Layer, given: &Given, left: &Left) {
     const READ_CONTEXT: [u32; 3] = [1, 2, 3];
+    // ReadConfiguration, ReadDevice and ReadConfig, of which a driver makes use.
+    const READ_DEVICE: [u32; 3] = [9, 10, 11];
     let mut read = given.buffers.ctx.clone();
     for (at, word) in left.log.iter().take(left.answer.count).enumerate() {
         let outcome = match given.buffers.outcomes.get(at) {
             None => "no outcome".to_string(),
             Some(0) => "done".to_string(),
+            Some(255) if READ_DEVICE.contains(&(word >> 28)) => {
+                "failed, code 255: a driver cannot use what was read".to_string()
+            }
             Some(code) => format!("failed, code {code}"),
         };
         let _ = writeln!(out, "  {:>2}. {:<32} {outcome}", at + 1, command(*word));

@@ -48,6 +48,8 @@ impl<'a> Device<'a> {
         };
         let mut pending = Pending::new(&mut record, &mut ctx, Call::BringUp(attached));
         let answer = pending.run(&mut routes, &mut self);
+        let comment = pending.unreadable().map(|unreadable| format!("# {unreadable}"));
+        assert_eq!(pending.scenario().to_string().lines().find(|line| line.starts_with('#')), comment.as_deref());
         (answer, pending.outcomes().last().copied(), pending.unreadable())
     }
 

@@ -8,12 +8,13 @@ use crate::layout::{
     RING_ROOM,
 };
 use crate::learned::Numbers;
-use crate::{Asked, Attached, Call, Record};
+use crate::{Answer, Asked, Attached, Call, Record, UNREADABLE};
 
 impl Pending<'_> {
     /// The call as a scenario, with all that it began with and the outcomes so far (docs/SCENARIOS.md). Run elsewhere it
     /// answers and logs, and leaves record, context and the slot's own routes, as it does here after the last step; but that
-    /// a refused bring-up leaves an empty record there. Before the first step it has no routes.
+    /// a refused bring-up leaves an empty record there. Before the first step it has no routes. What a bring-up could not
+    /// use is told in a comment.
     ///
     /// ```
     /// use xhci_device::{Call, Pending, Record};
@@ -68,6 +69,11 @@ struct Scenario<'p, 'a>(&'p Pending<'a>);
 impl Display for Scenario<'_, '_> {
     fn fmt(&self, f: &mut Formatter<'_>) -> Result {
         f.write_str("scenario pending\n")?;
+        if let (true, Some(unreadable)) =
+            (self.0.answered.answer == Answer::Failed(UNREADABLE.get()), self.0.unreadable)
+        {
+            writeln!(f, "# {unreadable}")?;
+        }
         arguments(f, self.0)?;
         if !matches!(self.0.call, Call::BringUp(_)) {
             record(f, &self.0.begun.record)?;
