@@ -1,7 +1,10 @@
 //! What a claim would do.
 
+use core::fmt;
+
 use crate::Dci;
 use crate::bus::flagged;
+use crate::debug::{Hex, Listed};
 use crate::layout::EP_ROOM;
 
 /// What an accepted ask has shown: the endpoints that its claim would drop and add, and the rings that it would draw. A
@@ -19,6 +22,8 @@ use crate::layout::EP_ROOM;
 /// let asked = record.ask(&ctx, &routes, &log, 0, 1)?;
 /// assert_eq!((asked.interface(), asked.alternate()), (0, 1));
 /// assert!(asked.added().eq([Dci(3)]) && asked.add_flags() == 1 << 3 && asked.rings() == [0x2000]);
+/// let shown = "Asked { interface: 0, alternate: 1, dropped: [], added: [Dci(3)], rings: [0x2000] }";
+/// assert_eq!(format!("{asked:?}"), shown);
 ///
 /// let memory = Memory { ctx: &mut ctx, routes: &mut routes, log: &mut log, outcomes: &[0; 64] };
 /// record.claim(memory, 0, 0).answer.ok()?; // draws that ring: now Dci 3 would be dropped, too, and added on another
@@ -26,7 +31,7 @@ use crate::layout::EP_ROOM;
 /// assert_eq!(record.commit(memory, asked), Answered { answer: Answer::OutdatedAsk, count: 0 });
 /// # Ok::<(), Answer>(())
 /// ```
-#[derive(Clone, Debug, PartialEq, Eq, Hash)]
+#[derive(Clone, PartialEq, Eq, Hash)]
 pub struct Asked {
     pub(crate) interface: u8,
     pub(crate) alternate: u8,
@@ -34,6 +39,18 @@ pub struct Asked {
     pub(crate) adds: u32,
     pub(crate) rings: [u64; EP_ROOM],
     pub(crate) count: usize,
+}
+
+impl fmt::Debug for Asked {
+    fn fmt(&self, f: &mut fmt::Formatter<'_>) -> fmt::Result {
+        f.debug_struct("Asked")
+            .field("interface", &self.interface)
+            .field("alternate", &self.alternate)
+            .field("dropped", &Listed(|| self.dropped()))
+            .field("added", &Listed(|| self.added()))
+            .field("rings", &Listed(|| self.rings().iter().copied().map(Hex)))
+            .finish()
+    }
 }
 
 impl Asked {

@@ -11,7 +11,7 @@ impl<F: Fn() -> I, I: Iterator<Item: fmt::Debug>> fmt::Debug for Listed<F> {
     }
 }
 
-/// A ring, or a descriptor word.
+/// A ring, an endpoint's address, or a descriptor word.
 pub struct Hex(pub u64);
 
 impl fmt::Debug for Hex {

@@ -88,6 +88,7 @@ impl Order {
 
     /// The slot whose call runs now, and waits no longer: the lowest that waits above the one served last, or, where there
     /// is none, the lowest. None where none waits.
+    #[must_use]
     pub fn turn(&mut self) -> Option<SlotId> {
         library::turn(&mut self.0)
     }
@@ -96,6 +97,7 @@ impl Order {
 /// A call that is to wait for its turn, with the record that it is made on and the context that it is lent. Nobody else
 /// has these while it waits.
 #[derive(Debug)]
+#[must_use]
 pub struct Waiting<'a> {
     /// The record.
     pub record: &'a mut Record,
@@ -122,6 +124,7 @@ impl<'a> Waiting<'a> {
 
 /// A call that has run, with what it was lent.
 #[derive(Debug)]
+#[must_use]
 pub struct Ran<'a> {
     /// Its slot.
     pub slot: SlotId,
@@ -224,12 +227,14 @@ impl<'a> Dispatcher<'a> {
     }
 
     /// The call whose turn it is. It is to be run whole ([`Waiting::pending`]) before the next one is taken.
+    #[must_use]
     pub fn next(&mut self) -> Option<Waiting<'a>> {
         let slot = self.order.turn()?;
         self.waiting.iter_mut().find(|place| place.as_ref().is_some_and(|call| call.slot() == slot))?.take()
     }
 
     /// Runs the call whose turn it is, over the routes of all slots. None where none waits.
+    #[must_use]
     pub fn turn<B: Bus + ?Sized>(&mut self, routes: &mut [u64], bus: &mut B) -> Option<Ran<'a>> {
         if let Some(cut) = self.take_cut() {
             return Some(cut);
@@ -290,6 +295,7 @@ impl<'a> Dispatcher<'a> {
     /// assert_eq!(turn(), Some((2, Answer::Accepted)));
     /// assert_eq!(turn(), None);
     /// ```
+    #[must_use]
     pub async fn turn_async<R: Routes + ?Sized, B: AsyncBus>(&mut self, routes: &R, bus: &mut B) -> Option<Ran<'a>> {
         if let Some(cut) = self.take_cut() {
             return Some(cut);
@@ -336,6 +342,7 @@ impl<'a> Dispatcher<'a> {
     /// let unplug = Waiting { record: cut.record, ctx: cut.ctx, call: Call::Disconnect };
     /// assert!(dispatcher.submit(unplug).is_ok());
     /// ```
+    #[must_use]
     pub fn take_cut(&mut self) -> Option<Ran<'a>> {
         self.running.take().map(|lent| lent.ended(Answer::Cut, None))
     }

@@ -64,8 +64,9 @@ pub struct Record {
 /// let endpoint = record.endpoints().next().unwrap();
 /// assert_eq!(endpoint, Endpoint { address: 0x81, interface: 0, ring: 0x2000, active: true });
 /// assert_eq!(endpoint.dci(), Dci(3));
+/// assert_eq!(format!("{endpoint:?}"), "Endpoint { address: 0x81, interface: 0, ring: 0x2000, active: true }");
 /// ```
-#[derive(Clone, Copy, Debug, PartialEq, Eq, Hash)]
+#[derive(Clone, Copy, PartialEq, Eq, Hash)]
 pub struct Endpoint {
     /// The endpoint number, and 0x80 for IN.
     pub address: u8,
@@ -81,6 +82,17 @@ impl Endpoint {
     /// Its index in contexts and routes.
     pub fn dci(&self) -> Dci {
         Dci::of_address(self.address)
+    }
+}
+
+impl fmt::Debug for Endpoint {
+    fn fmt(&self, f: &mut fmt::Formatter<'_>) -> fmt::Result {
+        f.debug_struct("Endpoint")
+            .field("address", &Hex(self.address.into()))
+            .field("interface", &self.interface)
+            .field("ring", &Hex(self.ring))
+            .field("active", &self.active)
+            .finish()
     }
 }
 
