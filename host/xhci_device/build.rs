@@ -60,6 +60,12 @@ fn built(root: &Path) -> PathBuf {
     if old.is_empty() {
         return folder;
     }
+    if kit().is_none() {
+        fail(
+            "the archives of target/staticlib are not there or not of these sources, and rt of the Rattle kit, which makes \
+             them, is not on the path: XHCI_DEVICE_LIB_DIR can name a folder with archives that were made elsewhere",
+        );
+    }
     prove::build(root, &old);
     if let Some((_, fault)) = faults(&folder, Some(root)).first() {
         fail(&format!("what host/archives has made is not taken: {fault}"));

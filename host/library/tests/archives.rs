@@ -71,9 +71,7 @@ impl Place {
         for name in ["below", "between", "xhci_device_c", "xhci_functions_c"] {
             place.put(&format!("repository/crates/{name}/src/lib.rt"), name);
         }
-        for path in
-            ["src/lib/part.rt", "src/lib-part.rt", "specs/Laws.antt", "specs/Laws/Part.antt", "wrong/a.edit"]
-        {
+        for path in ["src/lib/part.rt", "src/lib-part.rt", "specs/Laws.antt", "specs/Laws/Part.antt", "wrong/a.edit"] {
             place.put(&format!("repository/crates/below/{path}"), "text");
         }
         place.put("outside/Cargo.toml", OUTSIDE);
@@ -91,6 +89,13 @@ impl Place {
         fs::write(path, text).expect("a file");
     }
 
+    /// The folders of the path that have no rt.
+    fn path_without_kit() -> String {
+        let path = env::var_os("PATH").expect("a path");
+        let folders = env::split_paths(&path).filter(|folder| !folder.join("rt").exists());
+        env::join_paths(folders).expect("a path").into_string().expect("a text")
+    }
+
     /// Runs a program over the kit, with no variable of the build but these, and no configuration of cargo's from outside.
     fn run(&self, program: &str, args: &[&str], folder: &str, variables: &[(&str, &Path)]) -> Output {
         let path = format!("{}:{}", self.0.join("kit/bin").display(), env::var("PATH").expect("a path"));
@@ -102,6 +107,13 @@ impl Place {
         let (target, home) = (self.0.join("target").join(folder), self.0.join("home"));
         command.env("CARGO_TARGET_DIR", target).env("CARGO_HOME", home).envs(variables.iter().copied());
         command.output().expect("a program")
+    }
+
+    /// What a script says that fails.
+    fn refusal(&self, name: &str, args: &[&str], variables: &[(&str, &Path)]) -> String {
+        let ran = self.run(&format!("host/{name}"), args, "repository", variables);
+        assert!(!ran.status.success() && ran.stdout.is_empty(), "{name} {args:?}");
+        String::from_utf8(ran.stderr).expect("a text")
     }
 
     fn script(&self, name: &str, args: &[&str]) -> String {
@@ -136,6 +148,36 @@ fn the_digest_is_the_build_scripts() {
         known.push(digests);
     }
     assert!(known[0][0] != known[1][0] && known[0][1] == known[1][1] && known[0][0] != known[0][1]);
+}
+
+#[test]
+fn what_is_not_made_is_told_in_words() {
+    let place = Place::new("words");
+    let path = Place::path_without_kit();
+    let without: [(&str, &Path); 1] = [("PATH", Path::new(&path))];
+    place.put("folder/libxhci_device.a", "!<arch>");
+    for (args, said) in [
+        (&[][..], "rt of the Rattle kit, which makes libxhci_device.a, is not on the path"),
+        (&["--if-old"], "rt of the Rattle kit, which makes libxhci_device.a, is not on the path"),
+        (&["--help"], "usage: host/archives [--if-old] [NAME...]"),
+        (&["--check"], "--check takes a folder"),
+        (&["--check", "../none"], "--check takes a folder"),
+        (&["--check", "../kit"], "kit has no libxhci_device.a"),
+        (
+            &["--check", "../folder"],
+            "folder has no libxhci_device.origin, which says what libxhci_device.a was made from",
+        ),
+        (&["between", "nothing"], "there is no archive between"),
+    ] {
+        let message = place.refusal("archives", args, &without);
+        assert!(message.starts_with("host/archives: ") && message.lines().count() == 1, "{message}");
+        assert!(message.contains(said), "{message}");
+    }
+    for folder in OUTSIDE_AND_INSIDE {
+        let fault = place.fault(folder, &without).expect("no archives");
+        assert!(fault.contains("rt of the Rattle kit, which makes them, is not on the path"), "{fault}");
+    }
+    assert_eq!(place.made(), 0);
 }
 
 const OUTSIDE_AND_INSIDE: [&str; 2] = ["outside", "repository/host/xhci_device"];
