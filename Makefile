@@ -1,7 +1,7 @@
 # make install PREFIX=FOLDER [DESTDIR=FOLDER]: the headers, the archives with their origins, the C driver's sources, a pkg-config file, a
 # configuration for packages of Rust, and the licence. host/archives makes the archives, which takes rt, unless those in
 # target/staticlib are of these sources. Where XHCI_DEVICE_LIB_DIR names a folder, its archives are installed, if they are of these
-# sources; XHCI_DEVICE_LIB_UNCHECKED=1 takes any.
+# sources; XHCI_DEVICE_LIB_UNCHECKED=1 takes any. make uninstall, with the same names, takes all that away.
 
 PREFIX ?= /usr/local
 
@@ -13,7 +13,7 @@ folder := $(or $(XHCI_DEVICE_LIB_DIR),target/staticlib)
 names := -e 's|@PREFIX@|$(prefix)|' -e 's|@VERSION@|$(version)|'
 libraries := $(addprefix $(folder)/lib, xhci_device xhci_functions)
 
-.PHONY: archives install
+.PHONY: archives install uninstall
 
 archives:
 ifndef XHCI_DEVICE_LIB_DIR
@@ -30,3 +30,8 @@ install: archives
 	install -m 644 LICENSE NOTICE '$(tree)/share/doc/xhci_device'
 	sed $(names) host/installed/xhci_device.pc > '$(tree)/lib/pkgconfig/xhci_device.pc'
 	sed $(names) host/installed/config.toml > '$(tree)/share/xhci_device/config.toml'
+
+uninstall:
+	rm -f $(patsubst %, '$(tree)/%', include/xhci_device.h include/xhci_device_driver.h lib/libxhci_device.a lib/libxhci_device.origin \
+	    lib/libxhci_functions.a lib/libxhci_functions.origin lib/pkgconfig/xhci_device.pc)
+	rm -rf '$(tree)/share/xhci_device' '$(tree)/share/doc/xhci_device'
