@@ -39,6 +39,9 @@ fn faults(folder: &Path, root: Option<&Path>) -> Vec<(&'static str, String)> {
 }
 
 fn ready(folder: PathBuf, root: Option<&Path>) -> PathBuf {
+    if folder.is_relative() {
+        fail(&format!("XHCI_DEVICE_LIB_DIR must be an absolute path, and {} is none", folder.display()));
+    }
     let unchecked = env::var_os("XHCI_DEVICE_LIB_UNCHECKED").is_some();
     if let Some((_, fault)) = faults(&folder, root).first().filter(|_| !unchecked) {
         fail(&format!(

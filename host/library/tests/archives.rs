@@ -215,6 +215,8 @@ fn a_folder_is_named_by_the_environment_or_by_the_package() {
     let named: [(&str, &Path); 1] = [("XHCI_DEVICE_LIB_DIR", &other)];
     let unchecked = [named[0], ("XHCI_DEVICE_LIB_UNCHECKED", Path::new("1"))];
     OUTSIDE_AND_INSIDE.iter().for_each(|folder| assert_eq!(place.fault(folder, &named), None));
+    let fault = place.fault("outside", &[("XHCI_DEVICE_LIB_DIR", Path::new("../other"))]).expect("a relative path");
+    assert!(fault.contains("XHCI_DEVICE_LIB_DIR must be an absolute path, and ../other is none"), "{fault}");
     place.put("other/libxhci_device.a", "!<arch>\nanother");
     for folder in OUTSIDE_AND_INSIDE {
         let fault = place.fault(folder, &named).expect("another archive");
