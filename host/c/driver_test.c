@@ -102,6 +102,11 @@ static bool ask(const struct world *w, struct script *s) {
         kept = kept
             && few == (few == 12 || few == 1 || few == 2 ? s->asked.answer : (uint32_t)XHCI_DEVICE_ANSWER_LOG_TOO_SHORT);
         s->asked.adds ^= below(10) == 0 ? 1u << below(32) : 0;
+        if (s->asked.answer != XHCI_DEVICE_ANSWER_ACCEPTED && below(2) == 0) {
+            s->asked.drops = 1; /* as the driver has it */
+        } else {
+            s->asked.answer = XHCI_DEVICE_ANSWER_ACCEPTED;
+        }
     }
     return kept;
 }

@@ -187,6 +187,26 @@ static void asks(void) {
     }
 }
 
+/* A refused ask is not committed, though its zeros are an ask that would be shown. */
+static void refused_ask(void) {
+    static const uint32_t bare[] = {0x00400000, 0x40000000};
+    uint64_t rings[XHCI_DEVICE_EP_ROOM];
+    struct xhci_device_asked asked;
+    bring_up_and_claim();
+    device.words[0] = bare;
+    device.words_len[0] = 2;
+    memset(routes, 0, sizeof routes);
+    xhci_device_pending_bring_up(&call, image, ctx, sizeof ctx, &ATTACHED);
+    expect(run() == XHCI_DEVICE_ANSWER_ACCEPTED, "a bring-up");
+    asked = xhci_device_pending_ask(image, sizeof ctx, ROUTES, 0, 1, rings);
+    expect(asked.answer == XHCI_DEVICE_ANSWER_NOT_FOUND, "a refused ask");
+    xhci_device_pending_commit(&call, image, ctx, sizeof ctx, &asked, rings);
+    expect(run() == XHCI_DEVICE_ANSWER_OUTDATED_ASK && call.answered.count == 0, "its commit");
+    asked.answer = XHCI_DEVICE_ANSWER_ACCEPTED;
+    xhci_device_pending_commit(&call, image, ctx, sizeof ctx, &asked, rings);
+    expect(run() == XHCI_DEVICE_ANSWER_ACCEPTED && xhci_device_held_count(image) == 1, "the commit of its zeros");
+}
+
 static char printed[4096];
 
 static void put(char c, void *to) {
@@ -238,6 +258,7 @@ int main(void) {
     run_untold();
     codes();
     asks();
+    refused_ask();
     prints();
     return 0;
 }

@@ -58,6 +58,9 @@ void xhci_device_pending_commit(struct xhci_device_pending *call, uint64_t *imag
                                 const struct xhci_device_asked *asked, const uint64_t *rings) {
     begin(call, COMMIT, image, ctx, ctx_len);
     call->own.asked = *asked;
+    if (asked->answer != XHCI_DEVICE_ANSWER_ACCEPTED) {
+        call->own.asked.drops = 1; /* No ask shows that. */
+    }
     call->own.rings = words_or_none(rings, asked->count);
     call->own.interface = asked->interface;
     call->own.alternate = asked->alternate;

@@ -431,7 +431,7 @@ XHCI_DEVICE_MUST_USE struct xhci_device_answered xhci_device_claim(
     uint8_t interface, uint8_t alternate);
 
 /* What an ask returns, beside the rings in the words that it was lent. A refused one has 0 everywhere but in `answer`, and
- * is not to be committed: its zeros name interface 0, alternate 0. */
+ * is not to be committed: its zeros name interface 0, alternate 0. (xhci_device_pending_commit looks at `answer`.) */
 struct xhci_device_asked {
     uint32_t answer;    /* 0, or why a claim would be refused */
     uint8_t interface;

@@ -152,7 +152,8 @@ void xhci_device_pending_bring_up(struct xhci_device_pending *call, uint64_t *im
                                   const struct xhci_device_attached *attached);
 void xhci_device_pending_claim(struct xhci_device_pending *call, uint64_t *image, uint8_t *ctx, size_t ctx_len,
                                uint8_t interface, uint8_t alternate);
-/* The claim that an accepted xhci_device_pending_ask has shown, with the rings that it left in the words that it was lent. */
+/* The claim that an xhci_device_pending_ask has shown, with the rings that it left in the words that it was lent. Of an ask
+ * that was refused nothing is sent: 22, or what is refused before. */
 void xhci_device_pending_commit(struct xhci_device_pending *call, uint64_t *image, uint8_t *ctx, size_t ctx_len,
                                 const struct xhci_device_asked *asked, const uint64_t *rings);
 void xhci_device_pending_release(struct xhci_device_pending *call, uint64_t *image, uint8_t *ctx, size_t ctx_len,
