@@ -54,6 +54,21 @@ fn lengths_slots_and_routes_of_a_bring_up() {
     }
 }
 
+#[test]
+fn what_a_call_is_given() {
+    let told = |text: &str| run(&["--explain", "-"], text).out;
+    let unread = "\n    configuration 0\n    (in a printed call the word 0 is a configuration that was not read yet)\n";
+    assert!(told(&bring_up(&["list 00400000 00000000"])).contains(unread));
+    assert!(!told(&bring_up(&["list 00400000"])).contains("printed call"));
+    for (multi, expected) in [
+        (1, "hub update: 4 ports, several translators, think time 666 ns"),
+        (0, "hub update: 4 ports, think time 666 ns"),
+    ] {
+        let text = told(&format!("scenario a\nhubupdate\nports 4\nmulti {multi}\nthink 666\ngo\nend\n"));
+        assert_eq!(text.lines().nth(2), Some(expected));
+    }
+}
+
 /// A driver tells 255 of what it has read and cannot use, and of nothing else.
 #[test]
 fn reads_without_use() {

@@ -78,7 +78,10 @@ pub fn title(call: &Call) -> String {
         }
         Call::Release { interface } => format!("release of interface {interface}"),
         Call::SetConfiguration { value } => format!("set configuration {value}"),
-        Call::HubUpdate(args) => format!("hub update: {} ports, think time {} ns", args.ports, args.think),
+        Call::HubUpdate(HubUpdate { ports, multi, think }) => {
+            let translators = if *multi { ", several translators" } else { "" };
+            format!("hub update: {ports} ports{translators}, think time {think} ns")
+        }
         Call::Disconnect => "unplugging".to_string(),
         Call::Why(args) => format!("why: a claim of interface {}, alternate {}", args.interface, args.alternate),
     }
@@ -184,7 +187,12 @@ pub fn explain_text(out: &mut String, layer: &mut dyn Layer, given: &Given, left
     let _ = writeln!(out, "{}", title(given.call));
     match given.call {
         Call::Why(args) => return explain_why(out, layer, given, args),
-        Call::BringUp(args) => explain_words(out, &args.list),
+        Call::BringUp(args) => {
+            explain_words(out, &args.list);
+            if args.list.contains(&0) {
+                out.push_str("    (in a printed call the word 0 is a configuration that was not read yet)\n");
+            }
+        }
         _ => {}
     }
     commands(out, layer, given, left);
