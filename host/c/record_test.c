@@ -185,7 +185,20 @@ static void fields(void) {
     expect(xhci_device_descriptor_of(0xa1840410).kind == XHCI_DEVICE_DESCRIPTOR_NONE, "endpoint number 0");
 }
 
+/* The hubs of docs/FORMATS.md, "Hub word", and what a word has no bits for. */
+static void hubs(void) {
+    const struct xhci_device_hub root = {false, 9, 0, -1, 4, 0, false}, first = {true, 0, 1, 0, 3, 3, true},
+                                 second = {true, 1, 2, 1, 3, 4, false}, third = {true, 1, 3, 1, 1, 20, false},
+                                 outside = {true, 255, 255, -2, 255, 255, true};
+    expect(xhci_device_hub_word(root) == UINT64_C(0x8000040000000000), "a root hub");
+    expect(xhci_device_hub_word(first) == UINT64_C(0xc0004b0380000000), "a hub on it");
+    expect(xhci_device_hub_word(second) == UINT64_C(0xc040930400000000), "a hub on that");
+    expect(xhci_device_hub_word(third) == UINT64_C(0xc040d11400000000), "one beside it");
+    expect(xhci_device_hub_word(outside) == UINT64_C(0xffffffff80000000), "what has no bits");
+}
+
 int main(void) {
+    hubs();
     nothing();
     bring_up();
     brought_up();

@@ -409,6 +409,25 @@ static inline struct xhci_device_descriptor xhci_device_descriptor_of(uint32_t w
     return d;
 }
 
+/* A hub, as a bring-up is told of it. */
+struct xhci_device_hub {
+    bool has_parent;    /* whether it is on another hub, */
+    uint8_t parent;     /* and that one's place among the hub words */
+    uint8_t slot;       /* its own */
+    int8_t depth;       /* -1 of a root hub, otherwise one more than its parent's, at most 4 */
+    uint8_t speed;      /* xHCI's speed id, 1 to 5 */
+    uint8_t port;       /* that it is on */
+    bool multi;         /* whether each of its ports has its own transaction translator */
+};
+
+/* Its hub word. A depth or a speed that has no bits in it is written as 7, which a bring-up refuses. */
+static inline uint64_t xhci_device_hub_word(struct xhci_device_hub hub) {
+    uint64_t depth = (uint8_t)(hub.depth + 1), speed = hub.speed;
+    return UINT64_C(1) << 63 | (uint64_t)hub.has_parent << 62 | (uint64_t)(hub.has_parent ? hub.parent : 0) << 54
+        | (uint64_t)hub.slot << 46 | (depth < 7 ? depth : 7) << 43 | (speed < 7 ? speed : 7) << 40
+        | (uint64_t)hub.port << 32 | (uint64_t)hub.multi << 31;
+}
+
 /* The bring-up of a slot: makes the record, whatever the image held. The slot is given 1 to 64 rings, in any order: the
  * lowest is control's, and claims draw from the others. At speeds 4 and 5 the list has each endpoint's companion directly
  * behind the endpoint's word.

@@ -55,7 +55,7 @@ struct xhci_device_attached {
     uint8_t root_port;
     const uint64_t *rings;  /* that the slot is given: 1 to 64, in any order; the lowest is control's */
     size_t rings_len;
-    const uint64_t *hubs;   /* hub words */
+    const uint64_t *hubs;   /* hub words (xhci_device_hub_word), of every hub between the root hub and the device at least */
     size_t hubs_len;
 };
 
