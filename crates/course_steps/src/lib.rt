@@ -1,4 +1,4 @@
-// What the courses of claim, release and set configuration share: parts of arrays lent on, and how a course ends.
+// What the courses of claim, release, set configuration and unplugging share: parts of arrays lent on, and how a course ends.
 // Context, routes, log and outcomes stay four parameters of a course, as they are of a call (crates/device/src/lib.rt).
 #![tactic(auto)]
 

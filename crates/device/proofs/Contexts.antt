@@ -65,7 +65,7 @@ module _ (d : Device) (f : SoundFacts d) (ctx : List ℕ) (sp : Spaced d.spacing
           dcis = queue_dcis_lem (endpoint_map_in d).rings;
         }
 
-    -- Its Configure: each new word with the ring offered for it.
+    -- Its Configure: each new word with the ring drawn for it.
     pub claim_reads :
         ConfigureReads d.spacing d.port_speed i a old new (queues (word_dcis new) rings) dcis ctx (claim_context (claim_in d i a rings) ctx)
     unfolding claim_in pending_of

@@ -131,7 +131,7 @@ pub queues_of_below : (b d : ℕ) (rings : List ℕ) → 0 < b → ((k : ℕ) �
 unfolding queues_of
 queues_of_below b d rings l h = gathered_below b d rings h 30 0 0 l
 
--- The rings offered for words, by place or word by word: the same where a Configure reads them.
+-- The rings drawn for words, by place or word by word: the same where a Configure reads them.
 ring_same : (ws rings : List ℕ) (d : ℕ) → 2 ≤ d → d < 32 → ring_for d (queues_of (pending_rings ws rings)) 0 ≡ ring_for d (queues (word_dcis ws) rings) 0
 ring_same ws rings =
     each_dci (λ d. ring_for d (queues_of (pending_rings ws rings)) 0 ≡ ring_for d (queues (word_dcis ws) rings) 0)
@@ -192,7 +192,7 @@ owned_below b d who c l h = queues_of_below b d (owned_rings who c) l (λ k. go 
         let past : length (owned_rings who c) ≤ k = omega (arith, owned_length who c) in
         rw (get_or-eq_default (owned_rings who c) 0 past) l
 
--- Those offered for words, by place.
+-- Those drawn for words, by place.
 pub pending_below : (b d : ℕ) (ws rings : List ℕ) → 0 < b → ((k : ℕ) → get_or rings k 0 < b) → ring_for d (queues_of (pending_rings ws rings)) 0 < b
 pending_below b d ws rings l h = queues_of_below b d (pending_rings ws rings) l (λ k. go k (dec_lt k 30))
   where

@@ -12,7 +12,7 @@ use record_settings::HELD_ROOM;
 // 01 asks for a struct by value with its arrays beside their counts.
 #[derive(Clone, Copy)]
 pub struct Device {
-    // 01's mark: false after 14, 15 and every refused bring-up.
+    // 01's mark: false after 14, 15, every refused bring-up and an accepted unplugging.
     pub usable: bool,
     // true from an accepted bring-up to an accepted unplugging
     pub up: bool,

@@ -375,7 +375,7 @@ module _ (n : ℕ) (eps : List Endpoint) (owners : List ℕ) (control : ℕ)
         let t = stands p.at p.high p.nonzero in
         rw (p.same, t.same) (elem_at live t.at t.inside)
 
--- Rings offered for words.
+-- Rings drawn for words.
 
 -- The ring at a place is that of a word with that place, or none.
 record From (words rings : List ℕ) (p ring : ℕ) : Type 0 where
@@ -432,7 +432,7 @@ pending_from_lem words rings p h z = go (pending_source words rings (replicate 3
     go (inl e) = absurd (z (e ∙ get_or-replicate 30 p 0 0 h))
     go (inr t) = t
 
--- The rings offered, by place.
+-- The rings drawn, by place.
 pub apart_offered :
     (words rings live : List ℕ) (control : ℕ) (quarantined given : List ℕ) →
     Offered (length words) rings live control quarantined → ((x : ℕ) → elem x rings ≡ true → elem x given ≡ true) →
@@ -533,7 +533,7 @@ module _ (i : ℕ) (pending : List ℕ) (c : EndpointMap) (control : ℕ) (given
         from_given = λ p h z. source_given p h (source p h z);
       }
 
--- A claim with rings that were offered keeps them apart.
+-- A claim with rings that were drawn keeps them apart.
 pub apart_claimed :
     (i : ℕ) (words rings : List ℕ) (c : EndpointMap) (control : ℕ) (quarantined given : List ℕ) → CleanMap c →
     Offered (length words) rings c.rings control quarantined → ((x : ℕ) → elem x rings ≡ true → elem x given ≡ true) →

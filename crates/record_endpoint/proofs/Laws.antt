@@ -551,7 +551,7 @@ pub queues_as :
     queues (take q.count q.dcis) (take q.count q.rings) ≡ queues_of rings
 queues_as q rings a = rw (a.dcis, a.rings) (queues_back (queues_of rings))
 
--- The rings offered for endpoint words.
+-- The rings drawn for endpoint words.
 
 -- The Dcis of endpoint words.
 unfoldable pub word_dcis : List ℕ → List ℕ

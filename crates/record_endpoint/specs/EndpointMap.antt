@@ -85,7 +85,7 @@ owned_rings who c = tabulated (λ p. cond (is_owned who c p) (get_or c.rings p 0
 unfoldable pub queues_of : List ℕ → List Queue
 queues_of rings = gathered (λ p. record { dci = dci_at p; ring = get_or rings p 0 }) rings PLACES 0
 
--- The rings offered for endpoint words, by place: of a repeated address the last word's.
+-- The rings drawn for endpoint words, by place: of a repeated address the last word's.
 unfoldable pub pending_from : List ℕ → List ℕ → List ℕ → List ℕ
 pending_from [] rings by = by
 pending_from (w ∷ ws) rings by =

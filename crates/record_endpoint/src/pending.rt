@@ -29,7 +29,7 @@ pub fn queues_of(by: [u64; PLACES]) -> Queues
     }
 }
 
-// The rings offered for endpoint words, by place: of a repeated address the last word's, 0 where there is none.
+// The rings drawn for endpoint words, by place: of a repeated address the last word's, 0 where there is none.
 pub fn pending_rings(words: &[u64], rings: &[u64]) -> [u64; PLACES]
     ensures { result ≡ pending_rings words.now rings.now }
 {

@@ -1,4 +1,4 @@
-// Replays bring-ups that the original was given, through the function for C; `stdout` is what the original left.
+// Replays bring-ups that the original was given, through the function for C; `stdout` is what the original left, but for the fields that docs/DIFFERENCES.md names.
 #![tactic(auto)]
 
 use std::io;

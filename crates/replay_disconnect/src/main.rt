@@ -1,4 +1,4 @@
-// Replays unpluggings that the original was given, through the function for C; `stdout` is what the original left.
+// Replays unpluggings that the original was given, through the function for C; `stdout` is what the original left, but for the fields that docs/DIFFERENCES.md names.
 #![tactic(auto)]
 
 use std::io;

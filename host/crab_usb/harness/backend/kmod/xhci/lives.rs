@@ -168,6 +168,26 @@ fn a_claim_that_is_dropped() {
     assert_eq!((routes(&host), below.in_use), (vec![], false));
 }
 
+/// Nobody has the device any more: what the controller may use stays.
+#[test]
+fn a_bring_up_that_is_dropped() {
+    let mut host = controller();
+    let mut device = attached(&mut host);
+    outcomes(&[0]);
+    let info = address_info(&port()).unwrap_or_else(|_| panic!());
+    assert!(poll(device.init(&mut host, &info)).is_pending());
+    drop(device);
+    assert_eq!(routes(&host), [(1, 0x1000)]);
+    assert!(event(&host, 1, 0x1000, CompletionCode::Success));
+
+    let (host, mut device) = brought_up();
+    outcomes(&[0; 64]);
+    assert!(done(device.disconnect()).is_ok());
+    drop(device);
+    host.transfer_result_handler.load_routes(&[0x1000; 32 * 4]);
+    assert!(!event(&host, 1, 0x1000, CompletionCode::Success), "its rings are the kernel's again");
+}
+
 #[test]
 fn a_switch_that_is_undone() {
     let (host, mut device) = brought_up();

@@ -112,11 +112,13 @@ impl Device {
     }
 
     /// The layer's answer to the last call, which has more to say than an error: docs/INTEGRATION.md has what to do after it.
+    #[allow(dead_code)]
     pub(crate) fn answer(&self) -> Answer {
         self.answer
     }
 
     /// What is held, and by which rings.
+    #[allow(dead_code)]
     pub(crate) fn record(&self) -> &Record {
         &self.record
     }

@@ -103,8 +103,8 @@ impl Pool {
     }
 }
 
-/// What stands behind the handle of an endpoint: a ring, for as long as it is this holder's. Whether the handle itself was
-/// revoked or made active again by someone does not matter to the record, so nothing is sent against it.
+/// What stands behind the handle of an endpoint: a ring, for as long as it is this holder's. A handle may be made active again by
+/// code that knows of no record; nothing is sent even so, unless the record calls the endpoint active.
 pub(super) struct Lease {
     ring: Ring,
     holder: u64,
