@@ -218,11 +218,12 @@ fn words_of_the_sources() -> BTreeSet<String> {
 }
 
 /// Pages in which a name in backticks is one of the sources. (In the others it may be crab-usb's, a machine's, or a number.)
-const NAMING: [&str; 10] = [
+const NAMING: [&str; 11] = [
     "ACCEPTANCE",
     "BEHAVIOUR",
     "CHECK-TIMES",
     "DECISIONS",
+    "INTEGRATION",
     "OTHER-MACHINES",
     "PROOF-NOTES",
     "QEMU",
@@ -241,7 +242,9 @@ fn names_exist() {
     for page in &pages {
         let text = read(page);
         let text = if page.contains("requests") { part(&text, "## Asked, and what meets it") } else { &text };
-        let is_name = |name: &&str| name.chars().all(|c| c.is_ascii_alphanumeric() || c == '_') && name.len() > 1;
+        let is_word = |name: &str| name.chars().all(|c| c.is_ascii_alphanumeric() || c == '_') && name.len() > 1;
+        // memmove is the C library's, which archives need and no source names.
+        let is_name = |name: &&str| is_word(name) && *name != "memmove";
         let named = text.lines().filter(|line| !line.starts_with("    ")).flat_map(quoted).filter(is_name);
         let named: Vec<&str> = named.collect();
         count += named.len();
@@ -349,9 +352,19 @@ fn a_decision_has_its_reason() {
 #[test]
 fn pages_tell_no_history() {
     for (page, text) in papers() {
-        for told in
-            ["this landing", "the landing", "checks beside", "with other checks", "beside other work", "on this tree"]
-        {
+        let told = [
+            "this landing",
+            "the landing",
+            "checks beside",
+            "with other checks",
+            "beside other work",
+            "on this tree",
+            "kit before this",
+            "at a time on",
+            "checked together",
+            "Last run",
+        ];
+        for told in told {
             assert!(!text.contains(told), "{}: '{told}'", page.display());
         }
     }
