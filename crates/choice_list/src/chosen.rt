@@ -12,7 +12,7 @@ ghost use Rattle.choice_list.specs.Tried.{candidates, place_of};
 use super::candidate;
 use super::names::Names;
 use choice_search::{CANDIDATES, Candidate, NAMES};
-use descriptor_list::Joined;
+use descriptor_list::LIST_ROOM;
 
 // 0 and an alternate for each name, 0 past them; or 12, 29 or 30 and zeros.
 #[repr(C)]
@@ -65,8 +65,9 @@ fn candidates_of(
     requires { (length list.now ≤ LIST-ROOM) × ((length names.now ≤ NAMES) × ((distinct names.now ≡ true) × (length all.old ≡ CANDIDATES))) }
     ensures { grouped (take (length names.now) result) all.new ≡ map (candidates (joined list.now) speed longest) names.now }
 {
-    let joined = Joined::of(list);
-    all_candidates(joined.words(), speed, longest, names, all)
+    let mut words = [0; LIST_ROOM];
+    let count = descriptor_list::join(list, &mut words);
+    all_candidates(&words[..count], speed, longest, names, all)
 }
 
 // The alternate of the word at a place.
@@ -94,8 +95,9 @@ fn alternates_of(list: &[u32], names: &[u8], once: &Names, picks: [u8; NAMES]) -
     requires { (length list.now ≤ LIST-ROOM) × (length names.now ≤ NAMES) }
     ensures { AlternatesAs (map (λ x. alternate_at (joined list.now) (place_of (take once.now.count once.now.names) (turned picks once.now.count) x)) names.now) result }
 {
-    let all = Joined::of(list);
-    joined_alternates(all.words(), names, once, picks)
+    let mut words = [0; LIST_ROOM];
+    let count = descriptor_list::join(list, &mut words);
+    joined_alternates(&words[..count], names, once, picks)
 }
 
 // The first choice for up to eight names.
