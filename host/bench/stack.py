@@ -3,7 +3,7 @@
 A function's frame is every `push` and every `sub` of the stack pointer in it, and its return address; the need is
 the largest sum over a chain of calls. Pushes of arguments are counted as if all stood at once. A large frame is taken
 step by step in a loop, up to where %r11 points. A function that can come to call itself has no such sum: a cycle of calls
-is an error, but for one that calls itself with a name less each time.
+is an error, but for one that calls itself with a name less each time. So is a function that needs more than its limit.
 """
 import collections
 import functools
@@ -15,6 +15,33 @@ ARCHIVE = sys.argv[1] if len(sys.argv) > 1 else "target/staticlib/libxhci_device
 
 # How often each of these is under way at most: for eight names, seven, and so on to none.
 DEPTH = {"choice_search::pick_from": 9}
+
+# What each exported function may need: no change makes it more, and one that needs less lowers it.
+LIMITS = {
+    "xhci_device_commit": 17024,
+    "xhci_device_claim": 16768,
+    "xhci_device_release": 15680,
+    "xhci_device_set_configuration": 14912,
+    "xhci_device_disconnect": 14464,
+    "xhci_device_hub_update": 12928,
+    "xhci_device_choose": 12160,
+    "xhci_device_ask": 10880,
+    "xhci_device_bring_up": 10752,
+    "xhci_device_why": 10752,
+    "xhci_device_is_sound": 9920,
+    "xhci_device_is_up": 7040,
+    "xhci_device_is_usable": 7040,
+    "xhci_device_submit": 576,
+    "xhci_device_turn": 576,
+    "xhci_device_new_dispatcher": 64,
+    "xhci_device_command_of": 64,
+    "xhci_device_record_words": 64,
+    "xhci_device_read_descriptors": 7616,
+    "xhci_device_write_descriptors": 6592,
+    "xhci_device_settings_to_old": 6400,
+    "xhci_device_settings_to_new": 6336,
+    "xhci_device_block": 64,
+}
 
 frame = collections.Counter()
 calls = collections.defaultdict(set)
@@ -74,5 +101,9 @@ for name in DEPTH:
     once(name)
 for name in sorted(frame):
     refuse_cycle(name)
-for name in sorted((n for n in frame if n.startswith("xhci_device_")), key=need, reverse=True):
+exported = sorted((n for n in frame if n.startswith("xhci_device_")), key=need, reverse=True)
+for name in exported:
     print(f"{need(name):6}  {name}")
+over = [f"{name}: {need(name)} bytes, its limit is {LIMITS.get(name, 0)}" for name in exported if need(name) > LIMITS.get(name, 0)]
+if over:
+    sys.exit("\n".join(over))

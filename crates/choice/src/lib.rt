@@ -8,8 +8,8 @@ use choice_search::NAMES;
 use device::Device;
 
 // 12, 29, 30, or the first choice of the record's list, at its speed.
-pub fn choose(d: Device, names: &[u8], longest: u32) -> Chosen
-    ensures { Answered d names.now longest result }
+pub fn choose(d: &Device, names: &[u8], longest: u32) -> Chosen
+    ensures { Answered d.now names.now longest result }
 {
     if !d.usable || !d.sound() {
         return choice_list::refused(12);

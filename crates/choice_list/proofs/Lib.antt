@@ -1,6 +1,8 @@
 mod Examples
 pub mod Exits
+pub mod Few
 pub mod Filled
+pub mod Grouped
 pub mod Lift
 pub mod Listed
 mod Longest

@@ -1,22 +1,19 @@
 // The alternates that an interface may choose for a wanted polling period, as the search takes them.
-ghost use Rattle.std.specs.Prelude.{◌≡◌, ◌≤◌, ◌<◌, length};
+ghost use Rattle.std.specs.Prelude.{◌≡◌, ◌≤◌, ◌<◌, ◌+◌, ◌++◌, length, take};
 ghost use Rattle.descriptor_list.specs.Lookup.{of_interface};
 ghost use Rattle.descriptor_list.specs.Valid.{LIST-ROOM};
 ghost use Rattle.context_block.specs.Flags.{flags_of};
-ghost use Rattle.choice_search.specs.Search.{candidates_in};
+ghost use Rattle.choice_search.specs.Room.{CANDIDATES};
 ghost use Rattle.choice_list.specs.Candidate.{first_length, is_short, all_short, words_at};
 ghost use Rattle.choice_list.specs.Tried.{may_choose, candidates};
 
-use choice_search::{CANDIDATES, Candidate, Candidates};
+use choice_search::Candidate;
 use descriptor::{TransferType, WordKind};
 
-// No candidates.
-pub const NONE: Candidates = Candidates {
-    all: [Candidate {
-        place: 0,
-        addresses: 0,
-    }; CANDIDATES],
-    count: 0,
+// What an array for candidates holds where none is put.
+pub const NONE: Candidate = Candidate {
+    place: 0,
+    addresses: 0,
 };
 
 // How many words the first configuration has.
@@ -87,13 +84,20 @@ fn addresses_at(list: &[u64], interface: u8, place: usize) -> u32
     context_block::word_flags(record_settings::setting_words(list, interface, alternate))
 }
 
-// The candidates of an interface, in the order of the list.
-pub fn candidates_of(list: &[u64], speed: u8, longest: u32, interface: u8) -> Candidates
-    requires { length list.now ≤ LIST-ROOM }
-    ensures { candidates_in result ≡ candidates list.now speed longest interface }
+// Puts the candidates of an interface into an array, from an index on and in the order of the list; says where they end.
+pub fn put_candidates(
+    list: &[u64],
+    speed: u8,
+    longest: u32,
+    interface: u8,
+    all: &mut [Candidate],
+    from: usize,
+) -> usize
+    requires { (length list.now ≤ LIST-ROOM) × ((length all.old ≡ CANDIDATES) × (from + length (candidates list.now speed longest interface) ≤ CANDIDATES)) }
+    ensures { (result ≡ from + length (candidates list.now speed longest interface))
+        × (take result all.new ≡ take from all.old ++ candidates list.now speed longest interface) }
 {
-    let mut all = NONE.all;
-    let mut count = 0;
+    let mut count = from;
     for place in 0..first_length(list) {
         if may_choose(list, speed, longest, interface, place) {
             all[count] = Candidate {
@@ -103,5 +107,5 @@ pub fn candidates_of(list: &[u64], speed: u8, longest: u32, interface: u8) -> Ca
             count += 1;
         }
     }
-    Candidates { all, count }
+    count
 }

@@ -1,17 +1,18 @@
 // The choice.
-ghost use Rattle.std.specs.Prelude.{◌≡◌, ◌≤◌, length, map, take};
+ghost use Rattle.std.specs.Prelude.{◌≡◌, ◌≤◌, true, length, map, take};
+ghost use Rattle.laws.specs.Distinct.{distinct};
 ghost use Rattle.descriptor_list.specs.Valid.{LIST-ROOM};
 ghost use Rattle.descriptor_list.specs.Companions.{joined};
-ghost use Rattle.choice_search.specs.Room.{NAMES};
-ghost use Rattle.choice_search.specs.Search.{candidates_in, turned};
+ghost use Rattle.choice_search.specs.Room.{NAMES, CANDIDATES};
+ghost use Rattle.choice_search.specs.Search.{grouped, turned};
 ghost use Rattle.choice_list.specs.Choice.{alternate_at};
 ghost use Rattle.choice_list.specs.Chosen.{Refused, ChosenIn, AlternatesAs};
 ghost use Rattle.choice_list.specs.Tried.{candidates, place_of};
 
 use super::candidate;
 use super::names::Names;
-use choice_search::{Candidates, NAMES};
-use descriptor_list::Joined;
+use choice_search::{CANDIDATES, Candidate, NAMES};
+use descriptor_list::LIST_ROOM;
 
 // 0 and an alternate for each name, 0 past them; or 12, 29 or 30 and zeros.
 #[repr(C)]
@@ -31,26 +32,42 @@ pub fn refused(answer: u32) -> Chosen
     }
 }
 
-// The candidates of each name, in a list of joined words.
-fn all_candidates(list: &[u64], speed: u8, longest: u32, names: &[u8]) -> [Candidates; NAMES]
-    requires { (length list.now ≤ LIST-ROOM) × (length names.now ≤ NAMES) }
-    ensures { map candidates_in (take (length names.now) result) ≡ map (candidates list.now speed longest) names.now }
+// Puts the candidates of each name, in a list of joined words, behind those of the names before it; says how many each has.
+fn all_candidates(
+    list: &[u64],
+    speed: u8,
+    longest: u32,
+    names: &[u8],
+    all: &mut [Candidate],
+) -> [usize; NAMES]
+    requires { (length list.now ≤ LIST-ROOM) × ((length names.now ≤ NAMES) × ((distinct names.now ≡ true) × (length all.old ≡ CANDIDATES))) }
+    ensures { grouped (take (length names.now) result) all.new ≡ map (candidates list.now speed longest) names.now }
 {
-    let mut all = [candidate::NONE; NAMES];
+    let mut counts = [0usize; NAMES];
+    let mut end = 0;
     for (i, &name) in names.iter().enumerate() {
-        all[i] = candidate::candidates_of(list, speed, longest, name);
+        let from = end;
+        end = candidate::put_candidates(list, speed, longest, name, all, from);
+        counts[i] = end - from;
     }
-    all
+    counts
 }
 
 // The same of a list; its joined copy is gone with the return.
 #[inline(never)]
-fn candidates_of(list: &[u32], speed: u8, longest: u32, names: &[u8]) -> [Candidates; NAMES]
-    requires { (length list.now ≤ LIST-ROOM) × (length names.now ≤ NAMES) }
-    ensures { map candidates_in (take (length names.now) result) ≡ map (candidates (joined list.now) speed longest) names.now }
+fn candidates_of(
+    list: &[u32],
+    speed: u8,
+    longest: u32,
+    names: &[u8],
+    all: &mut [Candidate],
+) -> [usize; NAMES]
+    requires { (length list.now ≤ LIST-ROOM) × ((length names.now ≤ NAMES) × ((distinct names.now ≡ true) × (length all.old ≡ CANDIDATES))) }
+    ensures { grouped (take (length names.now) result) all.new ≡ map (candidates (joined list.now) speed longest) names.now }
 {
-    let all = Joined::of(list);
-    all_candidates(all.words(), speed, longest, names)
+    let mut words = [0; LIST_ROOM];
+    let count = descriptor_list::join(list, &mut words);
+    all_candidates(&words[..count], speed, longest, names, all)
 }
 
 // The alternate of the word at a place.
@@ -78,8 +95,9 @@ fn alternates_of(list: &[u32], names: &[u8], once: &Names, picks: [u8; NAMES]) -
     requires { (length list.now ≤ LIST-ROOM) × (length names.now ≤ NAMES) }
     ensures { AlternatesAs (map (λ x. alternate_at (joined list.now) (place_of (take once.now.count once.now.names) (turned picks once.now.count) x)) names.now) result }
 {
-    let all = Joined::of(list);
-    joined_alternates(all.words(), names, once, picks)
+    let mut words = [0; LIST_ROOM];
+    let count = descriptor_list::join(list, &mut words);
+    joined_alternates(&words[..count], names, once, picks)
 }
 
 // The first choice for up to eight names.
@@ -88,8 +106,9 @@ pub fn choose_in(list: &[u32], speed: u8, longest: u32, names: &[u8]) -> Chosen
     ensures { ChosenIn (joined list.now) speed longest names.now result }
 {
     let once = Names::of(names);
-    let all = candidates_of(list, speed, longest, &once.names[..once.count]);
-    match choice_search::pick_from(&all[..once.count], 0) {
+    let mut all = [candidate::NONE; CANDIDATES];
+    let counts = candidates_of(list, speed, longest, &once.names[..once.count], &mut all);
+    match choice_search::pick_from(&counts[..once.count], &all, 0) {
         Ok(picks) => Chosen {
             answer: 0,
             alternates: alternates_of(list, names, &once, picks),

@@ -1,16 +1,15 @@
 -- The search, candidate by candidate.
-use Rattle.std.specs.Prelude.{ℕ, zero, suc, ◌+◌, ◌-◌, ◌^◌, ◌<◌, ◌≤◌, ◌≡◌, Bool, true, false, cond, Option, Some, None, Ok, Err, List, [], ◌∷◌, eqb, length, get_or, set, take, drop, map, replicate}
+use Rattle.std.specs.Prelude.{ℕ, zero, suc, ◌+◌, ◌-◌, ◌^◌, ◌<◌, ◌≤◌, ◌≡◌, Bool, true, false, cond, Option, Some, None, Ok, Err, List, [], ◌∷◌, eqb, length, get_or, set, take, drop, min, replicate}
 use mathlib.Core.Path.{refl, sym, ap, ◌∙◌}
 use native.Mathlib.Omega.{arith}
 use borrow.Author.Tests.{eq-eqb, ne_eqb}
 use lib.Seq.{take_all, drop-cons}
 use native.Mathlib.Numerals.{add-one}
-use Rattle.std.proofs.lemmas.List.{length-map, drop_all, get_or-set_same, get_or-set_other}
+use Rattle.std.proofs.lemmas.List.{drop_all, get_or-set_same, get_or-set_other, take_rest, take_min, drop_min}
 use lib.ListN.{length-take, length-drop}
 use Rattle.std.specs.Int.Bits.{bit_and, bit_or}
 use Rattle.choice_search.specs.declared.by_name.Candidate.{Candidate}
-use Rattle.choice_search.specs.declared.by_name.Candidates.{Candidates}
-use Rattle.choice_search.specs.Search.{candidates_in, PickedAs, with_place, or_else, pick_one, pick, Within, FoundWithin, Blamed, turned}
+use Rattle.choice_search.specs.Search.{grouped, PickedAs, with_place, or_else, pick_one, pick, Within, FoundWithin, Blamed, turned}
 use Rattle.choice_search.proofs.Sets.{within_none, within_left, within_right, within_or, within_and, within_join, within_first, within_blame, meets_too}
 
 abbrev blank : Candidate
@@ -125,40 +124,52 @@ unfolding turned
 turned_set places zero k place h = refl
 turned_set places (suc n) k place h = rw (get_or-set_other places k n place 0 (λ e. omega arith), turned_set places n k place (omega arith)) refl
 
+pub length-grouped : (counts : List ℕ) (all : List Candidate) → length (grouped counts all) ≡ length counts
+unfolding grouped
+length-grouped [] all = refl
+length-grouped (count ∷ counts) all = rw (length-grouped counts (drop count all)) refl
+
+grouped_first : (counts : List ℕ) (all : List Candidate) → 1 ≤ length counts →
+    grouped counts all ≡ take (get_or counts 0 0) all ∷ grouped (take (length counts - 1) (drop 1 counts)) (drop (get_or counts 0 0) all)
+unfolding grouped
+grouped_first [] all h = absurd (omega arith)
+grouped_first (x ∷ l) all h = rw (take_all (length (x ∷ l) - 1) l (omega arith)) refl
+
 -- The first name, and the others.
-module _ (all : List Candidates) (first : Candidates) (some : 1 ≤ length all) (is : first ≡ get_or all 0 first) (taken : ℕ) where
-  abbrev rest : List Candidates
-  rest = take (length all - 1) (drop 1 all)
+module _ (counts : List ℕ) (all : List Candidate) (some : 1 ≤ length counts) (end : ℕ) (is : end ≡ min (get_or counts 0 0) (length all)) (taken : ℕ) where
+  abbrev own : List Candidate
+  own = take end all
 
-  first_and_rest : map candidates_in all ≡ candidates_in first ∷ map candidates_in rest
-  first_and_rest = go all some is
-    where
-      go : (l : List Candidates) → 1 ≤ length l → first ≡ get_or l 0 first →
-          map candidates_in l ≡ candidates_in first ∷ map candidates_in (take (length l - 1) (drop 1 l))
-      go [] h e = absurd (omega arith)
-      go (x ∷ l) h e = rw (take_all (length (x ∷ l) - 1) l (omega arith)) (ap (λ y. candidates_in y ∷ map candidates_in l) (sym e))
+  abbrev rest : List ℕ
+  rest = take (length counts - 1) (drop 1 counts)
 
-  pub blames : (blame : ℕ) → Blamed (candidates_in first ∷ map candidates_in rest) blame × Within blame taken →
-      PickedAs (map candidates_in all) taken (Err blame)
+  abbrev behind : List Candidate
+  behind = take (length all - end) (drop end all)
+
+  first_and_rest : grouped counts all ≡ own ∷ grouped rest behind
+  first_and_rest = rw (take_rest all end, is, take_min (get_or counts 0 0) all, drop_min (get_or counts 0 0) all) (grouped_first counts all some)
+
+  pub blames : (blame : ℕ) → Blamed (own ∷ grouped rest behind) blame × Within blame taken → PickedAs (grouped counts all) taken (Err blame)
   unfolding PickedAs
   blames blame b = rw first_and_rest b
 
   -- The place of the first name goes behind those of the others.
-  pub picks : (place : ℕ) (places : List ℕ) → length places ≡ 8 → length all ≤ 8 →
-      pick (candidates_in first ∷ map candidates_in rest) taken ≡ Some (place ∷ turned places (length (map candidates_in rest))) →
-      PickedAs (map candidates_in all) taken (Ok (set places (length rest) place))
+  pub picks : (place : ℕ) (places : List ℕ) → length places ≡ 8 → length counts ≤ 8 →
+      pick (own ∷ grouped rest behind) taken ≡ Some (place ∷ turned places (length (grouped rest behind))) →
+      PickedAs (grouped counts all) taken (Ok (set places (length rest) place))
   unfolding PickedAs turned
   picks place places l h e =
-      let n : length (map candidates_in rest) ≡ length rest = length-map rest candidates_in in
+      let n : length (grouped rest behind) ≡ length rest = length-grouped rest behind in
       let m : length rest < length places = let k = length_rest in omega arith in
       rw (first_and_rest, n, turned_set places (length rest) (length rest) place (omega arith), get_or-set_same places (length rest) place 0 m)
       (rw n at e)
     where
-      length_rest : length rest < length all
-      length_rest = rw (length-take (length all - 1) (drop 1 all), length-drop 1 all) (omega arith)
+      length_rest : length rest < length counts
+      length_rest = rw (length-take (length counts - 1) (drop 1 counts), length-drop 1 counts) (omega arith)
 
 -- No name.
-pub picks_none : (all : List Candidates) (taken : ℕ) (places : List ℕ) → length all < 1 → PickedAs (map candidates_in all) taken (Ok places)
-unfolding PickedAs pick turned
-picks_none [] taken places h = refl
-picks_none (x ∷ l) taken places h = absurd (omega arith)
+pub picks_none : (counts : List ℕ) (all : List Candidate) (taken : ℕ) (places : List ℕ) → length counts < 1 →
+    PickedAs (grouped counts all) taken (Ok places)
+unfolding PickedAs grouped pick turned
+picks_none [] all taken places h = refl
+picks_none (x ∷ l) all taken places h = absurd (omega arith)

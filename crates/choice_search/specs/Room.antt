@@ -1,4 +1,4 @@
--- How many names the search takes, and how many candidates of each.
+-- How many names the search takes, and how many candidates all of them.
 use Rattle.std.specs.Prelude.{ℕ}
 
 abbrev pub NAMES : ℕ

@@ -1,12 +1,13 @@
 -- The earliest pick of one candidate for each name, such that no two have an address in common.
-use Rattle.std.specs.Prelude.{ℕ, zero, suc, ◌≡◌, Bool, true, cond, Option, Some, None, Result, Ok, Err, List, [], ◌∷◌, eqb, length, get_or, take}
+use Rattle.std.specs.Prelude.{ℕ, zero, suc, ◌≡◌, Bool, true, cond, Option, Some, None, Result, Ok, Err, List, [], ◌∷◌, eqb, length, get_or, take, drop}
 use Rattle.std.specs.Int.Bits.{bit_and, bit_or}
 use Rattle.std.specs.Int.{bit_at}
 use Rattle.choice_search.specs.declared.by_name.Candidate.{Candidate}
-use Rattle.choice_search.specs.declared.by_name.Candidates.{Candidates}
 
-abbrev pub candidates_in : Candidates → List Candidate
-candidates_in names = take names.count names.all
+-- The candidates of each name, of a list in which they stand name by name, and how many each has.
+unfoldable pub grouped : List ℕ → List Candidate → List (List Candidate)
+grouped [] all = []
+grouped (count ∷ counts) all = take count all ∷ grouped counts (drop count all)
 
 unfoldable pub with_place : ℕ → Option (List ℕ) → Option (List ℕ)
 with_place place None = None

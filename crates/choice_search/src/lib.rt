@@ -4,11 +4,11 @@
 
 mod by_name;
 
-ghost use Rattle.std.specs.Prelude.{◌≡◌, ◌≤◌, length, map};
+ghost use Rattle.std.specs.Prelude.{◌≡◌, ◌≤◌, length};
 ghost use Rattle.choice_search.specs.Room.{NAMES};
-ghost use Rattle.choice_search.specs.Search.{candidates_in, OneOf, FoundWithin, PickedAs};
+ghost use Rattle.choice_search.specs.Search.{grouped, OneOf, FoundWithin, PickedAs};
 
-pub use by_name::{CANDIDATES, Candidate, Candidates};
+pub use by_name::{CANDIDATES, Candidate};
 
 // How many names there may be.
 pub const NAMES: usize = 8;
@@ -36,18 +36,21 @@ fn first_within(sets: &[u32], addresses: u32) -> u32
     0
 }
 
-// The places picked, the last name's first; or addresses that are to blame: wherever these are taken, none can be picked.
-pub fn pick_from(names: &[Candidates], taken: u32) -> Result<[u8; NAMES], u32>
-    requires { length names.now ≤ NAMES }
-    ensures { PickedAs (map candidates_in names.now) taken result }
+// The places picked, the last name's first; or addresses that are to blame: wherever these are taken, none can be picked. The candidates of a
+// name stand behind those of the names before it: of each name it is said how many it has, in the order in which they are tried.
+pub fn pick_from(counts: &[usize], all: &[Candidate], taken: u32) -> Result<[u8; NAMES], u32>
+    requires { length counts.now ≤ NAMES }
+    ensures { PickedAs (grouped counts.now all.now) taken result }
 {
-    let [first, rest @ ..] = names else {
+    let [count, rest @ ..] = counts else {
         return Ok([0; NAMES]);
     };
+    let end = (*count).min(all.len());
+    let others = &all[end..];
     let mut blame = 0;
     // What was to blame where the rest failed after an earlier candidate: where all of it is taken again, the rest is not searched again.
     let mut blames = [0u32; REMEMBERED];
-    for c in &first.all[..first.count] {
+    for c in &all[..end] {
         let clash = c.addresses & taken;
         if clash != 0 {
             blame |= one_of(clash);
@@ -58,7 +61,7 @@ pub fn pick_from(names: &[Candidates], taken: u32) -> Result<[u8; NAMES], u32>
             blame |= before & taken;
             continue;
         }
-        match pick_from(rest, taken | c.addresses) {
+        match pick_from(rest, others, taken | c.addresses) {
             Ok(mut places) => {
                 places[rest.len()] = c.place;
                 return Ok(places);

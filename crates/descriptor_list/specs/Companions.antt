@@ -1,8 +1,7 @@
 -- Companions in a list of descriptor words, and which lists are valid at a speed: 02, request 11.
-use Rattle.std.specs.Prelude.{ℕ, ◌≤◌, ◌≡◌, Bool, true, not, cond, ◌&&◌, ◌||◌, List, [], ◌∷◌, eqb, leb, length, get_or, take}
+use Rattle.std.specs.Prelude.{ℕ, ◌≤◌, ◌≡◌, Bool, true, not, cond, ◌&&◌, ◌||◌, List, [], ◌∷◌, eqb, leb, length, get_or}
 use Rattle.def.specs.Speed.{is_super}
 use Rattle.descriptor.specs.Word.{kind, is_companion, type_number, companion_mult, companion_ok, with_companion, ENDPOINT}
-use Rattle.descriptor_list.specs.declared.joined.Joined.{Joined}
 use Rattle.descriptor_list.specs.Valid.{LIST-ROOM, begins_with_configuration, valid_list}
 
 -- A word, with the one directly behind it if they are an endpoint and its companion.
@@ -48,10 +47,6 @@ companions_fit speed l = not (is_super speed) || paired l
 -- A list that is valid at a speed: 4 and then 26 are judged over the whole of it.
 unfoldable pub valid_at : ℕ → List ℕ → Bool
 valid_at speed l = list_ok speed l && companions_fit speed l
-
--- What the code's array of joined words holds.
-abbrev pub joined_in : Joined → List ℕ
-joined_in r = take r.count r.words
 
 -- What the code asks of a list whose joined words it copies: room in an array, and no setting of more than 30 words.
 pub record Joinable (l : List ℕ) : Type 0 where

@@ -1,40 +1,20 @@
-// The words of a list with their companions, in an array: a copy of the whole list, so a function that makes one stays a call of its own
-// (`inline(never)`) and hands on no more of it than one setting's words.
-ghost use Rattle.std.specs.Prelude.{◌≤◌};
+// The words of a list with their companions: a copy of the whole list, so a function that has one stays a call of its own (`inline(never)`) and
+// hands on no more of it than one setting's words.
+ghost use Rattle.std.specs.Prelude.{◌≡◌, ◌≤◌, length, take};
 ghost use Rattle.descriptor_list.specs.Valid.{LIST-ROOM};
+ghost use Rattle.descriptor_list.specs.Companions.{joined};
 
-use super::LIST_ROOM;
-
-// The first `count` of the array.
-#[derive(Clone, Copy)]
-pub struct Joined {
-    pub words: [u64; LIST_ROOM],
-    pub count: usize,
-    pub ghost fits: { count ≤ LIST-ROOM },
-}
-
-impl Joined {
-    ghost use Rattle.std.specs.Prelude.{◌≡◌, length};
-    ghost use Rattle.descriptor_list.specs.Companions.{joined, joined_in};
-
-    pub fn of(list: &[u32]) -> Joined
-        requires { length list.now ≤ LIST-ROOM }
-        ensures { joined_in result ≡ joined list.now }
-    {
-        let mut words = [0u64; LIST_ROOM];
-        let mut count = 0;
-        for (i, &w) in list.iter().enumerate() {
-            if !descriptor::is_companion(w as u64) {
-                words[count] = super::joined_word(w, list.get(i + 1).copied().unwrap_or(0));
-                count += 1;
-            }
+// Puts them into an array; says how many they are.
+pub fn join(list: &[u32], words: &mut [u64]) -> usize
+    requires { (length list.now ≤ LIST-ROOM) × (length words.old ≡ LIST-ROOM) }
+    ensures { (result ≤ LIST-ROOM) × (take result words.new ≡ joined list.now) }
+{
+    let mut count = 0;
+    for (i, &w) in list.iter().enumerate() {
+        if !descriptor::is_companion(w as u64) {
+            words[count] = super::joined_word(w, list.get(i + 1).copied().unwrap_or(0));
+            count += 1;
         }
-        Joined { words, count }
     }
-
-    pub fn words(&self) -> &[u64]
-        ensures { result.now ≡ joined_in self.now }
-    {
-        &self.words[..self.count]
-    }
+    count
 }

@@ -10,7 +10,7 @@ ghost use Rattle.descriptor_list.specs.Valid.{LIST-ROOM, words_ok, runs_fit, con
 mod joined;
 
 use descriptor::WordKind;
-pub use joined::Joined;
+pub use joined::join;
 
 // How many words a list may have, and a record has room for.
 pub const LIST_ROOM: usize = 256;
@@ -169,8 +169,9 @@ fn joined_valid(list: &[u32]) -> bool
     requires { length list.now ≤ LIST-ROOM }
     ensures { result ≡ valid_list (joined list.now) }
 {
-    let all = Joined::of(list);
-    valid_list(all.words())
+    let mut words = [0; LIST_ROOM];
+    let count = join(list, &mut words);
+    valid_list(&words[..count])
 }
 
 // Whether a list is in order at a speed but for where its companions stand: any other gives 4.

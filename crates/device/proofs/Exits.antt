@@ -1,10 +1,11 @@
 -- What a call leaves by its check, and what the hub update leaves.
 use Prim.Native.Nat.{ℕ}
-use mathlib.Core.Path.{◌≡◌, sym, ◌∙◌}
-use mathlib.Core.Bool.{Bool}
+use mathlib.Core.Path.{◌≡◌, refl, sym, ◌∙◌}
+use mathlib.Core.Bool.{Bool, true, false, cond}
 use mathlib.Core.List.{List}
 use lib.ListN.{set}
 use Rattle.answer.specs.declared.Answer.{Answer}
+use Rattle.answer.specs.Answer.{is_lost}
 use Rattle.answer.specs.Check.{Check, Pass, Refuse}
 use Rattle.command.specs.declared.Command.TheVariants as command
 use Rattle.command.specs.declared.Sent.{Sent}
@@ -17,6 +18,7 @@ use Rattle.context.specs.Steps.{hub_writes}
 use Rattle.record_checks.specs.Think.{think_value}
 use Rattle.course_steps.specs.End.{answer_of}
 use Rattle.device.specs.declared.record.Device.{Device}
+use Rattle.device.specs.Device.{rebuilt, with_usable, unusable}
 use Rattle.device.specs.Left.{Left, leaves, refused, marked}
 use Rattle.device.specs.Calls.{on_check, hub_context, hub_course, hub_left}
 
@@ -45,3 +47,12 @@ pub hub_left_lem :
 unfolding hub_left hub_course hub_context
 hub_left_lem d o ctx routes log ports multi ns think ctx' log' s a made t w sent ea m =
     rw (m, ea, played_sends, played_ends, sent.1, sent.0, w, t)
+
+-- the mark that a call leaves
+pub marked_used : (a : Answer) (d : Device) → with_usable (cond (is_lost a) false d.usable) d ≡ marked a d
+unfolding with_usable rebuilt marked unusable
+marked_used a d = go (is_lost a)
+  where
+    go : (b : Bool) → with_usable (cond b false d.usable) d ≡ cond b (unusable d) d
+    go true = refl
+    go false = refl

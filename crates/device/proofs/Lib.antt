@@ -16,4 +16,5 @@ pub mod Made
 pub mod Marks
 pub mod ReleaseLaws
 pub mod SetConfigurationLaws
+pub mod Unsent
 pub mod Updates

@@ -169,6 +169,9 @@ no_device =
 abbrev pub lost : Status → Status
 lost t = record { usable = false; up = t.up; configured = t.configured; value = t.value; handle = t.handle }
 
+abbrev pub used : Bool → Status → Status
+used usable t = record { usable = usable; up = t.up; configured = t.configured; value = t.value; handle = t.handle }
+
 abbrev pub valued : ℕ → Status → Status
 valued value t = record { usable = t.usable; up = t.up; configured = true; value = value; handle = t.handle }
 
@@ -189,6 +192,11 @@ setting_arrays hs =
 
 unfoldable pub ring_array : List ℕ → List ℕ × ℕ
 ring_array rings = (padded RING-ROOM 0 rings, length rings)
+
+-- The record with its mark as it is said.
+unfoldable pub with_usable : Bool → Device → Device
+unfolding rebuilt
+with_usable usable d = rebuilt keep (used usable) keep keep keep d
 
 -- The record marked unusable.
 unfoldable pub unusable : Device → Device

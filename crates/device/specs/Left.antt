@@ -6,6 +6,7 @@ use Rattle.command.specs.Course.{Played}
 use Rattle.course_steps.specs.End.{End}
 use Rattle.device.specs.declared.record.Device.{Device}
 use Rattle.device.specs.declared.record.Called.{Called}
+use Rattle.device.specs.declared.update.Ended.{Ended}
 use Rattle.device.specs.Device.{unusable}
 
 pub record Left : Type 0 where
@@ -15,6 +16,10 @@ pub record Left : Type 0 where
   pub ctx : List ℕ
   pub routes : List ℕ
   pub log : List ℕ
+
+-- What a call hands back: the record as its end left it.
+abbrev pub called_of : Device → Ended → Called
+called_of d e = record { device = d; answer = e.answer; count = e.count }
 
 abbrev pub leaves : Called → List ℕ → List ℕ → List ℕ → Left
 leaves r ctx routes log =

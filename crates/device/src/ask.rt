@@ -47,8 +47,8 @@ impl Device {
     pub fn ask(self, l: Lengths, interface: u8, alternate: u8) -> Preview
         ensures { PreviewAs result (ask self l.ctx l.routes l.log interface alternate) }
     {
-        match claim::claim_check(self, l, interface, alternate) {
-            Ok(found) => show_claim(self, interface, alternate, found),
+        match claim::claim_check(&self, l, interface, alternate) {
+            Ok(found) => show_claim(&self, interface, alternate, found),
             Err(a) => no_preview(a),
         }
     }
@@ -70,9 +70,9 @@ impl Device {
             routes: routes.len(),
             log: log.len(),
         };
-        let checked = commit_check(self, l, asked);
-        claim::run_claim(
-            self,
+        let checked = commit_check(&self, l, asked);
+        let e = claim::run_claim(
+            &mut self,
             ctx,
             routes,
             log,
@@ -80,14 +80,19 @@ impl Device {
             asked.interface,
             asked.alternate,
             checked,
-        )
+        );
+        Called {
+            device: self,
+            answer: e.answer,
+            count: e.count,
+        }
     }
 }
 
 // The checks of a claim, and then 22.
-fn commit_check(d: Device, l: Lengths, asked: Asked) -> Result<EndpointWords, Answer>
-    ensures { CheckedAs result (ask_check d l.ctx l.routes l.log asked.entry.interface asked.entry.alternate (current_check d (ask_in asked.entry)))
-        (find_endpoints (list_of d) asked.entry.interface asked.entry.alternate) }
+fn commit_check(d: &Device, l: Lengths, asked: Asked) -> Result<EndpointWords, Answer>
+    ensures { CheckedAs result (ask_check d.now l.ctx l.routes l.log asked.entry.interface asked.entry.alternate (current_check d.now (ask_in asked.entry)))
+        (find_endpoints (list_of d.now) asked.entry.interface asked.entry.alternate) }
 {
     let found = claim::claim_check(d, l, asked.interface, asked.alternate)?;
     if !is_current(d, found, asked) {
@@ -98,10 +103,10 @@ fn commit_check(d: Device, l: Lengths, asked: Asked) -> Result<EndpointWords, An
 
 // Of a claim whose checks have passed and found the setting's endpoint words. (No type says so: a ghost field speaks of its own struct's
 // fields, so the struct would have the whole record among them.)
-fn show_claim(d: Device, interface: u8, alternate: u8, found: EndpointWords) -> Preview
-    requires d_value { ((d.usable && sound d) ≡ true) × (claim_check d interface alternate Pass ≡ Pass) }
-    requires alternate_value { find_endpoints (list_of d) interface alternate ≡ Some found }
-    ensures { PreviewAs result (answers.Accepted, ask_of d interface alternate) }
+fn show_claim(d: &Device, interface: u8, alternate: u8, found: EndpointWords) -> Preview
+    requires d_value { ((d.now.usable && sound d.now) ≡ true) × (claim_check d.now interface alternate Pass ≡ Pass) }
+    requires alternate_value { find_endpoints (list_of d.now) interface alternate ≡ Some found }
+    ensures { PreviewAs result (answers.Accepted, ask_of d.now interface alternate) }
 {
     let args = claim::claim_args(d, interface, alternate);
     let list = d.list();
@@ -137,10 +142,10 @@ fn no_preview(a: Answer) -> Preview
 }
 
 // Whether an ask would now return these flags and rings.
-fn is_current(d: Device, found: EndpointWords, asked: Asked) -> bool
-    requires d_value { ((d.usable && sound d) ≡ true) × (claim_check d asked.interface asked.alternate Pass ≡ Pass) }
-    requires found_value { find_endpoints (list_of d) asked.interface asked.alternate ≡ Some found }
-    ensures { result ≡ same_ask (ask_in asked.entry) (ask_of d asked.entry.interface asked.entry.alternate) }
+fn is_current(d: &Device, found: EndpointWords, asked: Asked) -> bool
+    requires d_value { ((d.now.usable && sound d.now) ≡ true) × (claim_check d.now asked.interface asked.alternate Pass ≡ Pass) }
+    requires found_value { find_endpoints (list_of d.now) asked.interface asked.alternate ≡ Some found }
+    ensures { result ≡ same_ask (ask_in asked.entry) (ask_of d.now asked.entry.interface asked.entry.alternate) }
 {
     let shown = show_claim(d, asked.interface, asked.alternate, found);
     if asked.drops != shown.drops || asked.adds != shown.adds {

@@ -9,8 +9,8 @@ use record_checks::Lengths;
 
 impl Device {
     // 12 where the mark is not set, 1, 2, 3.
-    fn check_marked(self, mark: bool, l: Lengths) -> Result<(), Answer>
-        ensures { result ≡ check_marked mark self l.ctx l.routes l.log Pass }
+    fn check_marked(&self, mark: bool, l: Lengths) -> Result<(), Answer>
+        ensures { result ≡ check_marked mark self.now l.ctx l.routes l.log Pass }
     {
         if !mark || !self.sound() {
             return Err(Answer::Unusable);
@@ -19,16 +19,16 @@ impl Device {
     }
 
     #[tactic(auto, unfolding(crate::specs::Check::record_check))]
-    pub fn record_check(self, l: Lengths) -> Result<(), Answer>
-        ensures { result ≡ record_check self l.ctx l.routes l.log Pass }
+    pub fn record_check(&self, l: Lengths) -> Result<(), Answer>
+        ensures { result ≡ record_check self.now l.ctx l.routes l.log Pass }
     {
         self.check_marked(self.usable, l)
     }
 
     // The unplugging's: a record that is up need not be usable.
     #[tactic(auto, unfolding(crate::specs::Check::disconnect_check))]
-    pub fn disconnect_check(self, l: Lengths) -> Result<(), Answer>
-        ensures { result ≡ disconnect_check self l.ctx l.routes l.log }
+    pub fn disconnect_check(&self, l: Lengths) -> Result<(), Answer>
+        ensures { result ≡ disconnect_check self.now l.ctx l.routes l.log }
     {
         self.check_marked(self.up, l)
     }

@@ -12,12 +12,13 @@ ghost use Rattle.record_settings.specs.Held.{HELD-ROOM, setting_words, with_sett
 ghost use Rattle.record_settings.specs.Words.{words_in};
 ghost use Rattle.course_steps.specs.Arrays as arrays;
 ghost use Rattle.device.specs.Device.{list_of, endpoint_map_in, held_of, quarantined_of};
-ghost use Rattle.device.specs.Left.{leaves, refused, ended};
+ghost use Rattle.device.specs.Left.{leaves, called_of, refused, ended};
 ghost use Rattle.device.specs.Calls.{on_check};
 ghost use Rattle.device.specs.Claim.{drawn, pending_of, args_in, claim_record, claim_run, claim};
 ghost use Rattle.device.specs.Ask.{ask_check};
 
 use super::record::{Called, Device};
+use super::update::Ended;
 use super::{endpoint_map, update};
 use answer::Answer;
 use course_claim::{ClaimArgs, ClaimPlan};
@@ -47,22 +48,27 @@ impl Device {
             routes: routes.len(),
             log: log.len(),
         };
-        let checked = claim_check(self, l, interface, alternate);
-        run_claim(
-            self, ctx, routes, log, outcomes, interface, alternate, checked,
-        )
+        let checked = claim_check(&self, l, interface, alternate);
+        let e = run_claim(
+            &mut self, ctx, routes, log, outcomes, interface, alternate, checked,
+        );
+        Called {
+            device: self,
+            answer: e.answer,
+            count: e.count,
+        }
     }
 }
 
 // 12, 1, 2, 3, and then 8, 9, 21: it needs the lengths of what is lent, and hands on where the setting's endpoint words stand. (An
 // interface and its alternate stay two bytes: the lookups of record_settings, `draw_check` and `with_setting`, to which they go on, take two.)
 pub fn claim_check(
-    d: Device,
+    d: &Device,
     l: Lengths,
     interface: u8,
     alternate: u8,
 ) -> Result<EndpointWords, Answer>
-    ensures { CheckedAs result (ask_check d l.ctx l.routes l.log interface alternate Pass) (find_endpoints (list_of d) interface alternate) }
+    ensures { CheckedAs result (ask_check d.now l.ctx l.routes l.log interface alternate Pass) (find_endpoints (list_of d.now) interface alternate) }
 {
     d.record_check(l)?;
     let c = endpoint_map::endpoint_map_in(d);
@@ -73,7 +79,7 @@ pub fn claim_check(
 
 // The course of a claim, or the refusal of its checks.
 pub fn run_claim(
-    d: Device,
+    d: &mut Device,
     ctx: &mut [u8],
     routes: &mut [u64],
     log: &mut [u32],
@@ -81,18 +87,18 @@ pub fn run_claim(
     interface: u8,
     alternate: u8,
     checked: Result<EndpointWords, Answer>,
-) -> Called
+) -> Ended
     requires { (found : words.EndpointWords) → checked ≡ Ok found →
-        (ask_check d (length ctx.old) (length routes.old) (length log.old) interface alternate Pass ≡ Pass)
-        × (find_endpoints (list_of d) interface alternate ≡ Some found) }
-    ensures { leaves result ctx.new routes.new log.new
+        (ask_check d.old (length ctx.old) (length routes.old) (length log.old) interface alternate Pass ≡ Pass)
+        × (find_endpoints (list_of d.old) interface alternate ≡ Some found) }
+    ensures { leaves (called_of d.new result) ctx.new routes.new log.new
         ≡ on_check (check_of checked)
-        (claim_run d ctx.old routes.old log.old outcomes.now interface alternate (drawn d interface alternate))
-        (λ a. refused d a ctx.old routes.old log.old) }
+        (claim_run d.old ctx.old routes.old log.old outcomes.now interface alternate (drawn d.old interface alternate))
+        (λ a. refused d.old a ctx.old routes.old log.old) }
 {
     let found = match checked {
         Ok(found) => found,
-        Err(a) => return update::refused(d, a),
+        Err(a) => return update::refused(a),
     };
     let args = claim_args(d, interface, alternate);
     let list = d.list();
@@ -113,9 +119,9 @@ pub fn run_claim(
     claim_end(d, c, interface, alternate, pending, plan.pending, e)
 }
 
-pub fn claim_args(d: Device, interface: u8, alternate: u8) -> ClaimArgs
-    requires { d.held_count ≤ HELD-ROOM }
-    ensures { result ≡ args_in d interface alternate }
+pub fn claim_args(d: &Device, interface: u8, alternate: u8) -> ClaimArgs
+    requires { d.now.held_count ≤ HELD-ROOM }
+    ensures { result ≡ args_in d.now interface alternate }
 {
     ClaimArgs {
         slot: d.slot,
@@ -140,24 +146,24 @@ pub fn old_words(list: &[u32], a: ClaimArgs) -> SettingWords
 
 // The end of the course makes the record; where it is lost with a Configure sent, the pending rings go in quarantine.
 fn claim_end(
-    mut d: Device,
+    d: &mut Device,
     c: EndpointMap,
     interface: u8,
     alternate: u8,
     pending: [u64; PLACES],
     q: Queues,
     e: CourseEnd,
-) -> Called
-    requires held_count_bound { (d.held_count ≤ HELD-ROOM) × (length (with_setting interface alternate (held_of d)) ≤ HELD-ROOM) }
-    requires c_value { (c ≡ endpoint_map_in d) × (entered (quarantined_of d) (take q.count q.rings) ≡ take q.count q.rings) × QueuesAs q pending }
+) -> Ended
+    requires held_count_bound { (d.old.held_count ≤ HELD-ROOM) × (length (with_setting interface alternate (held_of d.old)) ≤ HELD-ROOM) }
+    requires c_value { (c ≡ endpoint_map_in d.old) × (entered (quarantined_of d.old) (take q.count q.rings) ≡ take q.count q.rings) × QueuesAs q pending }
     requires doubted { e.doubted ≡ true → (e.moved ≡ false) × (is_lost e.answer ≡ true) }
-    ensures { (ctx routes log rings : List ℕ) → pending ≡ pending_of d interface alternate rings →
-        leaves result ctx routes log ≡ ended (claim_record d interface alternate rings) (arrays.course_leaves e ctx routes log) }
+    ensures { (ctx routes log rings : List ℕ) → pending ≡ pending_of d.old interface alternate rings →
+        leaves (called_of d.new result) ctx routes log ≡ ended (claim_record d.old interface alternate rings) (arrays.course_leaves e ctx routes log) }
 {
     let held = d.settings().with_setting(interface, alternate);
     let claimed = record_endpoint::claimed_endpoints(interface, pending, c);
     if e.doubted {
-        d = update::quarantined(d, q);
+        update::quarantine(d, q);
     }
     update::at_end(d, c, e, Owner::Interface(interface), claimed, held)
 }

@@ -4,10 +4,11 @@ ghost use Rattle.record_endpoint.specs.EndpointMap.{QueuesAs};
 ghost use Rattle.course_steps.specs.Arrays as arrays;
 ghost use Rattle.device.specs.Device.{endpoint_map_in};
 ghost use Rattle.device.specs.Sound.{sound};
-ghost use Rattle.device.specs.Left.{leaves, ended};
+ghost use Rattle.device.specs.Left.{leaves, called_of, ended};
 ghost use Rattle.device.specs.Disconnect.{disconnect_record, disconnect};
 
 use super::record::{Called, Device};
+use super::update::Ended;
 use super::{endpoint_map, update};
 use answer::Answer;
 use course_steps::CourseEnd;
@@ -27,26 +28,44 @@ impl Device {
         ensures { leaves result ctx.new routes.new log.new ≡
             disconnect self ctx.old routes.old log.old outcomes.now }
     {
-        let l = Lengths {
-            ctx: ctx.len(),
-            routes: routes.len(),
-            log: log.len(),
-        };
-        if let Err(a) = self.disconnect_check(l) {
-            return update::refused(self, a);
+        let e = run_disconnect(&mut self, ctx, routes, log, outcomes);
+        Called {
+            device: self,
+            answer: e.answer,
+            count: e.count,
         }
-        let c = endpoint_map::endpoint_map_in(self);
-        let q = record_endpoint::queues_of(c.rings);
-        let e = course_disconnect::disconnect(routes, log, outcomes, self.slot, q);
-        disconnect_end(self, c, q, e)
     }
 }
 
+// The same of a record that is lent.
+fn run_disconnect(
+    d: &mut Device,
+    ctx: &mut [u8],
+    routes: &mut [u64],
+    log: &mut [u32],
+    outcomes: &[u8],
+) -> Ended
+    ensures { leaves (called_of d.new result) ctx.new routes.new log.new ≡ disconnect d.old ctx.old routes.old log.old outcomes.now }
+{
+    let l = Lengths {
+        ctx: ctx.len(),
+        routes: routes.len(),
+        log: log.len(),
+    };
+    if let Err(a) = d.disconnect_check(l) {
+        return update::refused(a);
+    }
+    let c = endpoint_map::endpoint_map_in(d);
+    let q = record_endpoint::queues_of(c.rings);
+    let e = course_disconnect::disconnect(routes, log, outcomes, d.slot, q);
+    disconnect_end(d, c, q, e)
+}
+
 // The end of the course makes the record: the device is gone, or all is revoked and 14 puts the rings in quarantine.
-fn disconnect_end(mut d: Device, c: EndpointMap, q: Queues, e: CourseEnd) -> Called
-    requires { (sound d ≡ true) × (c ≡ endpoint_map_in d) × QueuesAs q c.rings × (e.active ≡ 0) }
+fn disconnect_end(d: &mut Device, c: EndpointMap, q: Queues, e: CourseEnd) -> Ended
+    requires { (sound d.old ≡ true) × (c ≡ endpoint_map_in d.old) × QueuesAs q c.rings × (e.active ≡ 0) }
     ensures { (ctx routes log : List ℕ) →
-        leaves result ctx routes log ≡ ended (disconnect_record d) (arrays.course_leaves e ctx routes log) }
+        leaves (called_of d.new result) ctx routes log ≡ ended (disconnect_record d.old) (arrays.course_leaves e ctx routes log) }
 {
     if e.moved {
         d.usable = false;

@@ -6,9 +6,9 @@ ghost use Rattle.device.specs.Device.{endpoint_map_in};
 use super::record::Device;
 use record_endpoint::EndpointMap;
 
-pub fn endpoint_map_in(d: Device) -> EndpointMap
-    requires { d.ep_count ≤ PLACES }
-    ensures { result ≡ endpoint_map_in d }
+pub fn endpoint_map_in(d: &Device) -> EndpointMap
+    requires { d.now.ep_count ≤ PLACES }
+    ensures { result ≡ endpoint_map_in d.now }
 {
     record_endpoint::endpoint_map_of(&d.eps[..d.ep_count], &d.ep_interfaces[..d.ep_count])
 }

@@ -6,8 +6,8 @@ use super::record::Device;
 
 impl Device {
     #[tactic(auto, unfolding(crate::specs::Sound::sound, crate::specs::Sound::slot_sound, crate::specs::Sound::counts_fit))]
-    pub fn sound(self) -> bool
-        ensures { result ≡ sound self }
+    pub fn sound(&self) -> bool
+        ensures { result ≡ sound self.now }
     {
         if !record_checks::slot_sound(self.slot.0, self.max_slots, self.spacing, self.port_speed) {
             return false;

@@ -11,7 +11,7 @@ ghost use Rattle.record_endpoint.specs.EndpointMap.{pending_rings};
 ghost use Rattle.record_checks.specs.Draw.{draw_check};
 
 use answer::Answer;
-use descriptor_list::{EndpointWords, Joined};
+use descriptor_list::{EndpointWords, LIST_ROOM};
 use record_endpoint::{EndpointMap, PLACES};
 use record_ring::GivenRings;
 
@@ -27,8 +27,9 @@ pub fn draw_check(
     requires { length list.now ≤ LIST-ROOM }
     ensures { CheckedAs result (draw_check (joined list.now) interface alternate c free Pass) (find_endpoints (joined list.now) interface alternate) }
 {
-    let all = Joined::of(list);
-    check_joined(all.words(), interface, alternate, c, free)
+    let mut words = [0; LIST_ROOM];
+    let count = descriptor_list::join(list, &mut words);
+    check_joined(&words[..count], interface, alternate, c, free)
 }
 
 // The same of the words themselves.

@@ -7,7 +7,7 @@ ghost use Rattle.record_endpoint.specs.Endpoint.{addresses};
 ghost use Rattle.record_settings.specs.Held.{held_by};
 ghost use Rattle.record_checks.specs.Sound.{sound_slot, sound_counts, lists_match, sound_lists};
 
-use descriptor_list::{Joined, LIST_ROOM};
+use descriptor_list::LIST_ROOM;
 use record_endpoint::{Endpoint, PLACES};
 use record_ring::{GIVEN_ROOM, RING_ROOM};
 use record_settings::{HELD_ROOM, Settings};
@@ -52,8 +52,9 @@ fn beside_list(list: &[u32], settings: &Settings, eps: &[Endpoint], owners: &[u8
     requires { length list.now ≤ LIST-ROOM }
     ensures { result ≡ lists_match (joined list.now) (held_by settings.now) (addresses eps.now) (endpoint_map_of (length eps.now) eps.now owners.now) }
 {
-    let all = Joined::of(list);
-    lists_match(all.words(), settings, eps, owners)
+    let mut words = [0; LIST_ROOM];
+    let count = descriptor_list::join(list, &mut words);
+    lists_match(&words[..count], settings, eps, owners)
 }
 
 // The same of joined words.

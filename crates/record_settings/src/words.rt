@@ -3,7 +3,7 @@ ghost use Rattle.std.specs.Prelude.{◌≤◌};
 ghost use Rattle.record_endpoint.specs.Order.{PLACES};
 
 use super::lookup;
-use descriptor_list::{EndpointWords, Joined};
+use descriptor_list::{EndpointWords, LIST_ROOM};
 use record_endpoint::PLACES;
 
 // The first `count` of the array.
@@ -42,8 +42,9 @@ impl SettingWords {
         requires { Joinable list.now }
         ensures { words_in result ≡ setting_words (joined list.now) interface alternate }
     {
-        let all = Joined::of(list);
-        SettingWords::of(lookup::setting_words(all.words(), interface, alternate))
+        let mut words = [0; LIST_ROOM];
+        let count = descriptor_list::join(list, &mut words);
+        SettingWords::of(lookup::setting_words(&words[..count], interface, alternate))
     }
 
     // those that lookup has found
@@ -52,8 +53,9 @@ impl SettingWords {
         requires { (length list.now ≤ LIST-ROOM) × ((found.start + found.count ≤ length (joined list.now)) × (found.count ≤ PLACES)) }
         ensures { words_in result ≡ take found.count (drop found.start (joined list.now)) }
     {
-        let all = Joined::of(list);
-        SettingWords::of(found.in_list(all.words()))
+        let mut words = [0; LIST_ROOM];
+        let count = descriptor_list::join(list, &mut words);
+        SettingWords::of(found.in_list(&words[..count]))
     }
 
     pub fn words(&self) -> &[u64]

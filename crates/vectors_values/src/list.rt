@@ -1,6 +1,6 @@
 // Valid lists, lists refused for each reason, lists at each limit, and lookup.
 use super::yes_or_no;
-use descriptor_list::{EndpointWords, Joined};
+use descriptor_list::{EndpointWords, LIST_ROOM};
 use std::io;
 
 // Configuration 1, alternate 0 of interface 0, and a bulk endpoint of address 0x01.
@@ -204,8 +204,9 @@ pub fn lookup(rt: &impl Print) -> io::Result<()> {
         alternate(0, 1),
         alternate(7, 0),
     ];
-    let all = Joined::of(&words);
-    let list = all.words();
+    let mut all = [0; LIST_ROOM];
+    let count = descriptor_list::join(&words, &mut all);
+    let list = &all[..count];
     find(rt, "interface 0, alternate 0:", list, 0, 0)?;
     find(
         rt,

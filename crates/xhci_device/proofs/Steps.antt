@@ -25,6 +25,7 @@ use Rattle.device.specs.Ask.{Ask, ask_check, commit}
 use Rattle.device.specs.Release.{release_record, release}
 use Rattle.device.specs.SetConfiguration.{bare, ended_by, set_record, set_configuration}
 use Rattle.device.specs.Disconnect.{all_revoked, unplugged, disconnect_record, disconnect}
+use Rattle.device.proofs.Unsent.{claim_unsent, commit_unsent, release_unsent, set_unsent, hub_unsent, disconnect_unsent}
 use Rattle.device_image.specs.Layout.{WORDS}
 use Rattle.device_image.specs.Image.{encode, FixedIn, stored, is_set, read, is_image, decode}
 use Rattle.device_image.specs.Fits.{Fits}
@@ -62,9 +63,10 @@ zeros_slot l e = rw e
 abbrev fixed : Device → ℕ × List ℕ × List ℕ
 fixed d = (d.slot.0, d.list, d.given)
 
--- A call keeps these, and refuses a record of slot 0.
+-- A call keeps these, and the whole record where it logs no word; it refuses a record of slot 0.
 pub record Keeps (d : Device) (ctx routes log : List ℕ) (left : Left) : Type 0 where
   pub same : fixed left.device ≡ fixed d
+  pub unsent : left.count ≡ 0 → left.device ≡ d
   pub none : d.slot.0 ≡ 0 → left ≡ refused d Unusable ctx routes log
 
 none_sound : (mark : Bool) (d : Device) → d.slot.0 ≡ 0 → (mark && sound d) ≡ false
@@ -85,9 +87,10 @@ none_disconnected d m n k e = rw (none_sound d.up d e)
 
 checked :
     (d : Device) (ctx routes log : List ℕ) (c : Check) (left : Left) → (d.slot.0 ≡ 0 → c ≡ Refuse Unusable) → fixed left.device ≡ fixed d →
+    ((on_check c left (λ a. refused d a ctx routes log)).count ≡ 0 → (on_check c left (λ a. refused d a ctx routes log)).device ≡ d) →
     Keeps d ctx routes log (on_check c left (λ a. refused d a ctx routes log))
 unfolding on_check refused
-checked d ctx routes log c left h e = record { same = go c; none = λ z. rw (h z) refl }
+checked d ctx routes log c left h e u = record { same = go c; unsent = u; none = λ z. rw (h z) refl }
   where
     go : (c : Check) → fixed (on_check c left (λ a. refused d a ctx routes log)).device ≡ fixed d
     go (Ok _) = e
@@ -129,28 +132,29 @@ disconnect_fixed d e =
 module _ (d : Device) (ctx routes log outcomes : List ℕ) where
   pub claim_keeps : (i a : ℕ) → Keeps d ctx routes log (claim d ctx routes log outcomes i a)
   unfolding claim ended
-  claim_keeps i a = checked d ctx routes log _ _ (none_passed d _ _ _ _) (claim_fixed d i a (drawn d i a) _)
+  claim_keeps i a = checked d ctx routes log _ _ (none_passed d _ _ _ _) (claim_fixed d i a (drawn d i a) _) (claim_unsent d ctx routes log outcomes i a)
 
   pub commit_keeps : (p : Ask) → Keeps d ctx routes log (commit d ctx routes log outcomes p)
   unfolding commit ask_check ended
   commit_keeps p =
       checked d ctx routes log _ _ (none_passed d _ _ _ _) (claim_fixed d p.interface p.alternate (drawn d p.interface p.alternate) _)
+      (commit_unsent d ctx routes log outcomes p)
 
   pub release_keeps : (i : ℕ) → Keeps d ctx routes log (release d ctx routes log outcomes i)
   unfolding release ended
-  release_keeps i = checked d ctx routes log _ _ (none_passed d _ _ _ _) (release_fixed d i _)
+  release_keeps i = checked d ctx routes log _ _ (none_passed d _ _ _ _) (release_fixed d i _) (release_unsent d ctx routes log outcomes i)
 
   pub set_keeps : (value : ℕ) → Keeps d ctx routes log (set_configuration d ctx routes log outcomes value)
   unfolding set_configuration ended
-  set_keeps value = checked d ctx routes log _ _ (none_passed d _ _ _ _) (set_fixed d value _)
+  set_keeps value = checked d ctx routes log _ _ (none_passed d _ _ _ _) (set_fixed d value _) (set_unsent d ctx routes log outcomes value)
 
   pub hub_keeps : (ports : ℕ) (multi : Bool) (ns : ℕ) → Keeps d ctx routes log (hub_update d ctx routes log outcomes ports multi ns)
   unfolding hub_update hub_left
-  hub_keeps ports multi ns = checked d ctx routes log _ _ (none_passed d _ _ _ _) (marked_fixed _ d)
+  hub_keeps ports multi ns = checked d ctx routes log _ _ (none_passed d _ _ _ _) (marked_fixed _ d) (hub_unsent d ctx routes log outcomes ports multi ns)
 
   pub disconnect_keeps : Keeps d ctx routes log (disconnect d ctx routes log outcomes)
   unfolding disconnect ended
-  disconnect_keeps = checked d ctx routes log _ _ (none_disconnected d _ _ _) (disconnect_fixed d _)
+  disconnect_keeps = checked d ctx routes log _ _ (none_disconnected d _ _ _) (disconnect_fixed d _) (disconnect_unsent d ctx routes log outcomes)
 
 -- What a call leaves, beside an image.
 abbrev beside : Left → List ℕ → Crossed
@@ -159,20 +163,24 @@ beside l image =
 
 -- A call on a record.
 module _ (d : Device) (image ctx routes log : List ℕ) (left : Left) (e : d ≡ decode image) (k : Keeps d ctx routes log left) where
-  refusal : d.slot.0 ≡ 0 → (b : Bool) → is_image image ≡ b → CrossedAs (beside left image) b left image ctx routes log
+  no_slot : is_image image ≡ false → left ≡ refused d Unusable ctx routes log
+  no_slot i = k.none (ap (λ (c : Device). c.slot.0) e ∙ zeros_slot image i)
+
+  unsent : left.count ≡ 0 → (b : Bool) → is_image image ≡ b → CrossedAs (beside left image) b left image ctx routes log
   unfolding crossed refused
-  refusal z true i =
-      let same : left.device ≡ decode image = ap (λ (l : Left). l.device) (k.none z) ∙ e in
+  unsent z true i =
+      let same : left.device ≡ decode image = k.unsent z ∙ e in
       record {
         equal = ap (beside left) (sym (ap encode same ∙ encode_decode image i));
         fits = λ t. rw same (fits_decode image);
       }
-  refusal z false i = record { equal = rw (k.none z) refl; fits = λ t. not_both true refl (sym t) }
+  unsent z false i = record { equal = rw (no_slot i) refl; fits = λ t. not_both true refl (sym t) }
 
-  -- What was read in a buffer that holds no record is of slot 0.
-  is_image_lem : eqb d.slot.0 0 ≡ false → (b : Bool) → is_image image ≡ b → b ≡ true
+  -- Where a word was logged, the buffer held a record.
+  is_image_lem : eqb left.count 0 ≡ false → (b : Bool) → is_image image ≡ b → b ≡ true
+  unfolding refused
   is_image_lem z true i = refl
-  is_image_lem z false i = not_both (eqb d.slot.0 0) (eq-eqb d.slot.0 0 (ap (λ (c : Device). c.slot.0) e ∙ zeros_slot image i)) z
+  is_image_lem z false i = not_both (eqb left.count 0) (eq-eqb left.count 0 (ap (λ (l : Left). l.count) (no_slot i))) z
 
   fixed_in : is_image image ≡ true → FixedIn left.device image
   unfolding decode
@@ -190,32 +198,32 @@ module _ (d : Device) (image ctx routes log : List ℕ) (left : Left) (e : d ≡
       record { equal = rw (i, eq-eqb (length image) WORDS size) refl; fits = λ t. f size }
 
   after :
-      (b : Bool) → eqb d.slot.0 0 ≡ b → (b ≡ false → length image ≡ WORDS → Fits left.device) →
+      (b : Bool) → eqb left.count 0 ≡ b → (b ≡ false → length image ≡ WORDS → Fits left.device) →
       CrossedAs (beside left (cond b image (stored left.device image))) (is_image image) left image ctx routes log
-  after true z f = refusal (eqb-true d.slot.0 0 z) (is_image image) refl
+  after true z f = unsent (eqb-true left.count 0 z) (is_image image) refl
   after false z f = write (is_image_lem z (is_image image) refl) (f refl)
 
   pub cross :
       (called : Called) (r : Answered) (image' ctx' routes' log' : List ℕ) → leaves called ctx' routes' log' ≡ left →
       r ≡ answered_of called.answer called.count →
-      ((eqb called.device.slot.0 0 ≡ false → FixedIn called.device image) →
-      image' ≡ cond (eqb called.device.slot.0 0) image (stored called.device image)) →
-      (eqb called.device.slot.0 0 ≡ false → length image ≡ WORDS → Fits called.device) →
+      ((eqb called.count 0 ≡ false → FixedIn called.device image) →
+      image' ≡ cond (eqb called.count 0) image (stored called.device image)) →
+      (eqb called.count 0 ≡ false → length image ≡ WORDS → Fits called.device) →
       CrossedAs (crosses r image' ctx' routes' log') (is_image image) left image ctx routes log
   cross called r image' ctx' routes' log' q a i f =
       let same : called.device ≡ left.device = ap (λ (l : Left). l.device) q in
-      let slot : called.device.slot.0 ≡ d.slot.0 = ap (λ (c : Device). c.slot.0) same ∙ ap (λ s. s.0) k.same in
-      let kept : eqb called.device.slot.0 0 ≡ false → FixedIn called.device image =
-      λ z. rw same (fixed_in (is_image_lem (ap (λ (s : ℕ). eqb s 0) (sym slot) ∙ z) (is_image image) refl)) in
-      let g : eqb d.slot.0 0 ≡ false → length image ≡ WORDS → Fits left.device =
-      λ z h. subst Fits same (f (ap (λ (s : ℕ). eqb s 0) slot ∙ z) h) in
-      let new : image' ≡ cond (eqb d.slot.0 0) image (stored left.device image) =
-      i kept ∙ ap (λ (c : Device). cond (eqb called.device.slot.0 0) image (stored c image)) same
-      ∙ ap (λ (s : ℕ). cond (eqb s 0) image (stored left.device image)) slot in
-      let whole : crosses r image' ctx' routes' log' ≡ beside left (cond (eqb d.slot.0 0) image (stored left.device image)) =
-      rw (a, new) (ap (λ (l : Left). beside l (cond (eqb d.slot.0 0) image (stored left.device image))) q) in
+      let count : called.count ≡ left.count = ap (λ (l : Left). l.count) q in
+      let kept : eqb called.count 0 ≡ false → FixedIn called.device image =
+      λ z. rw same (fixed_in (is_image_lem (ap (λ (n : ℕ). eqb n 0) (sym count) ∙ z) (is_image image) refl)) in
+      let g : eqb left.count 0 ≡ false → length image ≡ WORDS → Fits left.device =
+      λ z h. subst Fits same (f (ap (λ (n : ℕ). eqb n 0) count ∙ z) h) in
+      let new : image' ≡ cond (eqb left.count 0) image (stored left.device image) =
+      i kept ∙ ap (λ (c : Device). cond (eqb called.count 0) image (stored c image)) same
+      ∙ ap (λ (n : ℕ). cond (eqb n 0) image (stored left.device image)) count in
+      let whole : crosses r image' ctx' routes' log' ≡ beside left (cond (eqb left.count 0) image (stored left.device image)) =
+      rw (a, new) (ap (λ (l : Left). beside l (cond (eqb left.count 0) image (stored left.device image))) q) in
       subst (λ (x : Crossed). CrossedAs x (is_image image) left image ctx routes log) (sym whole)
-      (after (eqb d.slot.0 0) refl g)
+      (after (eqb left.count 0) refl g)
 
 -- A bring-up, which asks for the words of an image only.
 module _ (left : Left) (image ctx routes log : List ℕ) where

@@ -92,5 +92,5 @@ pub fn xhci_device_commit(
         rings,
     };
     let called = d.commit(ctx, routes, log, outcomes, asked);
-    returned::finish(called, image)
+    returned::finish(&called, image)
 }

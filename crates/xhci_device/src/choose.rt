@@ -8,5 +8,6 @@ use choice_list::Chosen;
 pub fn xhci_device_choose(image: &[u64], names: &[u8], longest: u32) -> Chosen
     ensures { Answered (decode image.now) names.now longest result }
 {
-    choice::choose(device_image::decode(image), names, longest)
+    let d = device_image::decode(image);
+    choice::choose(&d, names, longest)
 }

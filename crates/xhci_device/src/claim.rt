@@ -22,5 +22,5 @@ pub fn xhci_device_claim(
 {
     let d = device_image::decode(image);
     let called = d.claim(ctx, routes, log, outcomes, interface, alternate);
-    returned::finish(called, image)
+    returned::finish(&called, image)
 }

@@ -19,5 +19,5 @@ pub fn xhci_device_disconnect(
 {
     let d = device_image::decode(image);
     let called = d.disconnect(ctx, routes, log, outcomes);
-    returned::finish(called, image)
+    returned::finish(&called, image)
 }

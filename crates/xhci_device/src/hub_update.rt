@@ -23,5 +23,5 @@ pub fn xhci_device_hub_update(
 {
     let d = device_image::decode(image);
     let called = d.hub_update(ctx, routes, log, outcomes, ports, multi != 0, ns);
-    returned::finish(called, image)
+    returned::finish(&called, image)
 }

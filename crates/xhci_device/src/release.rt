@@ -20,5 +20,5 @@ pub fn xhci_device_release(
 {
     let d = device_image::decode(image);
     let called = d.release(ctx, routes, log, outcomes, interface);
-    returned::finish(called, image)
+    returned::finish(&called, image)
 }

@@ -8,19 +8,17 @@ ghost use Rattle.answer.specs.Answered.{answered_of};
 use answer::Answered;
 use device::Called;
 
-// The end of a call on a record, which goes back but for what no call changes. A buffer that holds none was read as a record of slot 0, and stays
-// as it is.
-pub fn finish(called: Called, image: &mut [u64]) -> Answered
-    ensures { (result ≡ answered_of called.answer called.count)
-        × ((eqb called.device.slot.0 0 ≡ false → FixedIn called.device image.old) →
-        image.new ≡ cond (eqb called.device.slot.0 0) image.old (stored called.device image.old))
-        × (eqb called.device.slot.0 0 ≡ false → length image.old ≡ WORDS → Fits called.device) }
+// The end of a call on a record, which goes back but for what no call changes. Where no word was logged it is as it came, and stays as it is.
+pub fn finish(called: &Called, image: &mut [u64]) -> Answered
+    ensures { (result ≡ answered_of called.now.answer called.now.count)
+        × ((eqb called.now.count 0 ≡ false → FixedIn called.now.device image.old) →
+        image.new ≡ cond (eqb called.now.count 0) image.old (stored called.now.device image.old))
+        × (eqb called.now.count 0 ≡ false → length image.old ≡ WORDS → Fits called.now.device) }
 {
-    let d = called.device;
     let r = answer::answered_of(called.answer, called.count);
-    if d.slot.0 == 0 {
+    if called.count == 0 {
         return r;
     }
-    device_image::update(d, image);
+    device_image::update(called.device, image);
     r
 }

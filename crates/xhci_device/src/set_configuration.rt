@@ -20,5 +20,5 @@ pub fn xhci_device_set_configuration(
 {
     let d = device_image::decode(image);
     let called = d.set_configuration(ctx, routes, log, outcomes, value);
-    returned::finish(called, image)
+    returned::finish(&called, image)
 }

@@ -4,7 +4,7 @@ use Rattle.choice_search.specs.Search.{PickedAs}
 use Rattle.choice_search.proofs.+pick_from.Goals as goal
 
 pub returns-in_default : goal.returns-in_default
-returns-in_default t c = picks_none _ _ _ c.in_default.len_below
+returns-in_default t c = picks_none _ _ _ _ c.in_default.len_below
 
 pub loop-c-init : goal.loop-c-init
 loop-c-init t c = record { searching = search_starts _ _ _; remembered = remembers_none _ 16 }
@@ -26,14 +26,14 @@ loop-c-preserved-then-before-ne0 t c =
 pub returns-in-Ok : goal.returns-in-Ok
 unfolding PickedAs
 returns-in-Ok t c =
-    picks _ _ c.in-len1-up.len_at_least c.first-item.is _ _ _ (search rules) c.requires
+    picks _ _ c.in-len1-up.len_at_least _ c.min-end.ensures _ _ _ (search rules) c.requires
     (search_finds _ _ _ _ _ c.loop-c-test.true c.loop-c.invariant.searching _ c.if-clash-ne0.false c.in-Ok.ensures)
 
 pub returns-then-later-c-eq0 : goal.returns-then-later-c-eq0
 unfolding PickedAs
 returns-then-later-c-eq0 t c =
     let e = c.in-Err.ensures in
-    blames _ _ c.in-len1-up.len_at_least c.first-item.is _ _
+    blames _ _ c.in-len1-up.len_at_least _ c.min-end.ensures _ _
     (search_jumps _ _ _ _ _ c.loop-c-test.true c.loop-c.invariant.searching _ e.0 e.1 c.if-later-c-eq0.true)
 
 pub loop-c-preserved : goal.loop-c-preserved
@@ -48,4 +48,4 @@ loop-c-preserved t c =
 
 pub returns : goal.returns
 returns t c =
-    blames _ _ c.in-len1-up.len_at_least c.first-item.is _ _ (search_ends _ _ _ _ _ c.loop-c-test.false c.loop-c.invariant.searching)
+    blames _ _ c.in-len1-up.len_at_least _ c.min-end.ensures _ _ (search_ends _ _ _ _ _ c.loop-c-test.false c.loop-c.invariant.searching)

@@ -18,41 +18,41 @@ facts : (d : Device) → (d.usable && sound d) ≡ true → SoundFacts d
 facts d e = sound_facts d (and_right d.usable (sound d) e)
 
 pub claim_args-args-requires : goal.claim_args-args-requires
-claim_args-args-requires c = (facts c.args.d c.requires.d_value.0).counts.held
+claim_args-args-requires c = (facts c.args.d.now c.requires.d_value.0).counts.held
 
 pub list-list-requires : goal.list-list-requires
-list-list-requires c = (facts c.args.d c.requires.d_value.0).counts.list
+list-list-requires c = (facts c.args.d.now c.requires.d_value.0).counts.list
 
 pub old_words-old-requires : goal.old_words-old-requires
-old_words-old-requires c = rw c.list-list.ensures (list_joinable c.args.d (and_right _ _ c.requires.d_value.0))
+old_words-old-requires c = rw c.list-list.ensures (list_joinable c.args.d.now (and_right _ _ c.requires.d_value.0))
 
 pub found_in-new-requires : goal.found_in-new-requires
 unfolding list_of
 found_in-new-requires c =
     rw c.list-list.ensures (
-      (list_joinable c.args.d (and_right _ _ c.requires.d_value.0)).short,
+      (list_joinable c.args.d.now (and_right _ _ c.requires.d_value.0)).short,
       (
         found_inside _ _ _ _ c.requires.alternate_value,
-        valid_count _ (facts c.args.d c.requires.d_value.0).list _ _ _ c.requires.alternate_value,
+        valid_count _ (facts c.args.d.now c.requires.d_value.0).list _ _ _ c.requires.alternate_value,
       ),
     )
 
 pub endpoint_map_in-c-requires : goal.endpoint_map_in-c-requires
-endpoint_map_in-c-requires c = (facts c.args.d c.requires.d_value.0).counts.endpoints
+endpoint_map_in-c-requires c = (facts c.args.d.now c.requires.d_value.0).counts.endpoints
 
 pub given-requires : goal.given-requires
-given-requires c = (facts c.args.d c.requires.d_value.0).counts.given
+given-requires c = (facts c.args.d.now c.requires.d_value.0).counts.given
 
 pub invariant_of-given : goal.invariant_of-given
 unfolding given_of
 invariant_of-given c =
-    let f = facts c.args.d c.requires.d_value.0 in
-    rw c.given.ensures (record { few = simp length-take (omega (arith, f.counts.given)); fit = given_fits (given_of c.args.d) f.store.fit })
+    let f = facts c.args.d.now c.requires.d_value.0 in
+    rw c.given.ensures (record { few = simp length-take (omega (arith, f.counts.given)); fit = given_fits (given_of c.args.d.now) f.store.fit })
 
 pub drawn_in_order-requires : goal.drawn_in_order-requires
 unfolding list_of given_of
 drawn_in_order-requires c =
-    let d = c.args.d in
+    let d = c.args.d.now in
     let i = c.args.interface in
     let a = c.args.alternate in
     let ok = c.requires.d_value in
@@ -64,7 +64,7 @@ drawn_in_order-requires c =
 pub returns : goal.returns
 unfolding list_of given_of
 returns c =
-    let d = c.args.d in
+    let d = c.args.d.now in
     let i = c.args.interface in
     let a = c.args.alternate in
     let ok = c.requires.d_value in

@@ -9,5 +9,5 @@ use Rattle.device.proofs.endpoint_map.endpoint_map_in.Goals as goal
 pub returns : goal.returns
 unfolding endpoint_map_in
 returns c =
-    let room : length c.args.d.eps ≡ 30 = search rules in
+    let room : length c.args.d.now.eps ≡ 30 = search rules in
     c.endpoint_map_of.ensures ∙ front_of _ _ _ (omega (arith, room, c.requires))

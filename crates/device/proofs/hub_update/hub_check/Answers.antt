@@ -9,4 +9,4 @@ returns-in_err-record_check c =
 
 pub returns : goal.returns
 unfolding hub_check
-returns c = own_check _ _ _ _ _ (hub_check c.args.d c.args.ns) c.record_check.ensures c.in_ok-record_check.was _ c.think_check.ensures
+returns c = own_check _ _ _ _ _ (hub_check c.args.d.now c.args.ns) c.record_check.ensures c.in_ok-record_check.was _ c.think_check.ensures

@@ -3,7 +3,7 @@ use Rattle.record_settings.proofs.Laws.{setting_length}
 use Rattle.record_settings.proofs.words.SettingWords.of_setting.Goals as goal
 
 pub of-requires : goal.of-requires
-of-requires c = rw (c.setting_words.ensures, c.words.ensures, c.of-all.ensures) (setting_length _ c.requires.valid _ _)
+of-requires c = rw (c.setting_words.ensures, c.join-count.ensures.1) (setting_length _ c.requires.valid _ _)
 
 pub returns : goal.returns
-returns c = c.of.ensures ∙ rw (c.setting_words.ensures, c.words.ensures, c.of-all.ensures)
+returns c = c.of.ensures ∙ rw (c.setting_words.ensures, c.join-count.ensures.1)

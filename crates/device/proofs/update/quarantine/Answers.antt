@@ -4,7 +4,7 @@ use native.Mathlib.Omega.{arith}
 use mathlib.Core.Path.{◌≡◌}
 use lib.ListN.{take, length}
 use Rattle.device.specs.Device.{with_quarantined}
-use Rattle.device.proofs.update.quarantined.Goals as goal
+use Rattle.device.proofs.update.quarantine.Goals as goal
 
 pub returns : goal.returns
 unfolding with_quarantined
