@@ -36,10 +36,10 @@ LIMITS = {
     "xhci_device_new_dispatcher": 64,
     "xhci_device_command_of": 64,
     "xhci_device_record_words": 64,
-    "xhci_device_read_descriptors": 7616,
-    "xhci_device_write_descriptors": 6592,
-    "xhci_device_settings_to_old": 6400,
-    "xhci_device_settings_to_new": 6336,
+    "xhci_device_read_descriptors": 3776,
+    "xhci_device_write_descriptors": 2688,
+    "xhci_device_settings_to_old": 2560,
+    "xhci_device_settings_to_new": 2496,
     "xhci_device_block": 64,
 }
 

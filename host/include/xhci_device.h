@@ -90,7 +90,7 @@ enum {
     XHCI_DEVICE_ANSWER_INVALID_PARAMETER = 9,     /* an address that another interface owns */
     XHCI_DEVICE_ANSWER_RINGS = 10,                /* bring-up: not 1 to 64 rings, or one is no nonzero multiple of 16 or twice there */
     XHCI_DEVICE_ANSWER_SLOT_LIMIT_REACHED = 11,
-    XHCI_DEVICE_ANSWER_UNUSABLE = 12,             /* a record marked unusable or not sound, or no record */
+    XHCI_DEVICE_ANSWER_UNUSABLE = 12,             /* a record marked unusable (for an unplugging: not up) or not sound, or no record */
     XHCI_DEVICE_ANSWER_FAILED = 13,               /* a command failed: `code` */
     XHCI_DEVICE_ANSWER_INTERFACE_BROKEN = 14,
     XHCI_DEVICE_ANSWER_CUT = 15,                  /* no outcome was left for a command */
