@@ -2,8 +2,8 @@
 use Prim.Native.Nat.{ℕ, ◌+◌, ◌≤◌, ◌<◌}
 use mathlib.Core.Path.{◌≡◌, refl, sym, ap, ◌∙◌}
 use mathlib.Core.Logic.{◌⊎◌, inl, inr}
-use mathlib.Core.Bool.{true, false, cond}
-use mathlib.Core.List.{List}
+use mathlib.Core.Bool.{true, false, cond, ◌||◌}
+use mathlib.Core.List.{List, [], ◌∷◌}
 use native.Mathlib.Omega.{arith}
 use mir.Val.{has_key}
 use types.Run.{OneOf}
@@ -14,7 +14,7 @@ use Rattle.laws.proofs.Cases.{Decided, decided}
 use Rattle.laws.proofs.Variants.{each_value, places_but, none_but}
 use Rattle.answer.specs.contracts.Answer.{enum, the_type}
 use Rattle.answer.specs.declared.Answer.{Answer}
-use Rattle.answer.specs.Answer.{number}
+use Rattle.answer.specs.Answer.{number, code_of}
 
 -- The number of the answer at a place of the enum: 20, 23 and 24 are no answers of a call.
 abbrev pub number_at : ℕ → ℕ
@@ -66,3 +66,11 @@ pub other_answer : (ks : List ℕ) (k : ℕ) (a : Answer) → has_key ks k ≡ t
 other_answer ks k a among h =
     ne_eqb (number a) (number_at k)
     (λ z. none_of the_type ks k (tag_of the_type a) among (number_once k (tag_of the_type a) (sym z ∙ tag_number a (tag_of the_type a) refl)) h)
+
+-- only 13 has a code
+pub other_code : (a : Answer) → AnyBut (13 ∷ []) a → 0 ≡ code_of a
+unfolding number code_of
+other_code a h =
+    let e : (eqb (number a) 13 || eqb (code_of a) 0) ≡ true =
+    each_value enum (λ x. eqb (number x) 13 || eqb (code_of x) 0) refl (λ v. refl, tt) a in
+    sym (eqb-true (code_of a) 0 (rw (other_answer (13 ∷ []) 13 a refl h) at e))

@@ -1,8 +1,8 @@
 -- The table of first packet sizes holds their rule; which speeds are SuperSpeed, and what a packet byte is there.
 use Prim.Native.Nat.{ℕ, ◌<◌, ◌≤◌}
 use mathlib.Core.Path.{◌≡◌, refl}
-use mathlib.Core.Logic.{◌⊎◌, inl, inr}
-use mathlib.Core.Bool.{Bool, true, not, ◌&&◌, ◌||◌}
+use mathlib.Core.Logic.{◌⊎◌, ⊎_elim, inl, inr}
+use mathlib.Core.Bool.{Bool, true, false, not, ◌&&◌, ◌||◌}
 use native.Mathlib.Decide.{dec_lt}
 use mathlib.Core.List.{List, [], ◌∷◌}
 use native.Mathlib.Omega.{arith}
@@ -35,6 +35,11 @@ size_unknown s h =
 pub super_true : (s : ℕ) → SUPER ≤ s → s ≤ SUPER-PLUS → is_super s ≡ true
 unfolding is_super
 super_true s l h = rw (le-leb SUPER s l, le-leb s SUPER-PLUS h)
+
+pub super_false : (s : ℕ) → (s < SUPER) ⊎ (SUPER-PLUS < s) → is_super s ≡ false
+unfolding is_super
+super_false s =
+    ⊎_elim (λ l. rw (lt-leb SUPER s l)) (λ h. rw (le-leb SUPER s (omega (arith, h)), lt-leb s SUPER-PLUS h))
 
 -- At SuperSpeed the byte is 9.
 pub exponent_nine : (s b : ℕ) → is_super s ≡ true → exponent_ok s b ≡ true → b ≡ 9
