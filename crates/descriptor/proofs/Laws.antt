@@ -4,6 +4,7 @@ use mathlib.Core.Path.{◌≡◌, refl, sym, ◌∙◌}
 use mathlib.Core.Logic.{◌≢◌, ◌⊎◌, inl, inr}
 use mathlib.Core.Bool.{Bool, true, false, not, cond, ◌&&◌}
 use native.Mathlib.Decide.{dec_lt}
+use native.Mathlib.Nat.{mul-le-mul}
 use native.Mathlib.Omega.{arith}
 use borrow.Author.Tests.{le-leb, lt-leb, eqb-true, eqb-false, not-true}
 use lib.Count.{count_leading_zeros}
@@ -89,6 +90,16 @@ endpoint_word_lem w k h =
     let type = not (eqb (type_number w) 0) in
     let ok : (number && type) ≡ true = and_left (number && type) _ (rw k at h) in
     record { number = nonzero (endpoint_number w) (and_left number type ok); type = nonzero (type_number w) (and_right number type ok) }
+
+-- The Dci of an endpoint word in a valid list is not control's.
+pub dci_range :
+    (w : ℕ) →
+    kind w ≡ ENDPOINT →
+    word_ok w ≡ true →
+    (2 ≤ dci_of (endpoint_descriptor w).address) × (dci_of (endpoint_descriptor w).address ≤ 31)
+dci_range w k h =
+    let fit = fields_fit w in
+    rw (dci_word w) (omega (arith, (endpoint_word_lem w k h).number), omega (arith, fit.direction, fit.number))
 
 -- Each Dci from 2 to 31 is that of a word which may stand in a valid list, 31 being that of IN 15.
 bulk_word : ℕ → ℕ
@@ -194,6 +205,11 @@ burst_small t packets speed h = go (is_periodic t && eqb speed HIGH)
     go : (b : Bool) → cond b (packets - 1) 0 ≤ 2
     go true = omega arith
     go false = omega arith
+
+-- A size times a count of packets is a u32.
+pub product_fits : (size packets : ℕ) → size < 65536 → packets ≤ 256 → size * packets < 2 ^ 32
+product_fits size packets s p =
+    let size' : size ≤ 65535 = omega arith in omega (arith, mul-le-mul size' p)
 
 -- Max ESIT Payload Lo and Average TRB Length are fields of sixteen bits.
 pub payload_small : (size burst : ℕ) → esit_payload size burst < 65536

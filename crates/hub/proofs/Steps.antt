@@ -6,6 +6,7 @@ use mathlib.Core.List.{List}
 use Rattle.std.proofs.Common.{Option, Some, None}
 use native.Mathlib.Omega.{arith}
 use native.Mathlib.Decide.{dec_lt}
+use native.Mathlib.Nat.{mul-le-mul, pow-le-pow_right}
 use borrow.Author.Tests.{lt-ltb, le-leb, lt-leb, eqb-true, eq-eqb, ne_eqb, not-true, not-false}
 use lib.Dec.{eqb, ltb}
 use lib.ListN.{length, get_or-eq_default}
@@ -38,7 +39,7 @@ in_list hubs at d = go (dec_lt at (length hubs))
     go (yes l) = rw (lt-ltb at (length hubs) l)
     go (no n) = rw (absent hubs at d (omega arith), and-false (ltb at (length hubs)))
 
-chain_step : (hubs : List ℕ) (at d : ℕ) → 0 < d → chain_from hubs at d
+pub chain_step : (hubs : List ℕ) (at d : ℕ) → 0 < d → chain_from hubs at d
     ≡ (hub_fits (hub_at hubs at) d && ((hub_at hubs at).has_parent && chain_from hubs (hub_at hubs at).parent (d - 1)))
 unfolding chain_from
 chain_step hubs at zero z = absurd (omega arith)
@@ -80,7 +81,7 @@ module _ (old new : Way) (s : Socket) (g : Given old s new) (r : Bool) (f : r �
     pub chain_up : not s.hub.has_parent ≡ false → chain_from old.hubs.now old.at old.depth_plus_one ≡ chain_from new.hubs.now new.at new.depth_plus_one
     chain_up p = rw (chain_here, y, not-false s.hub.has_parent p)
 
-route_step : (hubs : List ℕ) (at port d : ℕ) → 0 < d → route_of_ports (ports hubs at port d)
+pub route_step : (hubs : List ℕ) (at port d : ℕ) → 0 < d → route_of_ports (ports hubs at port d)
     ≡ clamp port * 16 ^ (d - 1) + route_of_ports (ports hubs (hub_at hubs at).parent (hub_at hubs at).port_id (d - 1))
 unfolding ports route_of_ports
 route_step hubs at port zero z = absurd (omega arith)
@@ -110,7 +111,7 @@ unfolding route_string
 route_small hubs (Some at) port = ports_below hubs at port (hub_at hubs at).depth_plus_one 7 (omega (arith, depth_below hubs at))
 route_small hubs None port = omega arith
 
-high_step : (hubs : List ℕ) (at port d : ℕ) → 0 < d → nearest_high hubs at port d
+pub high_step : (hubs : List ℕ) (at port d : ℕ) → 0 < d → nearest_high hubs at port d
     ≡ cond (eqb (hub_at hubs at).speed HIGH)
     (record { slot_id = (hub_at hubs at).slot_id; multi = (hub_at hubs at).multi; port = port })
     (nearest_high hubs (hub_at hubs at).parent (hub_at hubs at).port_id (d - 1))
@@ -155,3 +156,9 @@ weight_right d h = eqb-true (2 ^ (4 * d)) (16 ^ d) (all_below right 7 refl d h)
 -- A port in its nibble, which fits 28 bits.
 pub nibble_right : (n d : ℕ) → n ≤ 15 → d < 7 → n * 2 ^ (4 * d) % 2 ^ 32 ≡ n * 16 ^ d
 nibble_right n d l h = shl_exact 4 (4 * d) 32 (omega arith) (omega arith) ∙ ap (λ (k : ℕ). n * k) (weight_right d h)
+
+-- A nibble at any of its places fits 28 bits.
+pub scaled_below : (d n : ℕ) → d < 7 → n ≤ 15 → n * 2 ^ (4 * d) < 0x1000_0000
+scaled_below d n h l =
+    let w : 16 ^ d ≤ 16 ^ 6 = pow-le-pow_right {n = 16} (omega arith) {i = d} {j = 6} (omega arith) in
+    rw (weight_right d h) (omega (arith, mul-le-mul l w))

@@ -1,5 +1,5 @@
 -- What the calls on the routes answer, and each word that they leave. Callers use these laws and not the definitions' text.
-use Prim.Native.Nat.{ℕ, ◌+◌, ◌*◌, ◌≤◌, ◌<◌}
+use Prim.Native.Nat.{ℕ, suc, ◌+◌, ◌*◌, ◌≤◌, ◌<◌}
 use mathlib.Core.Path.{◌≡◌, refl, sym, ◌∙◌}
 use mathlib.Core.Bool.{Bool, true, false, cond, ◌||◌}
 use mathlib.Core.List.{List, [], ◌∷◌}
@@ -7,7 +7,7 @@ use mathlib.Core.Logic.{inl, inr}
 use native.Mathlib.Omega.{arith}
 use borrow.Author.Tests.{eq-eqb, eqb-true, eqb-false}
 use lib.Dec.{eqb}
-use lib.ListN.{length, get_or, length-set, replicate, get_or-replicate}
+use lib.ListN.{length, get_or, drop, length-set, replicate, get_or-replicate}
 use lib.Seq.{length-sets, get_or-set_same, get_or-set_other}
 use Rattle.laws.proofs.Stores.{sets_past, sets_before, sets_there}
 use Rattle.laws.proofs.Tests.{not_both}
@@ -15,7 +15,7 @@ use Rattle.laws.proofs.Cases.{cond_or, or_right, or_none}
 use Rattle.std.specs.Prelude.{Result, Ok, Err}
 use Rattle.transfer.specs.declared.RouteError.{RouteError}
 use Rattle.transfer.specs.declared.RouteError.TheVariants.{InvalidEndpoint, QueueFull}
-use Rattle.transfer.specs.Routes.{route_index, route_of, with_route, without_slot, Queue, names, registered, with_registered, old_match, new_free, cleared, published, replaced, moved, with_replaced, ring_for, Small, OutsideSlot}
+use Rattle.transfer.specs.Routes.{route_index, route_of, with_route, without_slot, Queue, queues, names, registered, with_registered, old_match, new_free, cleared, published, replaced, moved, with_replaced, ring_for, Small, OutsideSlot}
 
 -- A slot's endpoint is told by its word.
 pub index_same : (slot d e : ℕ) → route_index slot d ≡ route_index slot e → d ≡ e
@@ -118,6 +118,12 @@ small_names (q ∷ qs) d s e = first (eqb q.dci d) refl e (small_names qs d s.1)
     first : (t : Bool) → eqb q.dci d ≡ t → (t || names d qs) ≡ true → (names d qs ≡ true → d < 32) → d < 32
     first true p n r = rw (← eqb-true q.dci d p) s.0
     first false p n r = r n
+
+-- Dcis below 32 make `Small` queues.
+pub small_queues : (ds rs : List ℕ) → ((i : ℕ) → i < length ds → get_or ds i 0 < 32) → Small (queues ds rs)
+unfolding Small queues
+small_queues [] rs h = tt
+small_queues (d ∷ ds) rs h = (h 0 (omega arith), small_queues ds (drop 1 rs) (λ i l. h (suc i) (omega arith)))
 
 -- Queues that do not name an endpoint leave its route.
 pub ring_for_none : (d : ℕ) (qs : List Queue) (v : ℕ) → names d qs ≡ false → ring_for d qs v ≡ v
