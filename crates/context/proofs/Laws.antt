@@ -1,11 +1,11 @@
 -- Laws of input contexts: what callers use of a context after some writes.
-use Prim.Native.Nat.{ℕ, ◌+◌, ◌*◌, ◌<◌, ◌≤◌}
+use Prim.Native.Nat.{ℕ, ◌+◌, ◌*◌, ◌/◌, ◌%◌, ◌<◌, ◌≤◌}
 use mathlib.Core.Path.{◌≡◌, refl, sym, ap, ◌∙◌}
-use mathlib.Core.Logic.{◌≢◌}
+use mathlib.Core.Logic.{◌≢◌, inl, inr}
 use mathlib.Core.Bool.{Bool, true, false, cond}
 use mathlib.Core.List.{List, [], ◌∷◌, ◌++◌}
 use native.Mathlib.Omega.{arith}
-use native.Mathlib.Nat.{mul-le-mul_left, mul-one, mul-add}
+use native.Mathlib.Nat.{mul-le-mul_left, mul-one, mul-add, mod-lt, div-add-mod}
 use native.Mathlib.Decide.{dec_lt}
 use borrow.Author.Tests.{eqb-true, eqb-false, eq-eqb}
 use lib.Dec.{eqb}
@@ -205,3 +205,24 @@ other_byte s k [] ctx h = refl
 other_byte s k (w ∷ ws) ctx h =
     other_byte s k ws (write_at s w ctx) h.1
     ∙ rw (write_made s w ctx) (part_other (s * w.block) 32 (made w) ctx (made_length w) k h.0)
+
+-- Byte 32 on of each spacing lies in no block: at a spacing of 64 the upper halves.
+pub between_blocks : (s b k : ℕ) → 32 ≤ s → 32 ≤ k % s → OutsideBlock s b k
+between_blocks s b k wide h = go (dec_lt (k / s) b)
+  where
+    go : Dec (k / s < b) → OutsideBlock s b k
+    go (yes l) = inl (omega (arith, div-add-mod k s, mod-lt k {m = s} (omega arith), next_block s (k / s) b l))
+    go (no l) = inr (omega (arith, div-add-mod k s, mul-le-mul_left {m = b} {n = k / s} s (omega arith)))
+
+-- Writes leave it as before.
+pub upper_half :
+    (s k : ℕ) (ws : List Write) (ctx : List ℕ) →
+    32 ≤ s →
+    32 ≤ k % s →
+    get_or (written s ws ctx) k 0 ≡ get_or ctx k 0
+unfolding Untouched
+upper_half s k ws ctx wide h = other_byte s k ws ctx (all ws)
+  where
+    all : (ws : List Write) → Untouched s k ws
+    all [] = tt
+    all (w ∷ ws) = (between_blocks s w.block k wide h, all ws)

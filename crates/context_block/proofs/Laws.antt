@@ -12,8 +12,8 @@ use lib.ListN.{length}
 use Rattle.laws.proofs.Cases.{or_cases}
 use Rattle.laws.proofs.Tests.{and_left, and_right, and-true, not_both}
 use Rattle.context_field.specs.declared.Field.{Field}
-use Rattle.context_field.specs.Field.{read_field, write_field, InBlock, apart, within}
-use Rattle.context_field.proofs.Laws.{apart_true, within_true, bit_cases, length_write_field, read_apart, read_back, read_write}
+use Rattle.context_field.specs.Field.{read_field, write_field, InBlock, apart, within, read_after, Bytes}
+use Rattle.context_field.proofs.Laws.{apart_true, within_true, bit_cases, length_write_field, bytes_write_field, read_apart, read_back, read_write}
 use Rattle.context_block.specs.FieldWrite.{FieldWrite, fields_written, after_field_writes, inside, all_inside, clear_cut}
 use Rattle.context_block.specs.Fields.{apart_from_all}
 use Rattle.context_block.specs.Promises.{Holds, fields_of, Leaves}
@@ -30,6 +30,20 @@ unfolding fields_written
 fields_written_length [] block = refl
 fields_written_length (s ∷ ss) block =
     fields_written_length ss (write_field block s.field s.value) ∙ length_write_field block s.field s.value
+
+-- It stays one of bytes.
+pub fields_written_bytes : (ss : List FieldWrite) (block : List ℕ) → Bytes block → Bytes (fields_written ss block)
+unfolding fields_written
+fields_written_bytes [] block h = h
+fields_written_bytes (s ∷ ss) block h =
+    fields_written_bytes ss (write_field block s.field s.value) (bytes_write_field block s.field s.value h)
+
+-- What a field holds after settings of which some come first.
+pub after_append :
+    (a b : List FieldWrite) (g : Field) (old : ℕ) → after_field_writes (a ++ b) g old ≡ after_field_writes b g (after_field_writes a g old)
+unfolding after_field_writes
+after_append [] b g old = refl
+after_append (s ∷ a) b g old = after_append a b g (read_after s.field s.value g old)
 
 -- What the test of a field says.
 pub inside_true : (f : Field) → inside f ≡ true → InBlock f

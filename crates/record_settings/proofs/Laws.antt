@@ -66,6 +66,12 @@ unfolding held_in
 held_length zero is alts = refl
 held_length (suc n) is alts = ap suc (held_length n (drop 1 is) (drop 1 alts))
 
+-- The interfaces do not depend on the alternates.
+pub interfaces_any : (n : ℕ) (is alts bs : List ℕ) → interfaces_of (held_in n is alts) ≡ interfaces_of (held_in n is bs)
+unfolding held_in interfaces_of
+interfaces_any zero is alts bs = refl
+interfaces_any (suc n) is alts bs = rw (interfaces_any n (drop 1 is) (drop 1 alts) (drop 1 bs))
+
 held_back : (hs : List Held) (is alts : List ℕ) → held_in (length hs) (interfaces_of hs ++ is) (alternates_of hs ++ alts) ≡ hs
 unfolding held_in interfaces_of alternates_of
 held_back [] is alts = refl
