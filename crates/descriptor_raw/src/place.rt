@@ -10,6 +10,8 @@ pub const NUM_INTERFACES: usize = 4;
 
 pub const CONFIGURATION_VALUE: usize = 5;
 
+pub const CONFIGURATION_ATTRIBUTES: usize = 7;
+
 // of an interface,
 pub const INTERFACE_NUMBER: usize = 2;
 
