@@ -1,14 +1,18 @@
 -- The loop that stops endpoints past failures, and the exits of the course.
 use Prim.Native.Nat.{ℕ, ◌+◌, ◌<◌, ◌≤◌}
 use mathlib.Core.Path.{◌≡◌, refl, sym, ap, ◌∙◌}
+use mathlib.Core.Logic.{inl, inr}
 use mathlib.Core.Bool.{Bool, true, false, cond}
 use mathlib.Core.List.{List, [], ◌∷◌}
 use native.Mathlib.Numerals.{add-one}
 use native.Mathlib.Omega.{arith}
+use types.Run.{OneOf}
+use denote.Enum.Declared.{tag_of}
 use lib.ListN.{length, get_or, drop, set, drop_of_length-le}
 use lib.Seq.{drop-cons}
-use Rattle.std.specs.Prelude.{Ok}
+use Rattle.std.specs.Prelude.{Result, Ok}
 use Rattle.answer.specs.declared.Answer.TheVariants as answer
+use Rattle.command.specs.contracts.Sent.{the_type}
 use Rattle.command.specs.declared.Sent.{Sent}
 use Rattle.command.specs.declared.Sent.TheVariants.{Done, Failed, Cut}
 use Rattle.command.specs.Command.{command_word, outcome_at, stop_command}
@@ -19,6 +23,15 @@ use Rattle.command.proofs.Phases.{Begins, continued, went_on}
 use Rattle.command.proofs.Sweeps.{words_length_stop_each}
 use Rattle.course_steps.specs.End.{End, settings_kept}
 use Rattle.course_disconnect.specs.Disconnect.{stops_leave, disable, disconnect_course}
+
+-- A command that is not cut: the same whether it is done or fails.
+abbrev pub uncut : List ℕ
+uncut = 0 ∷ 1 ∷ []
+
+pub unless_cut : (s : Sent) → (s ≡ Cut → ⊥) → OneOf uncut (tag_of the_type s)
+unless_cut Done h = inl refl
+unless_cut (Failed code) h = inr refl
+unless_cut Cut h = absurd (h refl)
 
 past_failure : {A : Type 0} (s : Sent) (next cut : A) → (s ≡ Cut → ⊥) → on_sent s next (λ code. next) cut ≡ next
 unfolding on_sent
@@ -54,11 +67,12 @@ module _ (ds o log ctx : List ℕ) (n i : ℕ) where
     unfolding on_sent
     stops_cut e = turn ∙ rw (e, played_ends)
 
--- how many words the log has then
-pub stops_count : (ds o log left : List ℕ) (n m : ℕ) → stops_leave (Ok m) left ≡ played o n (stop_each [] ds) log → m ≤ n + length ds
+-- how many words the log has then, where the Stops were cut too
+pub stops_count : (ds o log left : List ℕ) (n : ℕ) (r : Result ℕ ℕ) →
+    stops_leave r left ≡ played o n (stop_each [] ds) log → (stops_leave r left).count ≤ n + length ds
 unfolding played
-stops_count ds o log left n m e =
-    let c : m ≡ n + length (words o n (stop_each [] ds)) = ap (λ p. p.count) e in
+stops_count ds o log left n r e =
+    let c : (stops_leave r left).count ≡ n + length (words o n (stop_each [] ds)) = ap (λ p. p.count) e in
     omega (arith, c, words_length_stop_each o [] ds n)
 
 -- The whole course, where control's Stop is not cut: what is left of it after the other stops.

@@ -1,6 +1,7 @@
 -- What the exits of the phases come to.
 use Prim.Native.Nat.{ℕ, ◌+◌}
 use mathlib.Core.Path.{◌≡◌, refl, sym, ◌∙◌}
+use mathlib.Core.Logic.{◌⊎◌, inl, inr}
 use mathlib.Core.Bool.{true, false}
 use mathlib.Core.List.{List, []}
 use lib.ListN.{set}
@@ -14,6 +15,7 @@ use Rattle.command.specs.Command.{command_word, outcome_at}
 use Rattle.command.specs.Course.{ends, on_sent, played}
 use Rattle.command.proofs.Laws.{played_ends, played_sends, played_then}
 use Rattle.transfer.specs.declared.RouteError.{RouteError}
+use Rattle.transfer.specs.declared.RouteError.TheVariants.{InvalidEndpoint, QueueFull}
 use Rattle.transfer.specs.Routes.{Queue, replaced, with_replaced}
 use Rattle.record_endpoint.specs.EndpointMap.{queue_dcis}
 use Rattle.transfer.proofs.Laws.{error_kept}
@@ -59,6 +61,12 @@ unfolding on_sent
 told o left next table n sent.Done = rw played_ends
 told o left next table n (sent.Failed code) = rw played_ends
 told o left next table n sent.Cut = rw played_ends
+
+-- Where routes are not replaced, one of two errors says why.
+pub unless_done : (t : Result Unit RouteError) → (t ≡ Ok tt → ⊥) → (t ≡ Err InvalidEndpoint) ⊎ (t ≡ Err QueueFull)
+unless_done (Ok _) h = absurd (h refl)
+unless_done (Err InvalidEndpoint) h = inl refl
+unless_done (Err QueueFull) h = inr refl
 
 -- The routes are taken out.
 module _

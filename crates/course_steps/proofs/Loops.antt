@@ -1,14 +1,18 @@
 -- The loop that sends a command for each of some endpoints: a turn, and how it ends; what stopping and resuming make of it.
 use Prim.Native.Nat.{ℕ, ◌+◌, ◌<◌, ◌≤◌}
 use mathlib.Core.Path.{◌≡◌, refl, sym, ap, ◌∙◌}
+use mathlib.Core.Logic.{inl, inr}
 use mathlib.Core.List.{List, [], ◌∷◌, ◌++◌}
 use native.Mathlib.Numerals.{add-one}
 use native.Mathlib.Omega.{arith}
+use types.Run.{OneOf}
+use denote.Enum.Declared.{tag_of}
 use lib.ListN.{length, get_or, drop, take, set, drop_of_length-le}
 use lib.Seq.{drop-cons}
 use Rattle.std.proofs.Math.Seq.{take-append_seam}
 use Rattle.std.proofs.lemmas.List.{length-append, append_assoc}
 use Rattle.command.specs.declared.Command.{Command}
+use Rattle.command.specs.contracts.Sent.{the_type}
 use Rattle.command.specs.declared.Sent.{Sent}
 use Rattle.command.specs.declared.Sent.TheVariants.{Done, Failed, Cut}
 use Rattle.command.specs.Command.{command_word, outcome_at, stop_command, resume_command}
@@ -18,6 +22,12 @@ use Rattle.command.specs.Sweep.{Sweep, swept, resume_from, undo_stops, stop_from
 use Rattle.command.proofs.Phases.{swept_on}
 use Rattle.command.proofs.Laws.{played_ends, played_sends}
 use Rattle.course_steps.specs.Each.{send_from}
+
+-- A command that is not done failed or was cut: these, by their places in the enum.
+pub unless_done : (s : Sent) → (s ≡ Done → ⊥) → OneOf (1 ∷ 2 ∷ []) (tag_of the_type s)
+unless_done Done h = absurd (h refl)
+unless_done (Failed code) h = inl refl
+unless_done Cut h = inr refl
 
 module _ (of : ℕ → Command) (ds o log ctx : List ℕ) (n i : ℕ) where
   -- the end where all are done

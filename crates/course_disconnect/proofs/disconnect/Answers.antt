@@ -3,6 +3,7 @@ use mathlib.Core.List.{[]}
 use native.Mathlib.Omega.{arith}
 use lib.ListN.{length}
 use Rattle.std.proofs.Math.ListN.{length-take}
+use Rattle.std.specs.Prelude.{Ok}
 use Rattle.command.specs.Course.{on_sent, then}
 use Rattle.command.specs.Sweep.{stop_each}
 use Rattle.command.proofs.Phases.{Begins, continued, went_on}
@@ -14,7 +15,7 @@ use Rattle.course_disconnect.proofs.disconnect.Goals as goal
 
 pub disable-requires : goal.disable-requires
 disable-requires c =
-    let few = stops_count _ _ _ _ 1 _ (rw c.in-Ok.is at (c.stop_each.ensures [])) in
+    let few = stops_count _ _ _ _ 1 (Ok _) (rw c.in-Ok.is at (c.stop_each.ensures [])) in
     omega (arith, few, ap length c.dcis.ensures, length-take c.args.q.count c.args.q.dcis, c.args.q.fits, c.requires, c.stop_each.auto.log, c.send.auto.log)
 
 pub returns-in-Cut : goal.returns-in-Cut
