@@ -14,6 +14,8 @@ use Rattle.answer.specs.Answer.{number, is_lost}
 use Rattle.answer.specs.Check.{Check, Pass, Refuse, check_of, CheckedAs}
 use Rattle.descriptor_list.specs.declared.EndpointWords.{EndpointWords}
 use Rattle.descriptor_list.specs.Lookup.{find_endpoints}
+use Rattle.descriptor_list.proofs.Companions.{joined_few}
+use Rattle.descriptor_list.proofs.Laws.{found_inside}
 use Rattle.command.specs.Course.{result, played}
 use Rattle.record_ring.specs.Rings.{entered}
 use Rattle.record_ring.specs.Store.{lowest, free_rings}
@@ -39,13 +41,13 @@ use Rattle.course_claim.specs.Claim.{Claim, claim_of, claim_course}
 use Rattle.course_claim.proofs.Laws.{ClaimEnd, claim_ends, accepted, stop_failed, configure_failed, undone, broken, unrouted, cut}
 use Rattle.device.specs.declared.record.Device.{Device}
 use Rattle.device.specs.declared.record.Called.{Called}
-use Rattle.device.specs.Device.{list_of, endpoint_map_in, held_of, quarantined_of, given_of, free_of, with_endpoints, with_held, quarantines}
+use Rattle.device.specs.Device.{words_of, list_of, endpoint_map_in, held_of, quarantined_of, given_of, free_of, with_endpoints, with_held, quarantines}
 use Rattle.device.specs.Sound.{live_rings, sound}
 use Rattle.device.specs.Left.{leaves, ended}
 use Rattle.device.specs.Check.{record_check}
 use Rattle.device.specs.Claim.{claim_check, drawn, pending_of, args_in, claim_in, claim_record, claim_run}
 use Rattle.device.proofs.Ends.{handed, else_quarantined}
-use Rattle.device.proofs.Facts.{sound_facts, none_quarantined}
+use Rattle.device.proofs.Facts.{SoundFacts, sound_facts, none_quarantined}
 use Rattle.device.proofs.Kept.{claim_entered}
 use Rattle.device.proofs.Laws.{refused_first, own_check}
 
@@ -159,6 +161,16 @@ pub pending_drawn :
     by ≡ pending_rings words (lowest (length words) (free_rings (given_of d) live d.control [])) → by ≡ pending_of d i alt (drawn d i alt)
 unfolding pending_of drawn
 pending_drawn d i alt words live by n e p = p ∙ rw (e, ← n)
+
+-- as many words as the record counts, and a setting found among them
+pub list_length : (d : Device) → SoundFacts d → length d.list ≡ 256 → length (words_of d) ≡ d.list_len
+unfolding words_of
+list_length d f room = length-take-le d.list_len d.list (omega (arith, room, f.counts.list))
+
+pub setting_inside : (d : Device) → SoundFacts d → length d.list ≡ 256 → (i alt : ℕ) (f : EndpointWords) →
+    find_endpoints (list_of d) i alt ≡ Some f → f.start + f.count ≤ d.list_len
+unfolding list_of
+setting_inside d g room i alt f e = omega (arith, found_inside _ _ _ _ e, joined_few (words_of d), list_length d g room)
 
 -- The free rings of a usable record are as many as were given less its endpoints' and control's.
 pub free_many :
