@@ -7,7 +7,8 @@ mod show;
 mod sizes;
 
 pub use frame::replay;
-pub use read::{byte, list, next, read_record, word};
+pub use read::{byte, bytes, count, elements, list, list_of, next, read_record, word, words};
+pub use show::left;
 pub use sizes::{
     CONTEXT_ROOM, HUBS_ROOM, LIST_ROOM, LOG_ROOM, OUTCOMES_ROOM, RINGS_ROOM, ROUTES_ROOM,
 };

@@ -1,5 +1,5 @@
 // Numbers from standard input, each 16 hexadecimal digits and a line's end.
-ghost use Rattle.std.specs.Prelude.{◌≤◌, IfOk, length};
+ghost use Rattle.std.specs.Prelude.{◌<◌, ◌≤◌, IfOk, length};
 
 use std::io;
 use std::io::Read;
@@ -18,7 +18,9 @@ fn fill(rt: &impl Input, buf: &mut [u8]) -> io::Result<()> {
 }
 
 // The low four bits of a byte before `a`; from there on the six digits `a` to `f` over and over.
-fn digit(b: u8) -> u64 {
+fn digit(b: u8) -> u64
+    ensures { result < 16 }
+{
     u64::from(if b < b'a' {
         b % 16
     } else {
@@ -71,8 +73,22 @@ pub fn elements<T: Copy, F: Fn(u64) -> T>(
     Ok(())
 }
 
-// A list: the elements that are not 0, and then its length, at most so much.
-pub fn list<R: Input + Alloc, T: Copy, F: Fn(u64) -> T>(
+// Words of 64 bits.
+pub fn words(rt: &impl Input, buf: &mut [u64]) -> io::Result<()> {
+    elements(rt, buf, |w| w)
+}
+
+// Words of 32 bits.
+pub fn list(rt: &impl Input, buf: &mut [u32]) -> io::Result<()> {
+    elements(rt, buf, |w| (w % 4294967296) as u32)
+}
+
+pub fn bytes(rt: &impl Input, buf: &mut [u8]) -> io::Result<()> {
+    elements(rt, buf, |w| (w % 256) as u8)
+}
+
+// A list in memory of its own: the elements that are not 0, and then its length, at most so much.
+pub fn list_of<R: Input + Alloc, T: Copy, F: Fn(u64) -> T>(
     rt: &R,
     most: usize,
     element: F,
@@ -88,5 +104,5 @@ pub fn list<R: Input + Alloc, T: Copy, F: Fn(u64) -> T>(
 
 // The record of a call.
 pub fn read_record(rt: &impl Input, image: &mut [u64]) -> io::Result<()> {
-    elements(rt, image, |w| w)
+    words(rt, image)
 }
