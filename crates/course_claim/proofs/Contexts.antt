@@ -1,4 +1,5 @@
 -- The contexts that the controller reads along a claim.
+use Rattle.std.specs.Prelude.{unwrap_or}
 use Prim.Native.Nat.{ℕ, ◌+◌, ◌^◌, ◌<◌}
 use mathlib.Core.Path.{◌≡◌, refl}
 use mathlib.Core.List.{List}
@@ -19,13 +20,13 @@ use Rattle.record_endpoint.specs.EndpointMap.{queue_dcis}
 use Rattle.transfer.specs.Routes.{ring_for}
 use Rattle.course_steps.specs.End.{settings_kept, settings_doubted}
 use Rattle.course_steps.proofs.Laws.{length_dcis}
-use Rattle.course_claim.specs.Claim.{Claim, undo_alternate, claim_context, undo_context, claim_undo, claim_switch, claim_configure, claim_course}
+use Rattle.course_claim.specs.Claim.{Claim, claim_context, undo_context, claim_undo, claim_switch, claim_configure, claim_course}
 
 -- What it works on fits the fields of a context.
 pub record ClaimFits (a : Claim) : Type 0 where
   pub interface : a.args.interface < 2 ^ 8
   pub alternate : a.args.alternate < 2 ^ 8
-  pub old_alternate : undo_alternate a < 2 ^ 8
+  pub old_alternate : unwrap_or a.args.held_alternate 0 < 2 ^ 8
   pub old_words : Endpoints a.old_words
   pub new_words : Endpoints a.new_words
   pub old : (d : ℕ) → ring_for d a.old 0 < 2 ^ 64
@@ -44,11 +45,11 @@ module _ (a : Claim) (f : ClaimFits a) (ctx : List ℕ) (sp : Spaced a.args.spac
 
   -- the one that undoes it
   pub claim_undo_reads :
-      ConfigureReads a.args.spacing a.args.speed a.args.interface (undo_alternate a) a.new_words a.old_words a.old a.dcis
+      ConfigureReads a.args.spacing a.args.speed a.args.interface (unwrap_or a.args.held_alternate 0) a.new_words a.old_words a.old a.dcis
       ctx (undo_context a ctx)
   unfolding undo_context
   claim_undo_reads =
-      configure_promise a.args.spacing a.args.speed a.args.interface (undo_alternate a) a.new_words a.old_words a.old
+      configure_promise a.args.spacing a.args.speed a.args.interface (unwrap_or a.args.held_alternate 0) a.new_words a.old_words a.old
       a.dcis ctx sp f.interface f.old_alternate f.new_words f.old_words f.old f.dcis
 
 pub claim_context_length : (a : Claim) (ctx : List ℕ) → length (claim_context a ctx) ≡ length ctx

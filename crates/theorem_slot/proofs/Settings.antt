@@ -10,7 +10,7 @@ use borrow.Author.Tests.{eqb-false}
 use lib.Dec.{eqb}
 use lib.ListN.{get_or}
 use Rattle.laws.proofs.Tests.{not_both}
-use Rattle.laws.proofs.Cases.{Decided, decided, false_if, or_cases}
+use Rattle.laws.proofs.Cases.{Decided, decided, false_if, or_none, or_cases}
 use Rattle.transfer.specs.Routes.{ring_for, names}
 use Rattle.record_endpoint.specs.Order.{dci_at}
 use Rattle.record_endpoint.specs.EndpointMap.{is_owned, owns}
@@ -183,3 +183,11 @@ alternate_byte c i (s ∷ ss) f = go (eqb s.interface i) f.0.byte (alternate_byt
     go : (t : Bool) → s.alternate < 256 → alternate_of i (pairs ss) < 256 → cond t s.alternate (alternate_of i (pairs ss)) < 256
     go true a b = a
     go false a b = b
+
+-- An interface without a setting loses none.
+pub without_none : (i : ℕ) (ss : List HeldSetting) → has_setting i ss ≡ false → without i ss ≡ ss
+unfolding without has_setting
+without_none i [] e = refl
+without_none i (s ∷ ss) e =
+    let n : (eqb s.interface i ≡ false) × (has_setting i ss ≡ false) = or_none (eqb s.interface i) (has_setting i ss) e in
+    rw (n.0, without_none i ss n.1)
