@@ -28,14 +28,22 @@ fn main(rt: HostRuntime) -> io::Result<()> {
     for _ in 0..replay_sample::next(&rt)? {
         let mut image = [0u64; xhci_device::WORDS];
         replay_sample::read_record(&rt, &mut image)?;
-        let mut ctx = replay_sample::list_of(&rt, replay_sample::CONTEXT_ROOM, |w| (w % 256) as u8)?;
+        let mut ctx = replay_sample::list_of(
+            &rt,
+            replay_sample::CONTEXT_ROOM,
+            |w| (w % 256) as u8,
+        )?;
         let mut routes = replay_sample::list_of(&rt, replay_sample::ROUTES_ROOM, |w| w)?;
         let mut log = replay_sample::list_of(
             &rt,
             replay_sample::LOG_ROOM,
             |w| (w % 4294967296) as u32,
         )?;
-        let outcomes = replay_sample::list_of(&rt, replay_sample::OUTCOMES_ROOM, |w| (w % 256) as u8)?;
+        let outcomes = replay_sample::list_of(
+            &rt,
+            replay_sample::OUTCOMES_ROOM,
+            |w| (w % 256) as u8,
+        )?;
         run(&rt, &mut image, &mut ctx, &mut routes, &mut log, &outcomes)?;
     }
     Ok(())
